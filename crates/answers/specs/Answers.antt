@@ -1,0 +1,64 @@
+-- Document 01, "Numbers and their bounds": the number of each refusal; and of each answer its number, 0 for a value, and its values.
+use Prim.Native.Nat.{ℕ}
+use mathlib.Core.Bool.{Bool, cond}
+use mathlib.Core.List.{List, [], _∷_}
+use lib.IntN.{ℤ, pos}
+use Rattle.answers.specs.declared.Refusal.{Refusal}
+use Rattle.answers.specs.declared.Refusal.the-variants.{ShortRecord, AreaOverrun, TooManyOps, Overflow, NotACigar, NoRoom, BadCode, TooLong, BadStart, BadLength}
+use Rattle.answers.specs.declared.Int.{Int}
+use Rattle.answers.specs.declared.Int.the-variants as Int
+use Rattle.answers.specs.declared.Nat.{Nat}
+use Rattle.answers.specs.declared.Nat.the-variants as Nat
+use Rattle.answers.specs.declared.Count.{Count}
+use Rattle.answers.specs.declared.Count.the-variants as Count
+use Rattle.answers.specs.declared.Flag.{Flag}
+use Rattle.answers.specs.declared.Flag.the-variants as Flag
+
+abbrev pub numberOf : Refusal → ℕ
+numberOf ShortRecord = 1
+numberOf AreaOverrun = 2
+numberOf TooManyOps = 3
+numberOf Overflow = 4
+numberOf NotACigar = 5
+numberOf NoRoom = 6
+numberOf BadCode = 7
+numberOf TooLong = 8
+numberOf BadStart = 9
+numberOf BadLength = 10
+
+-- what a caller is told: a refusal carries its number and no value
+pub record Told : Type 0 where
+  pub number : ℕ
+  pub values : List ℤ
+
+abbrev pub answered : List ℤ → Told
+answered vs = record { number = 0; values = vs }
+
+abbrev pub refused : Refusal → Told
+refused r = record { number = numberOf r; values = [] }
+
+abbrev pub flagValue : Bool → ℤ
+flagValue b = cond b (pos 1) (pos 0)
+
+-- "none" is the answer 0, 0; a value that may be none is 1 and the value
+abbrev pub none : List ℤ
+none = pos 0 ∷ pos 0 ∷ []
+
+abbrev pub some : ℤ → List ℤ
+some z = pos 1 ∷ z ∷ []
+
+abbrev pub tellInt : Int → Told
+tellInt (Int.Number z) = answered (z ∷ [])
+tellInt (Int.Refused r) = refused r
+
+abbrev pub tellNat : Nat → Told
+tellNat (Nat.Number n) = answered (pos n ∷ [])
+tellNat (Nat.Refused r) = refused r
+
+abbrev pub tellCount : Count → Told
+tellCount (Count.Number n) = answered (pos n ∷ [])
+tellCount (Count.Refused r) = refused r
+
+abbrev pub tellFlag : Flag → Told
+tellFlag (Flag.Is b) = answered (flagValue b ∷ [])
+tellFlag (Flag.Refused r) = refused r

@@ -1,0 +1,78 @@
+// What calls answer: a value, "none", or the refusal. Document 01, "Numbers and their bounds".
+ghost use mathlib.Core.Path.{_≡_};
+ghost use Rattle.answers.specs.Answers.{numberOf};
+
+// Why a call answers no value: one variant for each of the ten numbers, in their order.
+pub enum Refusal {
+    ShortRecord,
+    AreaOverrun,
+    TooManyOps,
+    Overflow,
+    NotACigar,
+    NoRoom,
+    BadCode,
+    TooLong,
+    BadStart,
+    BadLength,
+}
+
+// A signed number.
+pub enum Int {
+    Number(i32),
+    Refused(Refusal),
+}
+
+// A field of a record, or a bin.
+pub enum Nat {
+    Number(u32),
+    Refused(Refusal),
+}
+
+// A count, or a sum.
+pub enum Count {
+    Number(u64),
+    Refused(Refusal),
+}
+
+// Yes or no.
+pub enum Flag {
+    Is(bool),
+    Refused(Refusal),
+}
+
+// A position in a record, counted from 0.
+pub struct Pos0(pub i32);
+
+// A position as answers have it, counted from 1.
+pub struct Pos1(pub i32);
+
+// What stands over a reference base: a query base; none, as the read lacks it; or there is no such reference base.
+pub enum Over {
+    Base,
+    Gap,
+    Off,
+}
+
+// That, and the query bases in the columns before it (in all columns, if there is no such reference base).
+pub struct Spot {
+    pub before: u64,
+    pub over: Over,
+}
+
+// Document 01's number of a refusal.
+pub fn number(why: Refusal) -> u32
+    ensures { λ r. ⌜ r ≡ numberOf why ⌝ }
+{
+    match why {
+        Refusal::ShortRecord => 1,
+        Refusal::AreaOverrun => 2,
+        Refusal::TooManyOps => 3,
+        Refusal::Overflow => 4,
+        Refusal::NotACigar => 5,
+        Refusal::NoRoom => 6,
+        Refusal::BadCode => 7,
+        Refusal::TooLong => 8,
+        Refusal::BadStart => 9,
+        Refusal::BadLength => 10,
+    }
+}

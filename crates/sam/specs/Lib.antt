@@ -1,0 +1,6 @@
+pub mod Op
+pub mod Record
+pub mod Columns
+pub mod Placement
+pub mod Text
+pub mod Bins

@@ -1,0 +1,1 @@
+// The SAM specification: definitions and their laws. No function stands here.

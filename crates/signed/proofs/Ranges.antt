@@ -1,0 +1,59 @@
+-- Which case of `sideOf`, `checked` and `clamp32` a number is in, from facts of its halves; and that sums of two i32 fit an i64.
+use Prim.Native.Nat.{ℕ, suc, _+_, _≤_, _<_}
+use mathlib.Core.Path.{_≡_, refl, sym, ap, _∙_}
+use native.Mathlib.Omega.{arith}
+use lib.IntN.{ℤ, pos, negsuc, _+ℤ_, _-ℤ_}
+use mir.Syntax.{w32, w64}
+use mir.Val.{SFits}
+use Rattle.signed.specs.declared.Side.the-variants.{Below, Within, Above}
+use Rattle.signed.specs.declared.Sum.the-variants.{Number, Over}
+use Rattle.signed.specs.Whole.{sideOf, sumAt, nearest, checked, clamp32}
+use Rattle.signed.proofs.Halves.{up, dn, plus, minus, ltℤ, geℤ, sfits64, top32, low32}
+
+module _ (z : ℤ) where
+  pub side-in : up z < dn z + 2147483648 → dn z ≤ up z + 2147483648 → sideOf z ≡ Within z
+  unfolding sideOf
+  side-in h k = simp (geℤ z (negsuc 2147483647) (omega arith), geℤ (pos 2147483647) z (omega arith))
+
+  pub side-above : dn z + 2147483648 ≤ up z → sideOf z ≡ Above
+  unfolding sideOf
+  side-above h = simp (geℤ z (negsuc 2147483647) (omega arith), ltℤ (pos 2147483647) z (omega arith))
+
+  pub side-below : up z + 2147483648 < dn z → sideOf z ≡ Below
+  unfolding sideOf
+  side-below h = simp (ltℤ z (negsuc 2147483647) (omega arith))
+
+  pub checked-in : up z < dn z + 2147483648 → dn z ≤ up z + 2147483648 → checked z ≡ Number z
+  unfolding checked
+  checked-in h k = ap sumAt (side-in h k)
+
+  pub checked-above : dn z + 2147483648 ≤ up z → checked z ≡ Over
+  unfolding checked
+  checked-above h = ap sumAt (side-above h)
+
+  pub checked-below : up z + 2147483648 < dn z → checked z ≡ Over
+  unfolding checked
+  checked-below h = ap sumAt (side-below h)
+
+  pub clamp-in : up z < dn z + 2147483648 → dn z ≤ up z + 2147483648 → clamp32 z ≡ z
+  unfolding clamp32
+  clamp-in h k = ap nearest (side-in h k)
+
+  pub clamp-above : dn z + 2147483648 ≤ up z → clamp32 z ≡ pos 2147483647
+  unfolding clamp32
+  clamp-above h = ap nearest (side-above h)
+
+  pub clamp-below : up z + 2147483648 < dn z → clamp32 z ≡ negsuc 2147483647
+  unfolding clamp32
+  clamp-below h = ap nearest (side-below h)
+
+module _ (a b : ℤ) (f : SFits w32 a) (g : SFits w32 b) where
+  pub wide-add : SFits w64 (a +ℤ b)
+  wide-add =
+      let p = plus a b in
+      sfits64 (a +ℤ b) (omega (arith, top32 a f, top32 b g)) (omega (arith, low32 a f, low32 b g))
+
+  pub wide-sub : SFits w64 (a -ℤ b)
+  wide-sub =
+      let p = minus a b in
+      sfits64 (a -ℤ b) (omega (arith, top32 a f, low32 b g)) (omega (arith, low32 a f, top32 b g))
