@@ -9,9 +9,13 @@ use answers::Refusal;
 
 // The bits of the flag.
 pub const PAIRED: u32 = 1;
+
 pub const UNMAPPED: u32 = 4;
+
 pub const MATE_UNMAPPED: u32 = 8;
+
 pub const REVERSE: u32 = 16;
+
 pub const MATE_REVERSE: u32 = 32;
 
 // Where the op area of a record lies: its place and its length in bytes, both 0 where it overruns.

@@ -119,3 +119,7 @@ fill-turn d s j x e h k =
     ap (set (splice d 0 (take j s)) j) e
     ∙ ap (λ (n : ℕ). set (splice d 0 (take j s)) n (getD s n 0)) z
     ∙ splice-turn d 0 s 0 j (omega arith) (omega arith)
+
+-- a copy of a whole list
+pub whole-copy : (d : List ℕ) (n : ℕ) (xs ys : List ℕ) → xs ≡ ys → n ≡ length ys → splice d 0 (take n (drop 0 xs)) ≡ splice d 0 ys
+whole-copy d n xs ys e h = ap (λ (l : List ℕ). splice d 0 (take n l)) e ∙ ap (splice d 0) (take-all n ys (omega arith))

@@ -96,15 +96,7 @@ pub fn op_from(words: &[u32], rec: &[u8], ops: Ops, start: bool, i: usize) -> u3
 }
 
 // Copies n ops, from op `from` on, to the places of out from `at` on.
-pub fn copy(
-    words: &[u32],
-    rec: &[u8],
-    ops: Ops,
-    from: usize,
-    n: usize,
-    out: &mut [u32],
-    at: usize,
-)
+pub fn copy(words: &[u32], rec: &[u8], ops: Ops, from: usize, n: usize, out: &mut [u32], at: usize)
     requires { ⌜ from + n ≤ length (opsOf (now words) (now rec) ops) ⌝ }
     requires { ⌜ at + n ≤ length (now out) ⌝ }
     ensures { λ _. ⌜ now (out .exit) ≡ splice (now (out .entry)) at (take n (drop from (opsOf (now (words .entry)) (now (rec .entry)) ops))) ⌝ }

@@ -1,0 +1,47 @@
+-- The masks of the code are the tables of the definitions: antt computes both for the 16 codes.
+use Prim.Native.Nat.{ℕ, _/_, _%_, _^_, _<_, _≤_}
+use mathlib.Core.Path.{_≡_, refl}
+use mathlib.Core.Bool.{false}
+use native.Mathlib.Omega.{arith}
+use lib.Dec.{eqb}
+use lib.ListN.{List·getD-eq-default}
+use Rattle.lists.proofs.Tables.{below-same}
+use Rattle.sam.specs.Op.{isRef, isQuery}
+use Rattle.sam.specs.Op.{letters}
+use Rattle.ops.specs.declared.CigarKind.the-variants.{Pad}
+use Rattle.ops.specs.Ops.{reads, isRead, isClip, kinds, kindOf, letterOf}
+
+pub ref-bit : (o : ℕ) → eqb (397 / 2 ^ (o % 16) % 2) 1 ≡ isRef (o % 16)
+unfolding isRef
+ref-bit o = below-same (λ d. eqb (397 / 2 ^ d % 2) 1) isRef 16 (o % 16) refl (omega arith)
+
+pub query-bit : (o : ℕ) → eqb (403 / 2 ^ (o % 16) % 2) 1 ≡ isQuery (o % 16)
+unfolding isQuery
+query-bit o = below-same (λ d. eqb (403 / 2 ^ d % 2) 1) isQuery 16 (o % 16) refl (omega arith)
+
+pub clip-bit : (o : ℕ) → eqb (48 / 2 ^ (o % 16) % 2) 1 ≡ isClip (o % 16)
+unfolding isClip
+clip-bit o = below-same (λ d. eqb (48 / 2 ^ d % 2) 1) isClip 16 (o % 16) refl (omega arith)
+
+pub read-bit : (c : ℕ) → c < 9 → eqb (387 / 2 ^ c % 2) 1 ≡ isRead c
+unfolding isRead
+read-bit c h = below-same (λ d. eqb (387 / 2 ^ d % 2) 1) isRead 9 c refl h
+
+pub read-none : (c : ℕ) → 9 ≤ c → isRead c ≡ false
+unfolding isRead
+read-none c h = List·getD-eq-default reads false {n = c} h
+
+pub no-kind : (c : ℕ) → 9 ≤ c → kindOf c ≡ Pad
+unfolding kindOf
+no-kind c h = List·getD-eq-default kinds Pad {n = c} h
+
+pub no-letter : (c : ℕ) → 9 ≤ c → letterOf c ≡ 0
+unfolding letterOf
+no-letter c h = List·getD-eq-default letters 0 {n = c} h
+
+-- a number that is none of 0 to 8, in two parts: `omega` takes at most six `≢` at once
+pub past5 : (k : ℕ) → (k ≡ 0 → ⊥) → (k ≡ 1 → ⊥) → (k ≡ 2 → ⊥) → (k ≡ 3 → ⊥) → (k ≡ 4 → ⊥) → 5 ≤ k
+past5 k a b c d e = omega arith
+
+pub past9 : (k : ℕ) → 5 ≤ k → (k ≡ 5 → ⊥) → (k ≡ 6 → ⊥) → (k ≡ 7 → ⊥) → (k ≡ 8 → ⊥) → 9 ≤ k
+past9 k h a b c d = omega arith
