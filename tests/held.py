@@ -1,0 +1,62 @@
+"""What the tests share: the driver as a command, requests put to it, and the closing line."""
+import os
+import subprocess
+import sys
+
+HERE = os.path.dirname(os.path.abspath(__file__))
+JUDGE = os.path.join(os.path.dirname(HERE), 'target', 'judge', 'judge')
+DRIVER = os.environ.get('DRIVER', os.path.join(HERE, 'driver'))
+
+
+def here(name):
+    return os.path.join(HERE, name)
+
+
+def original_at_hand():
+    """Builds the judge; false where the original's sources are not there."""
+    status = subprocess.run([here('build-judge')]).returncode
+    if status not in (0, 3):
+        sys.exit(f'tests/build-judge ended with status {status}')
+    return status == 0
+
+
+def ask(command, requests):
+    """The answers of a command that speaks the protocol, one for each request."""
+    sent = b''.join(request + b'\n' for request in requests)
+    ran = subprocess.run(command, input=sent, stdout=subprocess.PIPE)
+    answers = ran.stdout.split(b'\n')[:-1]
+    if ran.returncode or len(answers) != len(requests):
+        sys.exit(f'{command[0]} ended with status {ran.returncode} after {len(answers)} answers to {len(requests)} requests')
+    return answers
+
+
+def short(line):
+    text = line.decode('utf-8', 'replace')
+    return text if len(text) <= 400 else f'{text[:400]}.. ({len(text)} characters)'
+
+
+def show(request, expected, got, words=('due', 'driver')):
+    print(f'  request: {short(request)}\n  {words[0]}: {short(expected)}\n  {words[1]}: {short(got)}')
+
+
+def pairs_of(name):
+    """The request and the answer of each line that is not a comment, split at the tab."""
+    with open(here(name), 'rb') as file:
+        lines = [line.rstrip(b'\n') for line in file if not line.startswith(b'#')]
+    return [tuple(line.split(b'\t')) for line in lines]
+
+
+def missing_calls():
+    """The calls that the library lacks, and those of them that tests/calls-not-yet lists."""
+    have = set(subprocess.run([DRIVER, '--calls'], stdout=subprocess.PIPE, check=True).stdout.split())
+    named = {request.split(b' ')[0] for request, _ in pairs_of('recorded')}
+    listed = set()
+    if os.path.exists(here('calls-not-yet')):
+        with open(here('calls-not-yet'), 'rb') as file:
+            listed = set(file.read().split())
+    return named - have, (named - have) & listed
+
+
+def close(passed, failed):
+    print(f'{passed} passed, {failed} failed')
+    sys.exit(1 if failed else 0)
