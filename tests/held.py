@@ -1,4 +1,5 @@
 """What the tests share: the driver as a command, requests put to it, and the closing line."""
+import itertools
 import os
 import subprocess
 import sys
@@ -28,6 +29,17 @@ def ask(command, requests):
     if ran.returncode or len(answers) != len(requests):
         sys.exit(f'{command[0]} ended with status {ran.returncode} after {len(answers)} answers to {len(requests)} requests')
     return answers
+
+
+def unfinished(request):
+    """What the driver answers to a last line with no newline."""
+    return subprocess.run([DRIVER], input=request, stdout=subprocess.PIPE).stdout
+
+
+def listed(values):
+    """A list as answers have it, runs of equal values as V*N."""
+    runs = [(value, len(list(run))) for value, run in itertools.groupby(values)]
+    return ','.join(str(value) if times == 1 else f'{value}*{times}' for value, times in runs) or '-'
 
 
 def short(line):
