@@ -1,4 +1,5 @@
 """What the tests share: the driver as a command, requests put to it, and the closing line."""
+import collections
 import itertools
 import os
 import subprocess
@@ -67,6 +68,27 @@ def missing_calls():
         with open(here('calls-not-yet'), 'rb') as file:
             listed = set(file.read().split())
     return named - have, (named - have) & listed
+
+
+def compare(words, command, missing, notice):
+    """Puts the generated requests to the oracle and to a command that speaks the protocol, and compares every line whole: the cases of each call and how
+    many of them differ. `notice` is told of each difference: the request, and the two answers."""
+    cases, differ = collections.Counter(), collections.Counter()
+    oracle = subprocess.Popen([JUDGE, 'pairs', *words], stdout=subprocess.PIPE, bufsize=1 << 20)
+    requests = subprocess.Popen([JUDGE, 'generate', *words], stdout=subprocess.PIPE)
+    other = subprocess.Popen(command, stdin=requests.stdout, stdout=subprocess.PIPE, bufsize=1 << 20)
+    requests.stdout.close()
+    for pair, got in itertools.zip_longest(oracle.stdout, other.stdout, fillvalue=b'nothing: it ended\n'):
+        request, _, due = pair.partition(b'\t')
+        call = request.split(b' ', 1)[0]
+        cases[call] += 1
+        if due != got and (call not in missing or due.startswith(b'MISMATCH')):
+            differ[call] += 1
+            notice(request, due.rstrip(b'\n'), got.rstrip(b'\n'))
+    for process in (oracle, requests, other):
+        if process.wait():
+            differ[b'a process that failed'] += 1
+    return cases, differ
 
 
 def close(passed, failed):
