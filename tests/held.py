@@ -79,12 +79,14 @@ def compare(words, command, missing, notice):
     other = subprocess.Popen(command, stdin=requests.stdout, stdout=subprocess.PIPE, bufsize=1 << 20)
     requests.stdout.close()
     for pair, got in itertools.zip_longest(oracle.stdout, other.stdout, fillvalue=b'nothing: it ended\n'):
-        request, _, due = pair.partition(b'\t')
-        call = request.split(b' ', 1)[0]
+        call = pair[:pair.find(b' ')]
         cases[call] += 1
-        if due != got and (call not in missing or due.startswith(b'MISMATCH')):
+        if pair.endswith(b'\t' + got):
+            continue
+        request, _, due = pair.rstrip(b'\n').partition(b'\t')
+        if call not in missing or due.startswith(b'MISMATCH'):
             differ[call] += 1
-            notice(request, due.rstrip(b'\n'), got.rstrip(b'\n'))
+            notice(request, due, got.rstrip(b'\n'))
     for process in (oracle, requests, other):
         if process.wait():
             differ[b'a process that failed'] += 1

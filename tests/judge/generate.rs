@@ -287,7 +287,7 @@ impl Record {
         bytes.extend_from_slice(&(rng.next() as u16).to_le_bytes());
         bytes.extend_from_slice(&(self.ops.len() as u16).to_le_bytes());
         bytes.extend_from_slice(&self.flags.to_le_bytes());
-        bytes.extend_from_slice(&rng.pick(&[0, 5, 30, rng_u32(self.pos)]).to_le_bytes());
+        bytes.extend_from_slice(&rng.pick(&[0, 5, 30, u32::MAX]).to_le_bytes());
         bytes.extend_from_slice(&self.mate_ref_id.to_le_bytes());
         bytes.extend_from_slice(&self.mate_pos.to_le_bytes());
         bytes.extend_from_slice(&self.template_length.to_le_bytes());
@@ -296,10 +296,6 @@ impl Record {
         bytes.extend((0..self.tail).map(|_| rng.next() as u8));
         bytes
     }
-}
-
-fn rng_u32(n: i32) -> u32 {
-    n.cast_unsigned()
 }
 
 /// A position: a small one, one of document 01's boundaries, or one at which the list's own sums come to an end of 32 bits.
@@ -658,9 +654,13 @@ impl Out<'_> {
 
     /// A forward record at 100, its reverse mate at 104, on one reference.
     fn fr_record(&mut self) -> Vec<u8> {
+        self.fr_record_at(99, 103)
+    }
+
+    fn fr_record_at(&mut self, pos: i32, mate_pos: i32) -> Vec<u8> {
         let mut record = Record::new(&mut self.rng, vec![op(4, 2), op(0, 9), op(4, 3)]);
         (record.flags, record.ref_id, record.mate_ref_id) = (99, 0, 0);
-        (record.pos, record.mate_pos, record.template_length) = (99, 103, 20);
+        (record.pos, record.mate_pos, record.template_length) = (pos, mate_pos, 20);
         record.bytes(&mut self.rng)
     }
 
@@ -834,15 +834,17 @@ impl Out<'_> {
             self.say("num_bases_extending_past_mate_cigar_raw", &[Bytes(&record[..32 - start.min(1) as usize]), List(list)])?;
             self.say("num_bases_extending_past_mate_cigar_raw", &[Bytes(&record), List(list)])?;
         }
-        Ok(())
+        let last = self.fr_record_at(99, i32::MAX);
+        self.say("num_bases_extending_past_mate_cigar_raw", &[Bytes(&last), List(list)])
     }
 
     fn giant_text(&mut self, list: &[u32]) -> Done {
         let text = text_of(list);
-        let record = self.fr_record();
+        let (record, last) = (self.fr_record(), self.fr_record_at(99, i32::MAX));
         for room in [list.len(), list.len() - 1, 65_536] {
             self.say("parse_cigar_string_ops", &[Bytes(&text), Room(room)])?;
             self.say("num_bases_extending_past_mate_text_raw", &[Bytes(&record), Bytes(&text), Room(room)])?;
+            self.say("num_bases_extending_past_mate_text_raw", &[Bytes(&last), Bytes(&text), Room(room)])?;
         }
         self.say("parse_cigar_string_ops", &[Bytes(&text[..text.len() - 1]), Room(1)])?;
         self.say("num_bases_extending_past_mate_text_raw", &[Bytes(&record[..31]), Bytes(&text), Room(1)])?;
