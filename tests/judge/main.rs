@@ -1,6 +1,6 @@
 //! The judge: `judge oracle` answers request lines by the original, `judge generate SEED [SIZE]` writes request lines, `judge pairs SEED [SIZE]`
-//! writes both with a tab between, `judge table SEED [SIZE]` counts the answers of each kind, `judge record SEED` keeps some of each kind,
-//! `judge calls` names the calls.
+//! writes both with a tab between, `judge differ` reads such lines and tells how many answers are not its own, `judge table SEED [SIZE]` counts the
+//! answers of each kind, `judge record SEED` keeps some of each kind, `judge calls` names the calls.
 
 mod generate;
 mod oracle;
@@ -8,7 +8,7 @@ mod protocol;
 mod rules;
 
 use std::collections::BTreeMap;
-use std::io::{self, Read, Write};
+use std::io::{self, BufRead, Read, Write};
 
 const BLOCK: usize = 1 << 16;
 
@@ -159,6 +159,29 @@ fn write_record(seed: u64) -> io::Result<()> {
     flush(&mut out)
 }
 
+/// Answers the requests of lines that have an answer behind a tab. Prints how many differ, of how many calls, and the shortest request of them.
+fn write_differences() -> io::Result<()> {
+    let mut calls: BTreeMap<Vec<u8>, u64> = BTreeMap::new();
+    let mut shortest: Option<Vec<u8>> = None;
+    let mut answer = Vec::new();
+    for line in io::stdin().lock().split(b'\n') {
+        let line = line?;
+        let (request, given) = line.split_at(line.iter().position(|&b| b == b'\t').ok_or(io::Error::other("a line has no tab"))?);
+        answer.clear();
+        put_answer(request, &mut answer);
+        if answer == given[1..] {
+            continue;
+        }
+        *calls.entry(protocol::split(request).0.to_vec()).or_default() += 1;
+        if shortest.as_ref().is_none_or(|s| request.len() < s.len()) {
+            shortest = Some(request.to_vec());
+        }
+    }
+    let shortest = String::from_utf8_lossy(&shortest.unwrap_or_default()).into_owned();
+    println!("{}\t{}\t{shortest}", calls.values().sum::<u64>(), calls.len());
+    Ok(())
+}
+
 fn run(words: &[String]) -> io::Result<()> {
     let number = |at: usize, default: u64| words.get(at).map_or(Ok(default), |w| w.parse().map_err(io::Error::other));
     let (seed, size) = (number(1, 1)?, number(2, 1)?);
@@ -166,13 +189,14 @@ fn run(words: &[String]) -> io::Result<()> {
         Some("oracle") => answer_lines(),
         Some("generate") => write_generated(seed, size, false),
         Some("pairs") => write_generated(seed, size, true),
+        Some("differ") => write_differences(),
         Some("table") => write_table(seed, size),
         Some("record") => write_record(seed),
         Some("calls") => {
             oracle::CALLS.iter().for_each(|(name, _)| println!("{name}"));
             Ok(())
         }
-        _ => Err(io::Error::other("judge oracle | generate | pairs | table | record | calls, then SEED and SIZE")),
+        _ => Err(io::Error::other("judge oracle | generate | pairs | differ | table | record | calls, then SEED and SIZE")),
     }
 }
 
