@@ -108,28 +108,30 @@ const REFERENCE_CODES: [u32; 5] = [0, 2, 3, 7, 8];
 const INNER_CODES: [u32; 10] = [0, 0, 0, 1, 1, 2, 2, 3, 7, 8];
 const CLIP_CODES: [u32; 2] = [4, 5];
 
+/// One clip op, or none.
+fn push_clip(rng: &mut Rng, list: &mut Vec<u32>, code: u32, longest: u64) {
+    if rng.one_in(3) {
+        list.push(op(code, 1 + rng.below(longest)));
+    }
+}
+
 /// Hard clips, soft clips, inner ops, soft clips, hard clips; clip runs may be absent.
 fn placed_list(rng: &mut Rng, longest: u64) -> Vec<u32> {
     let mut list = Vec::new();
-    let mut run = |rng: &mut Rng, code: u32| {
-        if rng.one_in(3) {
-            list.push(op(code, 1 + rng.below(longest)));
-        }
-    };
-    run(rng, 5);
-    run(rng, 4);
+    push_clip(rng, &mut list, 5, longest);
+    push_clip(rng, &mut list, 4, longest);
     for _ in 0..=rng.below(5) {
         let code = if rng.one_in(12) { 6 } else { rng.pick(&INNER_CODES) };
         list.push(op(code, 1 + rng.below(longest)));
     }
-    let mut run = |rng: &mut Rng, code: u32| {
-        if rng.one_in(3) {
-            list.push(op(code, 1 + rng.below(longest)));
-        }
-    };
-    run(rng, 4);
-    run(rng, 5);
+    push_clip(rng, &mut list, 4, longest);
+    push_clip(rng, &mut list, 5, longest);
     list
+}
+
+/// The places that the clipped list takes; those of the list itself where clipping refuses it.
+fn clipped_places(list: &[u32], amount: u64, start: bool) -> usize {
+    if rules::too_long(list).is_some() { list.len() } else { cigar::clip_cigar_ops_raw(list, amount as usize, start).0.len() }
 }
 
 fn any_list(rng: &mut Rng, most: u64, codes: &[u32], longest: u64) -> Vec<u32> {
@@ -453,7 +455,7 @@ impl Out<'_> {
         let record = Record::new(&mut self.rng, list.to_vec()).bytes(&mut self.rng);
         for amount in 0..=sum + 2 {
             for start in [false, true] {
-                let places = cigar::clip_cigar_ops_raw(list, amount as usize, start).0.len();
+                let places = clipped_places(list, amount, start);
                 for room in [places, places.saturating_sub(1), places + 2] {
                     self.say("clip_cigar_ops_raw", &[List(list), Number(amount), Flag(start), Room(room)])?;
                 }
@@ -491,9 +493,7 @@ impl Out<'_> {
 
     fn random_clip(&mut self, list: &[u32]) -> Done {
         let (amount, start) = (self.amount(list), self.rng.one_in(2));
-        let long = rules::too_long(list).is_some();
-        let places = if long { list.len() } else { cigar::clip_cigar_ops_raw(list, amount as usize, start).0.len() };
-        let room = self.room(places);
+        let room = self.room(clipped_places(list, amount, start));
         self.say("clip_cigar_ops_raw", &[List(list), Number(amount), Flag(start), room])
     }
 
@@ -621,9 +621,7 @@ impl Out<'_> {
             self.say("unclipped_5prime_raw", &[Bytes(record), Signed(position), Flag(reverse)])?;
         }
         let (amount, start) = (self.amount(&ops), self.rng.one_in(2));
-        let long = rules::too_long(&ops).is_some();
-        let places = if long { ops.len() } else { cigar::clip_cigar_ops_raw(&ops, amount as usize, start).0.len() };
-        let room = self.room(places);
+        let room = self.room(clipped_places(&ops, amount, start));
         self.say("clip_cigar_ops", &[Bytes(record), Number(amount), Flag(start), room])
     }
 
