@@ -1,0 +1,3 @@
+pub mod Run
+pub mod Mate
+pub mod Scan
