@@ -1,19 +1,20 @@
 -- Two readers of one format agree: on a text that spells an op list, the pieces are the ops, one by one, with the same class and the same number.
 use mathlib.Core.Path.{_≡_, refl, sym, ap, _∙_}
 use mathlib.Core.Bool.{Bool, true, false, cond}
-use mathlib.Core.List.{List, [], _∷_, _++_}
-use Prim.Native.Nat.{ℕ, _+_, _*_, _/_, _%_, _<_, _≤_}
+use mathlib.Core.List.{List, [], _∷_}
+use Prim.Native.Nat.{ℕ, _+_, _<_}
 use native.Mathlib.Omega.{arith}
 use lib.ListN.{getD}
 use Rattle.lists.specs.Lists.{sumOf}
 use Rattle.lists.specs.Runs.{leading, holds, afterLast}
 use Rattle.lists.proofs.Tables.{below-same}
 use Rattle.sam.specs.Op.{lenOf, codeOf, opOf, letters, isRef, refLen}
-use Rattle.sam.specs.Text.{Digits, value, Spells, end, op}
+use Rattle.sam.specs.Text.{value, Spells, end, op}
 use Rattle.ops.specs.Ops.{isClip}
 use Rattle.ops.specs.Clips.{clipLen, leadingClips, trailingClips}
-use Rattle.mate_text.specs.Run.{isDigit, countOf}
+use Rattle.mate_text.specs.Run.{isDigit}
 use Rattle.mate_text.specs.Mate.{refLetters, clipLetters, isRefLetter, isClipLetter, Piece, pieces, counts, total, isRefPiece, isClipPiece, refCount, clipCount, mateLeading, mateReference, mateTrailing}
+use Rattle.mate_text.specs.Readers.{Short, Agree}
 use Rattle.mate_text.proofs.Digits.{count-small}
 use Rattle.mate_text.proofs.Scans.{first-piece}
 
@@ -50,11 +51,6 @@ data Match : List Piece → List ℕ → Type 0 where
   none : Match [] []
   more : (p : Piece) (o : ℕ) {ps : List Piece} {os : List ℕ} → counts p ≡ lenOf o → isRefPiece p ≡ isRef (codeOf o) → isClipPiece p ≡ isClip (codeOf o)
       → Match ps os → Match (p ∷ ps) (o ∷ os)
-
--- lengths of 28 bits, as a record's ops have them
-abbrev pub Short : List ℕ → Type 0
-Short [] = Unit {0}
-Short (o ∷ os) = (lenOf o < 268435456) × Short os
 
 spelt : {s ops : List ℕ} → Spells s ops → Short ops → Match (pieces s) ops
 unfolding pieces
@@ -103,12 +99,7 @@ match-after (more p o {ps} {os} n r c m) = rw (r, match-holds m) (go (holds (λ 
     go false true m i = m
     go false false m i = none
 
--- THE LAW of the two readers: the mate text's three sums are those of the list that the text spells
-pub record Agree (s ops : List ℕ) : Type 0 where
-  pub leading : mateLeading s ≡ leadingClips ops
-  pub reference : mateReference s ≡ sumOf refLen ops
-  pub trailing : mateTrailing s ≡ trailingClips ops
-
+-- THE LAW of the two readers
 pub readers-agree : {s ops : List ℕ} → Spells s ops → Short ops → Agree s ops
 unfolding mateLeading mateReference mateTrailing leadingClips trailingClips refLen clipLen
 readers-agree r k =

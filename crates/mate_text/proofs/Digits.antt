@@ -1,6 +1,6 @@
 -- Digits as bytes and as numbers: the test is the specification's, and a run held at 2^64 - 1 counts what the unbounded number counts, since both count 0 from 2^31 on.
 use mathlib.Core.Path.{_≡_, refl, sym, ap, _∙_}
-use mathlib.Core.Bool.{Bool, true, false, cond}
+use mathlib.Core.Bool.{Bool, true, false}
 use mathlib.Core.List.{List, [], _∷_, _++_}
 use Prim.Native.Nat.{ℕ, _+_, _-_, _*_, _≤_, _<_, min}
 use native.Mathlib.Omega.{arith}

@@ -1,14 +1,13 @@
 -- The scan of the bytes is a walk over the text's pieces: digits gather in the run, and the byte after them ends the piece that they are the digits of.
 use mathlib.Core.Path.{_≡_, refl, sym, ap, _∙_}
-use mathlib.Core.Bool.{Bool, true, false, cond}
+use mathlib.Core.Bool.{Bool, true, false}
 use mathlib.Core.List.{List, [], _∷_, _++_, append-assoc, append-nil}
 use Prim.Native.Nat.{ℕ, _+_, _<_, _≤_}
-use native.Mathlib.Omega.{arith}
 use lib.IntN.{ℤ, pos}
 use lib.ListN.{length, drop, getD}
 use Rattle.lists.proofs.Walks.{step, done}
-use Rattle.sam.specs.Text.{Digit, Digits, value}
-use Rattle.mate_text.specs.Run.{isDigit, countOf, pushOf}
+use Rattle.sam.specs.Text.{Digits, value}
+use Rattle.mate_text.specs.Run.{isDigit, countOf}
 use Rattle.mate_text.specs.Mate.{Piece, pieces, withDigit, counts}
 use Rattle.mate_text.specs.Scan.{runAfter, foundAfter, leadPiece}
 use Rattle.mate_text.specs.declared.Lead.{Lead}

@@ -1,7 +1,7 @@
 -- Document 01, module 6, "The digit run belongs to the scan": what the scan holds after one byte more. What it comes to over a text is said in Mate.antt
 -- without it, and proofs/Scans.antt has the law that the two agree.
 use Prim.Native.Nat.{ℕ}
-use mathlib.Core.Bool.{Bool, true, false, cond}
+use mathlib.Core.Bool.{true, false, cond}
 use lib.IntN.{ℤ, pos, _+ℤ_}
 use Rattle.signed.specs.Whole.{clamp32}
 use Rattle.mate_text.specs.Run.{isDigit, pushOf, countOf}

@@ -102,13 +102,13 @@ impl DigitRun {
 }
 
 // A run after a byte, and whether the byte was a digit.
-pub struct Fed {
-    pub run: DigitRun,
-    pub digit: bool,
+struct Fed {
+    run: DigitRun,
+    digit: bool,
 }
 
 // The run is lent to `push` for one byte, and comes back.
-pub fn feed(run: DigitRun, byte: u8) -> Fed
+fn feed(run: DigitRun, byte: u8) -> Fed
     ensures { λ r. ⌜ (r .run .0 ≡ pushOf (run .0) byte) × (r .digit ≡ isDigit byte) ⌝ }
 {
     let mut r = run;
@@ -117,13 +117,13 @@ pub fn feed(run: DigitRun, byte: u8) -> Fed
 }
 
 // The empty run after a letter, and what it counted before.
-pub struct Taken {
-    pub run: DigitRun,
-    pub number: i32,
+struct Taken {
+    run: DigitRun,
+    number: i32,
 }
 
 // The run is lent to `take` at a letter, and comes back.
-pub fn drain(run: DigitRun) -> Taken
+fn drain(run: DigitRun) -> Taken
     ensures { λ r. ⌜ (r .run .0 ≡ 0) × (r .number ≡ pos (countOf (run .0))) ⌝ }
 {
     let mut r = run;
@@ -132,9 +132,9 @@ pub fn drain(run: DigitRun) -> Taken
 }
 
 // The leading clips, and whether no other letter was met.
-pub struct Lead {
-    pub clips: i32,
-    pub on: bool,
+struct Lead {
+    clips: i32,
+    on: bool,
 }
 
 fn lead_piece(s: Lead, number: i32, letter: u8) -> Lead
@@ -155,9 +155,9 @@ fn lead_piece(s: Lead, number: i32, letter: u8) -> Lead
     }
 }
 
-pub struct LeadScan {
-    pub run: DigitRun,
-    pub found: Lead,
+struct LeadScan {
+    run: DigitRun,
+    found: Lead,
 }
 
 fn lead_step(s: LeadScan, byte: u8) -> LeadScan
@@ -199,10 +199,10 @@ fn parse_leading_clips(text: &[u8]) -> i32
 }
 
 // The reference length, the clips since its last letter, and whether there was one.
-pub struct Tail {
-    pub refs: i32,
-    pub clips: i32,
-    pub seen: bool,
+struct Tail {
+    refs: i32,
+    clips: i32,
+    seen: bool,
 }
 
 fn tail_piece(s: Tail, number: i32, letter: u8) -> Tail
@@ -228,9 +228,9 @@ fn tail_piece(s: Tail, number: i32, letter: u8) -> Tail
     }
 }
 
-pub struct TailScan {
-    pub run: DigitRun,
-    pub found: Tail,
+struct TailScan {
+    run: DigitRun,
+    found: Tail,
 }
 
 fn tail_step(s: TailScan, byte: u8) -> TailScan

@@ -1,22 +1,17 @@
-use mathlib.Core.Path.{_≡_, refl, sym, ap, _∙_}
-use borrow.Author.Tests.{ne-eqb, not-true, not-false}
+-- `mate_text::is_clip` meets its contract: each arm is one entry of the definition's list, and the last is none of them.
+use borrow.Author.Tests.{ne-eqb}
 use Rattle.mate_text.specs.Mate.{isClipLetter}
 use Rattle.mate_text.proofs.is_clip.Statement.{statement}
 use Rattle.mate_text.proofs.is_clip.Tie as tie
-use Rattle.mate_text.proofs.is_clip.Reads as reads
-use Rattle.mate_text.proofs.is_clip.Lts as lts
 
--- src/lib.rt:31:1
 returns : tie.Need-returns
 unfolding isClipLetter
 returns c = rw (c .match .keys1)
 
--- src/lib.rt:31:1
 returns-2 : tie.Need-returns-2
 unfolding isClipLetter
 returns-2 c = rw (c .match .keys2)
 
--- src/lib.rt:31:1
 returns-3 : tie.Need-returns-3
 unfolding isClipLetter
 returns-3 c =

@@ -1,37 +1,29 @@
-use mathlib.Core.Path.{_≡_, refl, sym, ap, _∙_}
-use borrow.Author.Tests.{ne-eqb, not-true, not-false}
+-- `mate_text::is_ref` meets its contract: each arm is one entry of the definition's list, and the last is none of them.
+use borrow.Author.Tests.{ne-eqb}
 use Rattle.mate_text.specs.Mate.{isRefLetter}
 use Rattle.mate_text.proofs.is_ref.Statement.{statement}
 use Rattle.mate_text.proofs.is_ref.Tie as tie
-use Rattle.mate_text.proofs.is_ref.Reads as reads
-use Rattle.mate_text.proofs.is_ref.Lts as lts
 
--- src/lib.rt:17:1
 returns : tie.Need-returns
 unfolding isRefLetter
 returns c = rw (c .match .keys1)
 
--- src/lib.rt:17:1
 returns-2 : tie.Need-returns-2
 unfolding isRefLetter
 returns-2 c = rw (c .match .keys2)
 
--- src/lib.rt:17:1
 returns-3 : tie.Need-returns-3
 unfolding isRefLetter
 returns-3 c = rw (c .match .keys3)
 
--- src/lib.rt:17:1
 returns-4 : tie.Need-returns-4
 unfolding isRefLetter
 returns-4 c = rw (c .match .keys4)
 
--- src/lib.rt:17:1
 returns-5 : tie.Need-returns-5
 unfolding isRefLetter
 returns-5 c = rw (c .match .keys5)
 
--- src/lib.rt:17:1
 returns-6 : tie.Need-returns-6
 unfolding isRefLetter
 returns-6 c =

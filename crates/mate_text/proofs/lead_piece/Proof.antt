@@ -1,30 +1,24 @@
-use mathlib.Core.Path.{_≡_, refl, sym, ap, _∙_}
+-- `mate_text::lead_piece` meets its contract: each way out is one case of the definition.
+use mathlib.Core.Path.{_≡_, sym, ap, _∙_}
 use mathlib.Core.Bool.{true, false}
 use lib.IntN.{ℤ, _+ℤ_}
 use mir.Syntax.{w32}
 use mir.Val.{toZ, ofZ}
 use borrow.Author.Tests.{not-true, not-false}
 use Rattle.signed.specs.Whole.{clamp32}
-use Rattle.mate_text.specs.Mate.{isRefLetter, isClipLetter}
+use Rattle.mate_text.specs.Mate.{isClipLetter}
 use Rattle.mate_text.proofs.Steps.{lead-off, lead-stop, lead-clip}
 use borrow.Author.Needs.{needs}
 use Rattle.mate_text.proofs.lead_piece.Statement.{statement}
 use Rattle.mate_text.proofs.lead_piece.Tie as tie
-use Rattle.mate_text.proofs.lead_piece.Reads as reads
-use Rattle.mate_text.proofs.lead_piece.Lts as lts
-use Rattle.mate_text.proofs.is_clip.Reads as is-clip-reads
-use Rattle.signed.proofs.saturating_add.Reads as saturating-add-reads
 
--- src/lib.rt:144:9
 returns : tie.Need-returns
 returns c =
     let a = c .before .before .args in sym (lead-off (a .s) (a .number) (a .letter) (not-true _ (c .if1 .taken)))
 
--- src/lib.rt:146:9
 is-clip-requires : tie.Need-is-clip-requires
 is-clip-requires c κs = search needs
 
--- src/lib.rt:147:9
 returns-2 : tie.Need-returns-2
 returns-2 c =
     let t = c .before .before .before in
@@ -33,11 +27,9 @@ returns-2 c =
     let k : isClipLetter (a .letter) ≡ false = sym (c .before .before .is-clip .ensures) ∙ not-true _ (c .before .if2 .taken) in
     ap (λ (z : ℤ). record { clips = z; on = false }) e ∙ sym (lead-stop (a .s) (a .number) (a .letter) (not-false _ (t .if1 .left)) k)
 
--- src/lib.rt:149:19
 saturating-add-requires : tie.Need-saturating-add-requires
 saturating-add-requires c κs = search needs
 
--- src/lib.rt:140:1
 returns-3 : tie.Need-returns-3
 returns-3 c =
     let t = c .before .before .before .before in

@@ -1,24 +1,15 @@
 -- `mate_text::mate_unclipped_5prime` meets its contract: each arm is one of the definition's two cases.
-use mathlib.Core.Path.{_≡_, refl, sym, ap, _∙_}
-use lib.IntN.{ℤ, pos, _+ℤ_, _-ℤ_}
-use denote.Ref.{now}
+use mathlib.Core.Path.{_≡_, _∙_}
 use mir.Syntax.{w32}
 use mir.Val.{toZ, ofZ}
-use Rattle.signed.specs.Whole.{clamp32}
-use Rattle.mate_text.specs.Mate.{held, mateLeading, mateReference, mateTrailing, mateUnclipped, mateUnclipped1}
+use Rattle.mate_text.specs.Mate.{mateUnclipped}
 use borrow.Author.Needs.{needs}
 use Rattle.mate_text.proofs.mate_unclipped_5prime.Statement.{statement}
 use Rattle.mate_text.proofs.mate_unclipped_5prime.Tie as tie
-use Rattle.mate_text.proofs.mate_unclipped_5prime.Reads as reads
-use Rattle.mate_text.proofs.mate_unclipped_5prime.Lts as lts
-use Rattle.mate_text.proofs.unclipped_other_end.Reads as unclipped-other-end-reads
-use Rattle.mate_text.proofs.unclipped_other_start.Reads as unclipped-other-start-reads
 
--- src/lib.rt:263:9
 unclipped-other-end-requires : tie.Need-unclipped-other-end-requires
 unclipped-other-end-requires c κs = search needs
 
--- src/lib.rt:263:9
 returns : tie.Need-returns
 unfolding mateUnclipped
 returns c =
@@ -26,11 +17,9 @@ returns c =
     let p : toZ w32 (ofZ w32 (a .position)) ≡ a .position = search needs in
     rw (c .before .if1 .taken) (search needs ∙ simp p at (c .unclipped-other-end .ensures))
 
--- src/lib.rt:265:5
 unclipped-other-start-requires : tie.Need-unclipped-other-start-requires
 unclipped-other-start-requires c κs = search needs
 
--- src/lib.rt:259:1
 returns-2 : tie.Need-returns-2
 unfolding mateUnclipped
 returns-2 c =

@@ -1,28 +1,21 @@
 -- `mate_text::mate_unclipped_5prime_1based` meets its contract: the other call, from the position plus 1.
-use mathlib.Core.Path.{_≡_, refl, sym, ap, _∙_}
-use lib.IntN.{ℤ, pos, _+ℤ_, _-ℤ_}
+use mathlib.Core.Path.{_≡_, ap, _∙_}
+use lib.IntN.{ℤ, pos, _+ℤ_}
 use denote.Ref.{now}
 use mir.Syntax.{w32}
 use mir.Val.{toZ, ofZ}
 use Rattle.signed.specs.Whole.{clamp32}
-use Rattle.mate_text.specs.Mate.{held, mateLeading, mateReference, mateTrailing, mateUnclipped, mateUnclipped1}
+use Rattle.mate_text.specs.Mate.{mateUnclipped, mateUnclipped1}
 use borrow.Author.Needs.{needs}
 use Rattle.mate_text.proofs.mate_unclipped_5prime_1based.Statement.{statement}
 use Rattle.mate_text.proofs.mate_unclipped_5prime_1based.Tie as tie
-use Rattle.mate_text.proofs.mate_unclipped_5prime_1based.Reads as reads
-use Rattle.mate_text.proofs.mate_unclipped_5prime_1based.Lts as lts
-use Rattle.mate_text.proofs.mate_unclipped_5prime.Reads as mate-unclipped-5prime-reads
-use Rattle.signed.proofs.saturating_add.Reads as saturating-add-reads
 
--- src/lib.rt:272:32
 saturating-add-requires : tie.Need-saturating-add-requires
 saturating-add-requires c κs = search needs
 
--- src/lib.rt:272:10
 mate-unclipped-5prime-requires : tie.Need-mate-unclipped-5prime-requires
 mate-unclipped-5prime-requires c κs = search needs
 
--- src/lib.rt:269:1
 returns : tie.Need-returns
 unfolding mateUnclipped1
 returns c =

@@ -1,11 +1,11 @@
 -- `mate_text::parse_leading_clips` meets its contract: the scan of what is left, from what was found, is the scan of the whole text, and stops at a letter that is no clip.
 use Rattle.mate_text.specs.declared.Lead.{Lead}
-use mathlib.Core.Path.{_≡_, refl, sym, ap, _∙_}
-use mathlib.Core.Bool.{true, false}
+use mathlib.Core.Path.{_≡_, sym, ap, _∙_}
+use mathlib.Core.Bool.{true}
 use Prim.Native.Nat.{ℕ, _+_, _-_, _≤_, _<_}
 use native.Mathlib.Omega.{arith}
-use lib.IntN.{ℤ, pos}
-use lib.ListN.{length, drop, getD}
+use lib.IntN.{pos}
+use lib.ListN.{length, drop}
 use denote.Ref.{now}
 use mir.Syntax.{w32}
 use mir.Val.{toZ, ofZ}
@@ -13,13 +13,9 @@ use borrow.Author.Needs.{needs}
 use borrow.Author.Tests.{not-true}
 use Rattle.mate_text.specs.Scan.{leadPiece}
 use Rattle.mate_text.proofs.Scans.{scan, scan-turn, scan-end, scan-off}
-use Rattle.mate_text.proofs.Sums.{leading-is, reference-is, trailing-is}
+use Rattle.mate_text.proofs.Sums.{leading-is}
 use Rattle.mate_text.proofs.parse_leading_clips.Statement.{statement}
 use Rattle.mate_text.proofs.parse_leading_clips.Tie as tie
-use Rattle.mate_text.proofs.parse_leading_clips.Reads as reads
-use Rattle.mate_text.proofs.parse_leading_clips.Lts as lts
-use Rattle.mate_text.proofs.DigitRun.new.Reads as new-reads
-use Rattle.mate_text.proofs.lead_step.Reads as lead-step-reads
 
 abbrev Inv-loop : tie.InvT-loop
 Inv-loop text s₀ i₀ s i =
@@ -28,23 +24,18 @@ Inv-loop text s₀ i₀ s i =
 abbrev μ-loop : tie.MeasureT-loop
 μ-loop text s₀ i₀ s i = length text - i
 
--- src/lib.rt:176:33
 new-requires : tie.Need-new-requires Inv-loop μ-loop
 new-requires c κs = tt
 
--- src/lib.rt:178:5
 loop-holds : tie.Need-loop-holds Inv-loop μ-loop
 loop-holds c = (omega arith, ap (λ (x : ℕ). scan leadPiece x (record { clips = pos 0; on = true }) (now (c .before .before .args .text))) (c .new .ensures))
 
--- src/lib.rt:179:26
 shared-slice-read-lead-step : tie.Need-shared-slice-read-lead-step Inv-loop μ-loop
 shared-slice-read-lead-step c = omega arith
 
--- src/lib.rt:179:9
 lead-step-requires : tie.Need-lead-step-requires Inv-loop μ-loop
 lead-step-requires c κs = tt
 
--- src/lib.rt:182:13
 returns : tie.Need-returns Inv-loop μ-loop
 returns c =
     let t = c .before .before .before .before in
@@ -56,15 +47,12 @@ returns c =
     let g = scan-turn leadPiece text (l .loop .i) (l .loop .s .run .0) (r .run .0) (l .loop .s .found) (r .found) h (t .lead-step .ensures .0) (t .lead-step .ensures .1) ∙ l .loop .inv .1 in
     e ∙ ap (λ (f : Lead). f .clips) (sym (scan-off (drop (l .loop .i + 1) text) (r .run .0) (r .found) (not-true _ (c .before .if1 .taken))) ∙ g) ∙ leading-is text
 
--- src/lib.rt:184:9
 add-i : tie.Need-add-i Inv-loop μ-loop
 add-i c = omega arith
 
--- src/lib.rt:178:5
 loop-less : tie.Need-loop-less Inv-loop μ-loop
 loop-less c = omega arith
 
--- src/lib.rt:178:5
 loop-again : tie.Need-loop-again Inv-loop μ-loop
 loop-again c =
     let t = c .before .before .before in
@@ -75,7 +63,6 @@ loop-again c =
       scan-turn leadPiece text (l .loop .i) (l .loop .s .run .0) _ (l .loop .s .found) _ h (t .lead-step .ensures .0) (t .lead-step .ensures .1) ∙ l .loop .inv .1,
     )
 
--- src/lib.rt:173:1
 returns-2 : tie.Need-returns-2 Inv-loop μ-loop
 returns-2 c =
     let l = c .before .before in

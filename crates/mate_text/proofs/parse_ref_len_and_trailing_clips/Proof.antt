@@ -1,25 +1,17 @@
 -- `mate_text::parse_ref_len_and_trailing_clips` meets its contract: the scan of what is left, from what was found, is the scan of the whole text.
 use Rattle.mate_text.specs.declared.Tail.{Tail}
-use mathlib.Core.Path.{_≡_, refl, sym, ap, _∙_}
-use mathlib.Core.Bool.{true, false}
-use Prim.Native.Nat.{ℕ, _+_, _-_, _≤_, _<_}
+use mathlib.Core.Path.{_≡_, sym, ap, _∙_}
+use mathlib.Core.Bool.{false}
+use Prim.Native.Nat.{ℕ, _-_, _≤_, _<_}
 use native.Mathlib.Omega.{arith}
-use lib.IntN.{ℤ, pos}
-use lib.ListN.{length, drop, getD}
+use lib.IntN.{pos}
+use lib.ListN.{length, drop}
 use denote.Ref.{now}
-use mir.Syntax.{w32}
-use mir.Val.{toZ, ofZ}
-use borrow.Author.Needs.{needs}
-use borrow.Author.Tests.{not-true}
 use Rattle.mate_text.specs.Scan.{tailPiece}
-use Rattle.mate_text.proofs.Scans.{scan, scan-turn, scan-end, scan-off}
-use Rattle.mate_text.proofs.Sums.{leading-is, reference-is, trailing-is}
+use Rattle.mate_text.proofs.Scans.{scan, scan-turn, scan-end}
+use Rattle.mate_text.proofs.Sums.{reference-is, trailing-is}
 use Rattle.mate_text.proofs.parse_ref_len_and_trailing_clips.Statement.{statement}
 use Rattle.mate_text.proofs.parse_ref_len_and_trailing_clips.Tie as tie
-use Rattle.mate_text.proofs.parse_ref_len_and_trailing_clips.Reads as reads
-use Rattle.mate_text.proofs.parse_ref_len_and_trailing_clips.Lts as lts
-use Rattle.mate_text.proofs.DigitRun.new.Reads as new-reads
-use Rattle.mate_text.proofs.tail_step.Reads as tail-step-reads
 
 abbrev Inv-loop : tie.InvT-loop
 Inv-loop text s₀ i₀ s i =
@@ -28,31 +20,24 @@ Inv-loop text s₀ i₀ s i =
 abbrev μ-loop : tie.MeasureT-loop
 μ-loop text s₀ i₀ s i = length text - i
 
--- src/lib.rt:235:33
 new-requires : tie.Need-new-requires Inv-loop μ-loop
 new-requires c κs = tt
 
--- src/lib.rt:237:5
 loop-holds : tie.Need-loop-holds Inv-loop μ-loop
 loop-holds c = (omega arith, ap (λ (x : ℕ). scan tailPiece x (record { refs = pos 0; clips = pos 0; seen = false }) (now (c .before .before .args .text))) (c .new .ensures))
 
--- src/lib.rt:238:26
 shared-slice-read-tail-step : tie.Need-shared-slice-read-tail-step Inv-loop μ-loop
 shared-slice-read-tail-step c = omega arith
 
--- src/lib.rt:238:9
 tail-step-requires : tie.Need-tail-step-requires Inv-loop μ-loop
 tail-step-requires c κs = tt
 
--- src/lib.rt:239:9
 add-i : tie.Need-add-i Inv-loop μ-loop
 add-i c = omega arith
 
--- src/lib.rt:237:5
 loop-less : tie.Need-loop-less Inv-loop μ-loop
 loop-less c = omega arith
 
--- src/lib.rt:237:5
 loop-again : tie.Need-loop-again Inv-loop μ-loop
 loop-again c =
     let l = c .before .before .before in
@@ -62,7 +47,6 @@ loop-again c =
       scan-turn tailPiece text (l .loop .i) (l .loop .s .run .0) _ (l .loop .s .found) _ h (c .tail-step .ensures .0) (c .tail-step .ensures .1) ∙ l .loop .inv .1,
     )
 
--- src/lib.rt:232:1
 returns : tie.Need-returns Inv-loop μ-loop
 returns c =
     let l = c .before .before in

@@ -1,4 +1,5 @@
-use mathlib.Core.Path.{_≡_, refl, sym, ap, _∙_}
+-- `mate_text::tail_piece` meets its contract: each way out is one case of the definition.
+use mathlib.Core.Path.{_≡_, sym, ap, _∙_}
 use mathlib.Core.Bool.{true, false}
 use lib.IntN.{ℤ, pos, _+ℤ_}
 use mir.Syntax.{w32}
@@ -10,21 +11,13 @@ use Rattle.mate_text.proofs.Steps.{tail-ref, tail-other, tail-early, ta
 use borrow.Author.Needs.{needs}
 use Rattle.mate_text.proofs.tail_piece.Statement.{statement}
 use Rattle.mate_text.proofs.tail_piece.Tie as tie
-use Rattle.mate_text.proofs.tail_piece.Reads as reads
-use Rattle.mate_text.proofs.tail_piece.Lts as lts
-use Rattle.mate_text.proofs.is_clip.Reads as is-clip-reads
-use Rattle.mate_text.proofs.is_ref.Reads as is-ref-reads
-use Rattle.signed.proofs.saturating_add.Reads as saturating-add-reads
 
--- src/lib.rt:199:8
 is-ref-requires : tie.Need-is-ref-requires
 is-ref-requires c κs = search needs
 
--- src/lib.rt:200:29
 saturating-add-requires : tie.Need-saturating-add-requires
 saturating-add-requires c κs = search needs
 
--- src/lib.rt:200:9
 returns : tie.Need-returns
 returns c =
     let t = c .before .before in
@@ -36,11 +29,9 @@ returns c =
     let k : isRefLetter (a .letter) ≡ true = sym (t .before .is-ref .ensures) ∙ t .if1 .taken in
     ap (λ (z : ℤ). record { refs = z; clips = pos 0; seen = true }) (r ∙ g) ∙ sym (tail-ref (a .s) (a .number) (a .letter) k)
 
--- src/lib.rt:202:9
 is-clip-requires : tie.Need-is-clip-requires
 is-clip-requires c κs = search needs
 
--- src/lib.rt:203:9
 returns-2 : tie.Need-returns-2
 returns-2 c =
     let t = c .before .before in
@@ -49,7 +40,6 @@ returns-2 c =
     let l : isClipLetter (a .letter) ≡ false = sym (c .before .is-clip .ensures) ∙ not-true _ (c .if2 .taken) in
     sym (tail-other (a .s) (a .number) (a .letter) k l)
 
--- src/lib.rt:206:9
 returns-3 : tie.Need-returns-3
 returns-3 c =
     let t = c .before .before .before .before in
@@ -58,11 +48,9 @@ returns-3 c =
     let l : isClipLetter (a .letter) ≡ true = sym (c .before .before .before .is-clip .ensures) ∙ not-false _ (c .before .before .if2 .left) in
     sym (tail-early (a .s) (a .number) (a .letter) k l (not-true _ (c .if3 .taken)))
 
--- src/lib.rt:208:33
 saturating-add-requires-2 : tie.Need-saturating-add-requires-2
 saturating-add-requires-2 c κs = search needs
 
--- src/lib.rt:196:1
 returns-4 : tie.Need-returns-4
 returns-4 c =
     let u = c .before .before .before in

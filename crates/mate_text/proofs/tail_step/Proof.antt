@@ -1,5 +1,5 @@
 -- `mate_text::tail_step` meets its contract: the laws of a byte, at a digit and at a letter.
-use mathlib.Core.Path.{_≡_, refl, sym, ap, _∙_}
+use mathlib.Core.Path.{_≡_, sym, _∙_}
 use mathlib.Core.Bool.{true, false}
 use mir.Syntax.{w32}
 use mir.Val.{toZ, ofZ}
@@ -9,17 +9,10 @@ use Rattle.mate_text.proofs.Steps.{at-digit, at-letter}
 use borrow.Author.Needs.{needs}
 use Rattle.mate_text.proofs.tail_step.Statement.{statement}
 use Rattle.mate_text.proofs.tail_step.Tie as tie
-use Rattle.mate_text.proofs.tail_step.Reads as reads
-use Rattle.mate_text.proofs.tail_step.Lts as lts
-use Rattle.mate_text.proofs.drain.Reads as drain-reads
-use Rattle.mate_text.proofs.feed.Reads as feed-reads
-use Rattle.mate_text.proofs.tail_piece.Reads as tail-piece-reads
 
--- src/lib.rt:221:9
 feed-requires : tie.Need-feed-requires
 feed-requires c κs = search needs
 
--- src/lib.rt:224:9
 returns : tie.Need-returns
 returns c =
     let t = c .before .before in
@@ -27,15 +20,12 @@ returns c =
     let d : isDigit (a .byte) ≡ true = sym (t .feed .ensures .1) ∙ c .if1 .taken in
     at-digit tailPiece (a .s .run .0) (a .s .found) (a .byte) _ (t .feed .ensures .0) d
 
--- src/lib.rt:226:9
 drain-requires : tie.Need-drain-requires
 drain-requires c κs = search needs
 
--- src/lib.rt:228:35
 tail-piece-requires : tie.Need-tail-piece-requires
 tail-piece-requires c κs = search needs
 
--- src/lib.rt:216:1
 returns-2 : tie.Need-returns-2
 returns-2 c =
     let e = c .before .before .before in

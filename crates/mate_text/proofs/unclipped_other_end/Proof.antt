@@ -1,37 +1,27 @@
 -- `mate_text::unclipped_other_end` meets its contract: its three steps are the definition's, in the same order.
-use mathlib.Core.Path.{_≡_, refl, sym, ap, _∙_}
+use mathlib.Core.Path.{_≡_, ap, _∙_}
 use lib.IntN.{ℤ, pos, _+ℤ_, _-ℤ_}
 use denote.Ref.{now}
 use mir.Syntax.{w32}
 use mir.Val.{toZ, ofZ}
 use Rattle.signed.specs.Whole.{clamp32}
-use Rattle.mate_text.specs.Mate.{held, mateLeading, mateReference, mateTrailing, mateUnclipped, mateUnclipped1}
+use Rattle.mate_text.specs.Mate.{held, mateReference}
 use borrow.Author.Needs.{needs}
 use Rattle.mate_text.proofs.unclipped_other_end.Statement.{statement}
 use Rattle.mate_text.proofs.unclipped_other_end.Tie as tie
-use Rattle.mate_text.proofs.unclipped_other_end.Reads as reads
-use Rattle.mate_text.proofs.unclipped_other_end.Lts as lts
-use Rattle.mate_text.proofs.parse_ref_len_and_trailing_clips.Reads as parse-ref-len-and-trailing-clips-reads
-use Rattle.signed.proofs.saturating_add.Reads as saturating-add-reads
-use Rattle.signed.proofs.saturating_sub.Reads as saturating-sub-reads
 
--- src/lib.rt:254:9
 parse-ref-len-and-trailing-clips-requires : tie.Need-parse-ref-len-and-trailing-clips-requires
 parse-ref-len-and-trailing-clips-requires c κs = search needs
 
--- src/lib.rt:255:51
 saturating-sub-requires : tie.Need-saturating-sub-requires
 saturating-sub-requires c κs = search needs
 
--- src/lib.rt:255:28
 saturating-add-requires : tie.Need-saturating-add-requires
 saturating-add-requires c κs = search needs
 
--- src/lib.rt:255:5
 saturating-add-requires-2 : tie.Need-saturating-add-requires-2
 saturating-add-requires-2 c κs = search needs
 
--- src/lib.rt:251:1
 returns : tie.Need-returns
 returns c =
     let d = c .before .before .before .before in

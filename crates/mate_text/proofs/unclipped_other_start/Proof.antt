@@ -1,27 +1,19 @@
 -- `mate_text::unclipped_other_start` meets its contract: its one step is the definition's.
-use mathlib.Core.Path.{_≡_, refl, sym, ap, _∙_}
-use lib.IntN.{ℤ, pos, _+ℤ_, _-ℤ_}
-use denote.Ref.{now}
+use mathlib.Core.Path.{_≡_, ap, _∙_}
+use lib.IntN.{ℤ, _-ℤ_}
 use mir.Syntax.{w32}
 use mir.Val.{toZ, ofZ}
 use Rattle.signed.specs.Whole.{clamp32}
 use borrow.Author.Needs.{needs}
 use Rattle.mate_text.proofs.unclipped_other_start.Statement.{statement}
 use Rattle.mate_text.proofs.unclipped_other_start.Tie as tie
-use Rattle.mate_text.proofs.unclipped_other_start.Reads as reads
-use Rattle.mate_text.proofs.unclipped_other_start.Lts as lts
-use Rattle.mate_text.proofs.parse_leading_clips.Reads as parse-leading-clips-reads
-use Rattle.signed.proofs.saturating_sub.Reads as saturating-sub-reads
 
--- src/lib.rt:247:38
 parse-leading-clips-requires : tie.Need-parse-leading-clips-requires
 parse-leading-clips-requires c κs = search needs
 
--- src/lib.rt:247:5
 saturating-sub-requires : tie.Need-saturating-sub-requires
 saturating-sub-requires c κs = search needs
 
--- src/lib.rt:244:1
 returns : tie.Need-returns
 returns c =
     let a = c .before .before .before .args in
