@@ -1,9 +1,10 @@
 // Document 01, module 6: the mate's unclipped 5' end from text. Reads any bytes, refuses none; each step saturates.
 ghost use mathlib.Core.Path.{_≡_};
+ghost use mathlib.Core.Bool.{cond, not};
 ghost use lib.IntN.{ℤ, pos};
 ghost use Rattle.mate_text.specs.Run.{isDigit, countOf, pushOf};
 ghost use Rattle.mate_text.specs.Mate.{isRefLetter, isClipLetter, mateLeading, mateReference, mateTrailing, held, mateStart, mateEnd, mateUnclipped, mateUnclipped1};
-ghost use Rattle.mate_text.specs.Scan.{runAfter, foundAfter, leadPiece, tailPiece};
+ghost use Rattle.mate_text.specs.Scan.{runAfter, numberAfter, leadPiece, tailPiece};
 use answers::Pos0;
 use answers::Pos1;
 
@@ -131,15 +132,46 @@ fn drain(run: DigitRun) -> Taken
     Taken { run: r, number }
 }
 
+// The run after a byte; whether the byte ended a piece, and what that counts.
+struct Read {
+    run: DigitRun,
+    ended: bool,
+    number: i32,
+}
+
+fn read_byte(run: DigitRun, byte: u8) -> Read
+    ensures { λ r. ⌜ (r .run .0 ≡ runAfter (run .0) byte) × (r .ended ≡ not (isDigit byte)) × (r .number ≡ numberAfter (run .0) byte) ⌝ }
+{
+    let fed = feed(run, byte);
+    let more = fed.run;
+    if fed.digit {
+        return Read {
+            run: more,
+            ended: false,
+            number: 0,
+        };
+    }
+    let taken = drain(more);
+    let empty = taken.run;
+    Read {
+        run: empty,
+        ended: true,
+        number: taken.number,
+    }
+}
+
 // The leading clips, and whether no other letter was met.
 struct Lead {
     clips: i32,
     on: bool,
 }
 
-fn lead_piece(s: Lead, number: i32, letter: u8) -> Lead
-    ensures { λ r. ⌜ r ≡ leadPiece s number letter ⌝ }
+fn lead_piece(s: Lead, ended: bool, number: i32, letter: u8) -> Lead
+    ensures { λ r. ⌜ r ≡ cond ended (leadPiece s number letter) s ⌝ }
 {
+    if !ended {
+        return s;
+    }
     if !s.on {
         return s;
     }
@@ -155,47 +187,25 @@ fn lead_piece(s: Lead, number: i32, letter: u8) -> Lead
     }
 }
 
-struct LeadScan {
-    run: DigitRun,
-    found: Lead,
-}
-
-fn lead_step(s: LeadScan, byte: u8) -> LeadScan
-    ensures { λ r. ⌜ (r .run .0 ≡ runAfter (s .run .0) byte) × (r .found ≡ foundAfter leadPiece (s .run .0) (s .found) byte) ⌝ }
-{
-    let run = s.run;
-    let found = s.found;
-    let fed = feed(run, byte);
-    let more = fed.run;
-    if fed.digit {
-        return LeadScan { run: more, found };
-    }
-    let taken = drain(more);
-    let empty = taken.run;
-    LeadScan {
-        run: empty,
-        found: lead_piece(found, taken.number, byte),
-    }
-}
-
 // The total of the leading S and H.
 fn parse_leading_clips(text: &[u8]) -> i32
     ensures { λ r. ⌜ r ≡ held (mateLeading (now (text .entry))) ⌝ }
 {
-    let mut s = LeadScan {
-        run: DigitRun::new(),
-        found: Lead { clips: 0, on: true },
-    };
+    let mut run = DigitRun::new();
+    let mut found = Lead { clips: 0, on: true };
     let mut i = 0;
     while i < text.len() {
-        s = lead_step(s, text[i]);
-        let found = s.found;
+        let b = text[i];
+        let read = read_byte(run, b);
+        found = lead_piece(found, read.ended, read.number, b);
         if !found.on {
             return found.clips;
         }
+        let next = read.run;
+        run = next;
         i += 1;
     }
-    s.found.clips
+    found.clips
 }
 
 // The reference length, the clips since its last letter, and whether there was one.
@@ -205,9 +215,12 @@ struct Tail {
     seen: bool,
 }
 
-fn tail_piece(s: Tail, number: i32, letter: u8) -> Tail
-    ensures { λ r. ⌜ r ≡ tailPiece s number letter ⌝ }
+fn tail_piece(s: Tail, ended: bool, number: i32, letter: u8) -> Tail
+    ensures { λ r. ⌜ r ≡ cond ended (tailPiece s number letter) s ⌝ }
 {
+    if !ended {
+        return s;
+    }
     if is_ref(letter) {
         return Tail {
             refs: signed::saturating_add(s.refs, number),
@@ -228,47 +241,26 @@ fn tail_piece(s: Tail, number: i32, letter: u8) -> Tail
     }
 }
 
-struct TailScan {
-    run: DigitRun,
-    found: Tail,
-}
-
-fn tail_step(s: TailScan, byte: u8) -> TailScan
-    ensures { λ r. ⌜ (r .run .0 ≡ runAfter (s .run .0) byte) × (r .found ≡ foundAfter tailPiece (s .run .0) (s .found) byte) ⌝ }
-{
-    let run = s.run;
-    let found = s.found;
-    let fed = feed(run, byte);
-    let more = fed.run;
-    if fed.digit {
-        return TailScan { run: more, found };
-    }
-    let taken = drain(more);
-    let empty = taken.run;
-    TailScan {
-        run: empty,
-        found: tail_piece(found, taken.number, byte),
-    }
-}
-
 // The reference length, and the total of the S and H after its last letter.
 fn parse_ref_len_and_trailing_clips(text: &[u8]) -> Tail
     ensures { λ r. ⌜ (r .refs ≡ held (mateReference (now (text .entry)))) × (r .clips ≡ held (mateTrailing (now (text .entry)))) ⌝ }
 {
-    let mut s = TailScan {
-        run: DigitRun::new(),
-        found: Tail {
-            refs: 0,
-            clips: 0,
-            seen: false,
-        },
+    let mut run = DigitRun::new();
+    let mut found = Tail {
+        refs: 0,
+        clips: 0,
+        seen: false,
     };
     let mut i = 0;
     while i < text.len() {
-        s = tail_step(s, text[i]);
+        let b = text[i];
+        let read = read_byte(run, b);
+        found = tail_piece(found, read.ended, read.number, b);
+        let next = read.run;
+        run = next;
         i += 1;
     }
-    s.found
+    found
 }
 
 fn unclipped_other_start(position: i32, text: &[u8]) -> i32

@@ -1,11 +1,11 @@
 -- `mate_text::parse_leading_clips` meets its contract: the scan of what is left, from what was found, is the scan of the whole text, and stops at a letter that is no clip.
 use Rattle.mate_text.specs.declared.Lead.{Lead}
 use mathlib.Core.Path.{_≡_, sym, ap, _∙_}
-use mathlib.Core.Bool.{true}
+use mathlib.Core.Bool.{true, cond}
 use Prim.Native.Nat.{ℕ, _+_, _-_, _≤_, _<_}
 use native.Mathlib.Omega.{arith}
 use lib.IntN.{pos}
-use lib.ListN.{length, drop}
+use lib.ListN.{length, drop, getD}
 use denote.Ref.{now}
 use mir.Syntax.{w32}
 use mir.Val.{toZ, ofZ}
@@ -18,11 +18,27 @@ use Rattle.mate_text.proofs.parse_leading_clips.Statement.{statement}
 use Rattle.mate_text.proofs.parse_leading_clips.Tie as tie
 
 abbrev Inv-loop : tie.InvT-loop
-Inv-loop text s₀ i₀ s i =
-    (i ≤ length text) × (scan leadPiece (s .run .0) (s .found) (drop i text) ≡ scan leadPiece 0 (record { clips = pos 0; on = true }) text)
+Inv-loop text run₀ found₀ i₀ run found i =
+    (i ≤ length text) × (scan leadPiece (run .0) found (drop i text) ≡ scan leadPiece 0 (record { clips = pos 0; on = true }) text)
 
 abbrev μ-loop : tie.MeasureT-loop
-μ-loop text s₀ i₀ s i = length text - i
+μ-loop text run₀ found₀ i₀ run found i = length text - i
+
+-- the piece that the byte may have ended is taken in, and the scan goes on
+turn : (q : tie.After-lead-piece Inv-loop μ-loop)
+    → let l = q .before .before .before .before .before in
+    let text = now (l .before .before .before .args .text) in
+    scan leadPiece (q .before .before .read-byte .result .run .0) (q .lead-piece .result) (drop (l .loop .i + 1) text) ≡ scan leadPiece 0 (record { clips = pos 0; on = true }) text
+turn q =
+    let b = q .before .before in
+    let l = b .before .before .before in
+    let r = b .read-byte .result in
+    let text = now (l .before .before .before .args .text) in
+    let h : l .loop .i < length text = b .before .before .loop-test .taken in
+    let n : toZ w32 (ofZ w32 (r .number)) ≡ r .number = search needs in
+    let p : q .lead-piece .result ≡ cond (r .ended) (leadPiece (l .loop .found) (r .number) (getD text (l .loop .i) 0)) (l .loop .found) = simp n at (q .lead-piece .ensures) in
+    scan-turn leadPiece text (l .loop .i) (l .loop .run .0) (r .run .0) (l .loop .found) (q .lead-piece .result) (r .ended) (r .number) h (b .read-byte .ensures) p
+    ∙ l .loop .inv .1
 
 new-requires : tie.Need-new-requires Inv-loop μ-loop
 new-requires c κs = tt
@@ -30,22 +46,25 @@ new-requires c κs = tt
 loop-holds : tie.Need-loop-holds Inv-loop μ-loop
 loop-holds c = (omega arith, ap (λ (x : ℕ). scan leadPiece x (record { clips = pos 0; on = true }) (now (c .before .before .args .text))) (c .new .ensures))
 
-shared-slice-read-lead-step : tie.Need-shared-slice-read-lead-step Inv-loop μ-loop
-shared-slice-read-lead-step c = omega arith
+shared-slice-read-b : tie.Need-shared-slice-read-b Inv-loop μ-loop
+shared-slice-read-b c = omega arith
 
-lead-step-requires : tie.Need-lead-step-requires Inv-loop μ-loop
-lead-step-requires c κs = tt
+read-byte-requires : tie.Need-read-byte-requires Inv-loop μ-loop
+read-byte-requires c κs = tt
+
+lead-piece-requires : tie.Need-lead-piece-requires Inv-loop μ-loop
+lead-piece-requires c κs = tt
 
 returns : tie.Need-returns Inv-loop μ-loop
 returns c =
-    let t = c .before .before .before .before in
-    let l = t .before .before .before in
-    let text = now (l .before .before .before .args .text) in
-    let h : l .loop .i < length text = t .before .before .loop-test .taken in
-    let r = t .lead-step .result in
-    let e : toZ w32 (ofZ w32 (r .found .clips)) ≡ r .found .clips = search needs in
-    let g = scan-turn leadPiece text (l .loop .i) (l .loop .s .run .0) (r .run .0) (l .loop .s .found) (r .found) h (t .lead-step .ensures .0) (t .lead-step .ensures .1) ∙ l .loop .inv .1 in
-    e ∙ ap (λ (f : Lead). f .clips) (sym (scan-off (drop (l .loop .i + 1) text) (r .run .0) (r .found) (not-true _ (c .before .if1 .taken))) ∙ g) ∙ leading-is text
+    let q = c .before .before .before in
+    let b = q .before .before in
+    let l = b .before .before .before in
+    let r = q .lead-piece .result in
+    let rest = drop (l .loop .i + 1) (now (l .before .before .before .args .text)) in
+    let e : toZ w32 (ofZ w32 (r .clips)) ≡ r .clips = search needs in
+    e ∙ ap (λ (f : Lead). f .clips) (sym (scan-off rest (b .read-byte .result .run .0) r (not-true _ (c .before .if1 .taken))) ∙ turn q)
+    ∙ leading-is (now (l .before .before .before .args .text))
 
 add-i : tie.Need-add-i Inv-loop μ-loop
 add-i c = omega arith
@@ -54,22 +73,14 @@ loop-less : tie.Need-loop-less Inv-loop μ-loop
 loop-less c = omega arith
 
 loop-again : tie.Need-loop-again Inv-loop μ-loop
-loop-again c =
-    let t = c .before .before .before in
-    let l = t .before .before .before in
-    let text = now (l .before .before .before .args .text) in
-    let h : l .loop .i < length text = t .before .before .loop-test .taken in (
-      omega arith,
-      scan-turn leadPiece text (l .loop .i) (l .loop .s .run .0) _ (l .loop .s .found) _ h (t .lead-step .ensures .0) (t .lead-step .ensures .1) ∙ l .loop .inv .1,
-    )
+loop-again c = (omega arith, turn (c .before .before .before))
 
 returns-2 : tie.Need-returns-2 Inv-loop μ-loop
 returns-2 c =
     let l = c .before .before in
     let text = now (l .before .before .before .args .text) in
-    let s = l .loop .s in
-    let r : toZ w32 (ofZ w32 (s .found .clips)) ≡ s .found .clips = search needs in
-    let e = sym (scan-end leadPiece text (l .loop .i) (s .run .0) (s .found) (omega arith)) ∙ l .loop .inv .1 in
+    let r : toZ w32 (ofZ w32 (l .loop .found .clips)) ≡ l .loop .found .clips = search needs in
+    let e = sym (scan-end leadPiece text (l .loop .i) (l .loop .run .0) (l .loop .found) (omega arith)) ∙ l .loop .inv .1 in
     r ∙ ap (λ (f : Lead). f .clips) e ∙ leading-is text
 
 pub parse-leading-clips-spec : {M : Type 1} → statement M
@@ -80,8 +91,9 @@ parse-leading-clips-spec =
     μ-loop
     new-requires
     loop-holds
-    shared-slice-read-lead-step
-    lead-step-requires
+    shared-slice-read-b
+    read-byte-requires
+    lead-piece-requires
     returns
     add-i
     loop-less
