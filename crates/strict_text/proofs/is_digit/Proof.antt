@@ -1,0 +1,15 @@
+use Rattle.strict_text.proofs.is_digit.Statement.{statement}
+use Rattle.strict_text.proofs.is_digit.Tie as tie
+use Rattle.strict_text.proofs.is_digit.Reads as reads
+use Rattle.strict_text.proofs.is_digit.Lts as lts
+
+-- src/lib.rt:66:1
+returns : tie.Need-returns
+returns c = ?
+
+-- src/lib.rt:66:1
+returns-2 : tie.Need-returns-2
+returns-2 c = ?
+
+pub is-digit-spec : {M : Type 1} → statement M
+is-digit-spec = tie.close (tie.spec returns returns-2)
