@@ -4,9 +4,9 @@ use mathlib.Core.Path.{_≡_}
 use mathlib.Core.Bool.{Bool, true, false, cond}
 use mathlib.Core.List.{List, [], _∷_}
 use lib.IntN.{pos}
-use lib.ListN.{length, getD, drop}
-use lib.Dec.{ltb}
-use Rattle.sam.specs.Op.{lenOf, codeOf, opOf}
+use lib.ListN.{length, drop}
+use lib.Dec.{ltb, eqb}
+use Rattle.sam.specs.Op.{lenOf, codeOf, opOf, isRef}
 use Rattle.strict_text.specs.Text.{rowFrom, opsFrom}
 use Rattle.strict_text.specs.declared.Token.{Token}
 use Rattle.strict_text.specs.declared.Token.the-variants as Token
@@ -39,7 +39,7 @@ TokenAt s i (Token.Op len code next) = OpAt s i len code next
 TokenAt s i Token.Bad = NoneAt s i
 
 unfoldable pub codeClass : ℕ → Class
-codeClass c = getD (Reference ∷ Other ∷ Reference ∷ Reference ∷ Soft ∷ Hard ∷ Other ∷ Reference ∷ Reference ∷ []) c Unknown
+codeClass c = cond (isRef c) Reference (cond (eqb c 4) Soft (cond (eqb c 5) Hard (cond (ltb 8 c) Unknown Other)))
 
 unfoldable pub classOf : ℕ → Class
 unfolding codeClass

@@ -116,22 +116,24 @@ fn token_at(text: &[u8], at: usize) -> Token
     Token::Bad
 }
 
-// The class of a code of a letter.
+// The class of an op with this code.
 fn code_class(code: u32) -> Class
+    requires { ⌜ code < 16 ⌝ }
     ensures { λ r. ⌜ r ≡ codeClass code ⌝ }
 {
-    match code {
-        0 => Class::Reference,
-        1 => Class::Other,
-        2 => Class::Reference,
-        3 => Class::Reference,
-        4 => Class::Soft,
-        5 => Class::Hard,
-        6 => Class::Other,
-        7 => Class::Reference,
-        8 => Class::Reference,
-        _ => Class::Unknown,
+    if ops::consumes_ref(code) {
+        return Class::Reference;
     }
+    if code == 4 {
+        return Class::Soft;
+    }
+    if code == 5 {
+        return Class::Hard;
+    }
+    if 8 < code {
+        return Class::Unknown;
+    }
+    Class::Other
 }
 
 fn class_of(op: u32) -> Class
@@ -224,23 +226,29 @@ fn is_wrong(p: Place) -> bool
     }
 }
 
+// The reference bases of an op.
+fn ref_bases(k: Class, len: u32) -> u32
+    ensures { λ r. ⌜ (r ≡ refOf k len) × (r ≤ len) ⌝ }
+{
+    match k {
+        Class::Reference => len,
+        Class::Other => 0,
+        Class::Soft => 0,
+        Class::Hard => 0,
+        Class::Unknown => 0,
+    }
+}
+
 // The reference bases with an op more.
 fn further(refs: u32, k: Class, len: u32) -> u32
     requires { ⌜ (refs ≤ 2147483647) × (len ≤ 268435455) ⌝ }
     ensures { λ r. ⌜ r ≡ min (refs + refOf k len) 2147483647 ⌝ }
 {
-    match k {
-        Class::Reference => {
-            if 2147483647 < refs + len {
-                return 2147483647;
-            }
-            refs + len
-        }
-        Class::Other => refs,
-        Class::Soft => refs,
-        Class::Hard => refs,
-        Class::Unknown => refs,
+    let sum = refs + ref_bases(k, len);
+    if 2147483647 < sum {
+        return 2147483647;
     }
+    sum
 }
 
 // One op more.

@@ -1,73 +1,74 @@
+-- What is left of the pass at i is the whole pass.
+use Prim.Native.Nat.{ℕ, _+_, _-_, _≤_, _<_}
+use mathlib.Core.Path.{_≡_, refl, sym, ap, _∙_, subst}
+use native.Mathlib.Omega.{arith}
+use borrow.Author.Needs.{needs}
+use lib.ListN.{length}
+use Rattle.strict_text.specs.Text.{isRow, textOps}
+use Rattle.strict_text.specs.Pass.{OpAt, TokenAt, codeClass, tookOf, atStart}
+use Rattle.strict_text.specs.declared.Took.{Took}
+use Rattle.strict_text.proofs.PassLaws.{leftOf, leftAt, left-measured, took-fits, pass-none, pass-end, pass-more, pass-stop}
 use Rattle.strict_text.proofs.measure.Statement.{statement}
 use Rattle.strict_text.proofs.measure.Tie as tie
-use Rattle.strict_text.proofs.measure.Reads as reads
-use Rattle.strict_text.proofs.measure.Lts as lts
-use Rattle.strict_text.proofs.code_class.Reads as code-class-reads
-use Rattle.strict_text.proofs.ending.Reads as ending-reads
-use Rattle.strict_text.proofs.take_op.Reads as take-op-reads
-use Rattle.strict_text.proofs.token_at.Reads as token-at-reads
 
 abbrev Inv-loop : tie.InvT-loop
-Inv-loop text seen₀ i₀ seen i = ?
+Inv-loop text seen₀ i₀ seen i =
+    (i ≤ length text)
+    × (seen .n ≤ i)
+    × (seen .refs ≤ 2147483647)
+    × (leftAt seen i text ≡ leftOf atStart (isRow text) (textOps text))
 
 abbrev μ-loop : tie.MeasureT-loop
-μ-loop text seen₀ i₀ seen i = ?
+μ-loop text seen₀ i₀ seen i = length text - i
 
--- src/lib.rt:284:5
+-- the op that was read at i
+found : (c : tie.After-len Inv-loop μ-loop) → TokenAt (c .before .before .before .before .before .before .args .text .now) (c .before .before .before .before .loop .i) (c .before .before .token-at .result)
+found c = c .before .before .token-at .ensures
+
 loop-holds : tie.Need-loop-holds Inv-loop μ-loop
-loop-holds c = ?
+loop-holds c = (omega arith, omega arith, omega arith, refl)
 
--- src/lib.rt:285:42
 token-at-requires : tie.Need-token-at-requires Inv-loop μ-loop
-token-at-requires c κs = ?
+token-at-requires c κs = omega arith
 
--- src/lib.rt:285:23
 enum-known-len : tie.Need-enum-known-len Inv-loop μ-loop
-enum-known-len c = ?
+enum-known-len c = search needs
 
--- src/lib.rt:286:13
 enum-told : tie.Need-enum-told Inv-loop μ-loop
-enum-told c = ?
+enum-told c = search needs
 
--- src/lib.rt:286:13
 returns : tie.Need-returns Inv-loop μ-loop
 returns c = ?
 
--- src/lib.rt:288:51
 code-class-requires : tie.Need-code-class-requires Inv-loop μ-loop
 code-class-requires c κs = ?
 
--- src/lib.rt:288:32
 take-op-requires : tie.Need-take-op-requires Inv-loop μ-loop
 take-op-requires c κs = ?
 
--- src/lib.rt:288:24
 enum-known-more : tie.Need-enum-known-more Inv-loop μ-loop
-enum-known-more c = ?
+enum-known-more c = search needs
 
--- src/lib.rt:289:13
 enum-told-2 : tie.Need-enum-told-2 Inv-loop μ-loop
-enum-told-2 c = ?
+enum-told-2 c = search needs
 
--- src/lib.rt:289:13
 returns-2 : tie.Need-returns-2 Inv-loop μ-loop
 returns-2 c = ?
 
--- src/lib.rt:284:5
 loop-less : tie.Need-loop-less Inv-loop μ-loop
 loop-less c = ?
 
--- src/lib.rt:284:5
 loop-again : tie.Need-loop-again Inv-loop μ-loop
 loop-again c = ?
 
--- src/lib.rt:294:5
 ending-requires : tie.Need-ending-requires Inv-loop μ-loop
-ending-requires c κs = ?
+ending-requires c κs = c .before .loop .inv .2
 
--- src/lib.rt:275:1
 returns-3 : tie.Need-returns-3 Inv-loop μ-loop
-returns-3 c = ?
+returns-3 c =
+    let l = c .before .before in
+    let text = l .before .before .args .text .now in
+    c .ending .ensures ∙ sym (pass-end text (l .loop .i) (l .loop .seen) (omega arith)) ∙ l .loop .inv .3 ∙ left-measured text
 
 pub measure-spec : {M : Type 1} → statement M
 measure-spec =

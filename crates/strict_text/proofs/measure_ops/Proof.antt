@@ -1,70 +1,107 @@
+-- What is left of the walk at i is the whole walk.
+use Prim.Native.Nat.{ℕ, _+_, _-_, _≤_, _<_}
+use mathlib.Core.Path.{_≡_, refl, sym, ap, _∙_, subst}
+use native.Mathlib.Omega.{arith}
+use borrow.Author.Needs.{needs}
+use lib.ListN.{length, drop}
+use Rattle.lists.proofs.Walks.{step, done}
+use Rattle.oplist.specs.Ops.{opsOf}
+use Rattle.sam.specs.Op.{lenOf}
+use Rattle.strict_text.specs.Pass.{classOf, tookOf, atStart, walkOf}
+use Rattle.strict_text.specs.declared.Took.{Took}
+use Rattle.strict_text.proofs.PassLaws.{walk-measured, took-fits, walk-more, walk-stop}
 use Rattle.strict_text.proofs.measure_ops.Statement.{statement}
 use Rattle.strict_text.proofs.measure_ops.Tie as tie
-use Rattle.strict_text.proofs.measure_ops.Reads as reads
-use Rattle.strict_text.proofs.measure_ops.Lts as lts
-use Rattle.oplist.proofs.count.Reads as count-reads
-use Rattle.oplist.proofs.op_at.Reads as op-at-reads
-use Rattle.strict_text.proofs.class_of.Reads as class-of-reads
-use Rattle.strict_text.proofs.ending.Reads as ending-reads
-use Rattle.strict_text.proofs.take_op.Reads as take-op-reads
 
 abbrev Inv-loop : tie.InvT-loop
-Inv-loop words rec list n seen₀ i₀ seen i = ?
+Inv-loop words rec list n seen₀ i₀ seen i =
+    (i ≤ n)
+    × (seen .n ≤ i)
+    × (seen .refs ≤ 2147483647)
+    × (walkOf seen (drop i (opsOf words rec list)) ≡ walkOf atStart (opsOf words rec list))
 
 abbrev μ-loop : tie.MeasureT-loop
-μ-loop words rec list n seen₀ i₀ seen i = ?
+μ-loop words rec list n seen₀ i₀ seen i = n - i
 
--- src/lib.rt:301:9
+-- what the walk made of the op at i
+took : (c : tie.After-take-op Inv-loop μ-loop) (r : Took) → c .take-op .result ≡ r
+    → tookOf (c .before .before .before .before .loop .seen) (lenOf (c .before .before .op-at .result)) (classOf (c .before .before .op-at .result)) ≡ r
+took c r e =
+    let o = c .before .before .op-at .result in
+    ap (tookOf (c .before .before .before .before .loop .seen) (lenOf o)) (sym (c .before .class-of .ensures)) ∙ sym (c .take-op .ensures) ∙ e
+
 count-requires : tie.Need-count-requires Inv-loop μ-loop
-count-requires c κs = ?
+count-requires c κs = tt
 
--- src/lib.rt:308:5
 loop-holds : tie.Need-loop-holds Inv-loop μ-loop
-loop-holds c = ?
+loop-holds c = (omega arith, omega arith, omega arith, refl)
 
--- src/lib.rt:309:13
 op-at-requires : tie.Need-op-at-requires Inv-loop μ-loop
-op-at-requires c κs = ?
+op-at-requires c κs = omega (arith, c .before .before .count .ensures)
 
--- src/lib.rt:310:55
 class-of-requires : tie.Need-class-of-requires Inv-loop μ-loop
-class-of-requires c κs = ?
+class-of-requires c κs = tt
 
--- src/lib.rt:310:32
 take-op-requires : tie.Need-take-op-requires Inv-loop μ-loop
-take-op-requires c κs = ?
+take-op-requires c κs =
+    let l = c .before .before .before in
+    (omega (arith, l .before .count .ensures), l .loop .inv .2, omega arith)
 
--- src/lib.rt:310:24
 enum-known-more : tie.Need-enum-known-more Inv-loop μ-loop
-enum-known-more c = ?
+enum-known-more c = search needs
 
--- src/lib.rt:311:13
 enum-told : tie.Need-enum-told Inv-loop μ-loop
-enum-told c = ?
+enum-told c = search needs
 
--- src/lib.rt:311:13
 returns : tie.Need-returns Inv-loop μ-loop
-returns c = ?
+returns c =
+    let k = c .before .before in
+    let l = k .before .before .before .before in
+    let a = l .before .before .before .before .args in
+    let xs = opsOf (a .words .now) (a .rec .now) (a .list) in
+    let o = k .before .before .op-at in
+    sym (ap (walkOf (l .loop .seen)) (step xs (l .loop .i) (o .result) (o .ensures) (omega (arith, l .before .count .ensures)))
+    ∙ walk-stop (l .loop .seen) (o .result) (drop (l .loop .i + 1) xs) (took k _ (c .enum-told .given .1)))
+    ∙ l .loop .inv .3
+    ∙ walk-measured xs
 
--- src/lib.rt:314:9
 add-i : tie.Need-add-i Inv-loop μ-loop
-add-i c = ?
+add-i c = omega arith
 
--- src/lib.rt:308:5
 loop-less : tie.Need-loop-less Inv-loop μ-loop
-loop-less c = ?
+loop-less c = omega arith
 
--- src/lib.rt:308:5
 loop-again : tie.Need-loop-again Inv-loop μ-loop
-loop-again c = ?
+loop-again c =
+    let k = c .before .before .before in
+    let l = k .before .before .before .before in
+    let a = l .before .before .before .before .args in
+    let xs = opsOf (a .words .now) (a .rec .now) (a .list) in
+    let o = k .before .before .op-at in
+    let t = c .before .more .given .0 .0 in
+    let e = took k _ (c .before .more .given .1) in
+    let f = took-fits (l .loop .seen) t (lenOf (o .result)) (classOf (o .result)) e in (
+      omega arith,
+      omega arith,
+      f .1,
+      sym (ap (walkOf (l .loop .seen)) (step xs (l .loop .i) (o .result) (o .ensures) (omega (arith, l .before .count .ensures)))
+          ∙ walk-more (l .loop .seen) (o .result) (drop (l .loop .i + 1) xs) t e)
+          ∙ l .loop .inv .3,
+    )
 
--- src/lib.rt:316:5
 ending-requires : tie.Need-ending-requires Inv-loop μ-loop
-ending-requires c κs = ?
+ending-requires c κs = c .before .loop .inv .2
 
--- src/lib.rt:298:1
 returns-2 : tie.Need-returns-2 Inv-loop μ-loop
-returns-2 c = ?
+unfolding walkOf
+returns-2 c =
+    let l = c .before .before in
+    let a = l .before .before .before .before .args in
+    let xs = opsOf (a .words .now) (a .rec .now) (a .list) in
+    c .ending .ensures
+    ∙ sym (ap (walkOf (l .loop .seen)) (done xs (l .loop .i) (omega (arith, l .before .count .ensures))))
+    ∙ l .loop .inv .3
+    ∙ walk-measured xs
 
 pub measure-ops-spec : {M : Type 1} → statement M
 measure-ops-spec =

@@ -1,36 +1,41 @@
+-- The place moves, the op is counted, and its reference bases are added.
 use borrow.Author.Needs.{needs}
+use mathlib.Core.Path.{_≡_, refl, sym, ap, _∙_, subst}
+use mathlib.Core.Bool.{true, false}
+use Rattle.strict_text.specs.Pass.{stepOf, isWrong}
 use Rattle.strict_text.proofs.take_op.Statement.{statement}
 use Rattle.strict_text.proofs.take_op.Tie as tie
-use Rattle.strict_text.proofs.take_op.Reads as reads
-use Rattle.strict_text.proofs.take_op.Lts as lts
-use Rattle.strict_text.proofs.further.Reads as further-reads
-use Rattle.strict_text.proofs.is_wrong.Reads as is-wrong-reads
-use Rattle.strict_text.proofs.step.Reads as step-reads
 
--- src/lib.rt:252:9
+moved : (c : tie.After-is-wrong) → isWrong (stepOf (c .before .before .args .seen .place) (c .before .before .args .k)) ≡ c .is-wrong .result
+moved c = ap isWrong (sym (c .before .step .ensures)) ∙ sym (c .is-wrong .ensures)
+
 step-requires : tie.Need-step-requires
 step-requires c κs = search needs
 
--- src/lib.rt:253:8
 is-wrong-requires : tie.Need-is-wrong-requires
 is-wrong-requires c κs = search needs
 
--- src/lib.rt:254:9
 returns : tie.Need-returns
-returns c = ?
+returns c = rw (moved (c .before) ∙ c .if1 .taken)
 
--- src/lib.rt:258:12
 add-t7 : tie.Need-add-t7
 add-t7 c = search needs
 
--- src/lib.rt:259:15
 further-requires : tie.Need-further-requires
 further-requires c κs = search needs
 
--- src/lib.rt:247:1
 returns-2 : tie.Need-returns-2
-returns-2 c = ?
+returns-2 c =
+    let w = c .before .before in
+    rw (moved (w .before) ∙ w .if1 .left, w .before .before .step .ensures, c .further .ensures)
 
 pub take-op-spec : {M : Type 1} → statement M
 take-op-spec =
-    tie.close (tie.spec step-requires is-wrong-requires returns add-t7 further-requires returns-2)
+    tie.close
+    (tie.spec
+    step-requires
+    is-wrong-requires
+    returns
+    add-t7
+    further-requires
+    returns-2)
