@@ -71,7 +71,7 @@ regroup true true false s k r = sym (and-false k)
 regroup true true true false k r = sym (and-false k)
 regroup true true true true k r = refl
 
-pub valid-is : (xs : List ℕ) → validMapped xs ≡ (not (isEmpty xs) && (plain xs && (placed true true xs && anyRef xs)))
+valid-is : (xs : List ℕ) → validMapped xs ≡ (not (isEmpty xs) && (plain xs && (placed true true xs && anyRef xs)))
 unfolding validMapped isEmpty allHard
 valid-is xs =
     regroup (not (isEmpty xs)) (each noZero [] xs) (each hardOutside [] xs) (each softOutside [] xs) (each known [] xs) (anyRef xs)
@@ -175,12 +175,13 @@ unknown-run p o xs e = rw (e, step-unknown p) (wrong-run xs)
 odd-run : (xs : List ℕ) (p : Place) → plain xs ≡ false → acceptOf (run p xs) ≡ false
 unfolding plain run
 odd-run [] p e = absurd (false-true (sym e))
-odd-run (o ∷ xs) p e = go (ltb 0 (lenOf o)) (ltb (codeOf o) 9) refl refl e
+odd-run (o ∷ xs) p e = go (ltb 0 (lenOf o)) (ltb (codeOf o) 9) refl refl e (odd-run xs (stepOf p (classOf o)))
   where
-    go : (a b : Bool) → ltb 0 (lenOf o) ≡ a → ltb (codeOf o) 9 ≡ b → ((a && b) && plain xs) ≡ false → acceptOf (run p (o ∷ xs)) ≡ false
-    go true true q r t = odd-run xs (stepOf p (classOf o)) t
-    go true false q r t = unknown-run p o xs (odd-class o (ltb-false (codeOf o) 9 r))
-    go false b q r t = let h = ltb-false 0 (lenOf o) q in unknown-run p o xs (short-class o (omega arith))
+    go : (a b : Bool) → ltb 0 (lenOf o) ≡ a → ltb (codeOf o) 9 ≡ b → ((a && b) && plain xs) ≡ false
+        → (plain xs ≡ false → acceptOf (run (stepOf p (classOf o)) xs) ≡ false) → acceptOf (run p (o ∷ xs)) ≡ false
+    go true true q r t ih = ih t
+    go true false q r t ih = unknown-run p o xs (odd-class o (ltb-false (codeOf o) 9 r))
+    go false b q r t ih = let h = ltb-false 0 (lenOf o) q in unknown-run p o xs (short-class o (omega arith))
 
 -- what each place asks of the ops that are left
 record States (xs : List ℕ) : Type 0 where

@@ -8,6 +8,7 @@ use lib.Dec.{ltb}
 use Rattle.lists.specs.Lists.{sumOf, splice}
 use Rattle.signed.specs.Whole.{clamp32}
 use Rattle.sam.specs.Op.{refLen}
+use Rattle.oplist.specs.Ops.{mostOps}
 use Rattle.answers.specs.Settled.{Outcome, keeps}
 use Rattle.answers.specs.declared.Refusal.the-variants.{NotACigar, TooManyOps, NoRoom}
 use Rattle.answers.specs.declared.Count.{Count}
@@ -36,10 +37,10 @@ unfoldable pub parsed : List ℕ → List ℕ → Outcome Count
 unfolding strict
 parsed s d =
     cond (not (strict s)) (keeps (Count.Refused NotACigar) d)
-    (cond (ltb 65535 (length (textOps s))) (keeps (Count.Refused TooManyOps) d)
+    (cond (ltb mostOps (length (textOps s))) (keeps (Count.Refused TooManyOps) d)
     (cond (ltb (length d) (length (textOps s))) (keeps (Count.Refused NoRoom) d)
     (record { answer = Count.Number (length (textOps s)); left = splice d 0 (textOps s) })))
 
 -- `is_valid_mapped_cigar` of a lent list: 3
 unfoldable pub validity : List ℕ → Flag
-validity xs = cond (ltb 65535 (length xs)) (Flag.Refused TooManyOps) (Flag.Is (validMapped xs))
+validity xs = cond (ltb mostOps (length xs)) (Flag.Refused TooManyOps) (Flag.Is (validMapped xs))

@@ -20,7 +20,7 @@ unfolding twos32
 returns c =
     let s = c .before .before .before .args .seen in
     rw (sym (c .before .before .accept .ensures) ∙ c .before .if1 .taken)
-    (ap (Measured.Ops (s .n)) (c .of-bits .ensures ∙ rw (lt-ltb (s .refs) 2147483648 (omega arith)) refl))
+    (ap (Measured.Ops (s .n)) (search needs ∙ c .of-bits .ensures ∙ rw (lt-ltb (s .refs) 2147483648 (omega arith)) refl))
 
 returns-2 : tie.Need-returns-2
 returns-2 c = search needs

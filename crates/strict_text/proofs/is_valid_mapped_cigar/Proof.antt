@@ -1,41 +1,50 @@
+-- The walk decides.
 use borrow.Author.Needs.{needs}
+use native.Mathlib.Omega.{arith}
+use mathlib.Core.Path.{_≡_, refl, sym, ap, _∙_, subst}
+use borrow.Author.Tests.{lt-ltb, le-ltb}
+use mathlib.Core.Bool.{true, false}
+use Rattle.answers.specs.declared.Flag.the-variants as Flag
+use Rattle.strict_text.specs.Valid.{validMapped}
+use Rattle.strict_text.specs.Parsed.{validity, measuredOps}
+use Rattle.strict_text.proofs.PassLaws.{ops-bad, ops-some}
 use Rattle.strict_text.proofs.is_valid_mapped_cigar.Statement.{statement}
 use Rattle.strict_text.proofs.is_valid_mapped_cigar.Tie as tie
-use Rattle.strict_text.proofs.is_valid_mapped_cigar.Reads as reads
-use Rattle.strict_text.proofs.is_valid_mapped_cigar.Lts as lts
-use Rattle.oplist.proofs.lent.Reads as lent-reads
-use Rattle.strict_text.proofs.measure_ops.Reads as measure-ops-reads
 
--- src/lib.rt:368:9
 returns : tie.Need-returns
-returns c = ?
+unfolding validity
+returns c = rw (lt-ltb 65535 _ (c .if1 .taken))
 
--- src/lib.rt:370:48
 slice-aggregate-measure-ops : tie.Need-slice-aggregate-measure-ops
 slice-aggregate-measure-ops c = search needs
 
--- src/lib.rt:370:53
 lent-requires : tie.Need-lent-requires
 lent-requires c κs = search needs
 
--- src/lib.rt:370:31
 measure-ops-requires : tie.Need-measure-ops-requires
 measure-ops-requires c κs = search needs
 
 enum-told : tie.Need-enum-told
 enum-told c = search needs
 
--- src/lib.rt:371:9
 enum-told-2 : tie.Need-enum-told-2
 enum-told-2 c = search needs
 
--- src/lib.rt:371:9
 returns-2 : tie.Need-returns-2
-returns-2 c = ?
+unfolding validity measuredOps
+returns-2 c =
+    let m = c .before .before in
+    let xs = m .before .before .before .before .before .args .ops .now in
+    let e = m .measure-ops .ensures ∙ ap measuredOps (m .before .lent .ensures _) in
+    rw (le-ltb 65535 _ (m .before .before .before .if1 .left), ops-bad (validMapped xs) _ _ (sym e ∙ c .enum-told2 .given .1))
 
--- src/lib.rt:364:1
 returns-3 : tie.Need-returns-3
-returns-3 c = ?
+unfolding validity measuredOps
+returns-3 c =
+    let m = c .before .before in
+    let xs = m .before .before .before .before .before .args .ops .now in
+    let e = m .measure-ops .ensures ∙ ap measuredOps (m .before .lent .ensures _) in
+    rw (le-ltb 65535 _ (m .before .before .before .if1 .left), ops-some (validMapped xs) _ _ _ _ (sym e ∙ c .enum-told .given .1) .0)
 
 pub is-valid-mapped-cigar-spec : {M : Type 1} → statement M
 is-valid-mapped-cigar-spec =
