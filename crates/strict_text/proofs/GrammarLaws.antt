@@ -10,7 +10,7 @@ use borrow.Author.Tests.{le-leb, ltb-false, eqb-true, eqb-false, not-true}
 use Rattle.lists.proofs.Tables.{below-at}
 use Rattle.sam.specs.Op.{lenOf, codeOf, opOf, letters}
 use Rattle.sam.specs.Text.{Digit, Digits, value, Spells, Spells.end, Spells.op}
-use Rattle.strict_text.specs.Text.{isDigit, place, letterCode, Next, Next.Digit, Next.Letter, Next.Bad, nextOf, onNext, rowFrom, isRow, opsFrom, textOps}
+use Rattle.strict_text.specs.Text.{isDigit, place, letterCode, Next, Next.Number, Next.Letter, Next.Bad, nextOf, onNext, rowFrom, isRow, opsFrom, textOps}
 use Rattle.strict_text.specs.Valid.{validMapped}
 use Rattle.strict_text.specs.Parsed.{strict}
 use Rattle.strict_text.specs.Meaning.{Each, Mapped, MappedText}
@@ -67,7 +67,7 @@ InRange o = (0 < lenOf o) × (lenOf o ≤ 268435455)
 pub complete : {s xs : List ℕ} → Spells s xs → Each InRange xs → (isRow s ≡ true) × (textOps s ≡ xs)
 unfolding rowFrom opsFrom
 complete Spells.end h = (refl, refl)
-complete (Spells.op d ds c {s} {xs} a k t) h =
+complete (Spells.op d ds c {s} {ops} a k t) h =
     let v = value 0 (d ∷ ds) in
     let l = getD letters c 0 in
     let n : lenOf (opOf v c) ≡ v = omega arith in
@@ -80,12 +80,12 @@ complete (Spells.op d ds c {s} {xs} a k t) h =
 -- ---- a text that is read is one of the grammar
 
 abbrev Says : ℕ → ℕ → Next → Type 0
-Says num b (Next.Digit v) = Digit b × (v ≡ num * 10 + (b - 48)) × (v ≤ 268435455)
+Says num b (Next.Number v) = Digit b × (v ≡ num * 10 + (b - 48)) × (v ≤ 268435455)
 Says num b (Next.Letter c) = (0 < num) × (c < 9) × (b ≡ getD letters c 0)
 Says num b Next.Bad = Unit {0}
 
 says-pick : (num b : ℕ) (t u v w : Bool) → isDigit b ≡ t → ltb 268435455 (num * 10 + (b - 48)) ≡ u → eqb num 0 ≡ v → ltb 8 (letterCode b) ≡ w
-    → Says num b (cond t (cond u Next.Bad (Next.Digit (num * 10 + (b - 48)))) (cond (v || w) Next.Bad (Next.Letter (letterCode b))))
+    → Says num b (cond t (cond u Next.Bad (Next.Number (num * 10 + (b - 48)))) (cond (v || w) Next.Bad (Next.Letter (letterCode b))))
 says-pick num b true true v w a e f g = tt
 says-pick num b true false v w a e f g =
     let d = digit-bounds b a in
@@ -127,7 +127,7 @@ Both s =
 mid-byte : (x : Next) (num b : ℕ) (s : List ℕ) → num ≤ 268435455 → Says num b x → Both s
     → onNext x (λ v. rowFrom v true s) (λ c. rowFrom 0 false s) false ≡ true → Tail num (b ∷ s) (onNext x (λ v. opsFrom v s) (λ c. opOf num c ∷ opsFrom 0 s) [])
 unfolding value
-mid-byte (Next.Digit v) num b s h w ih e =
+mid-byte (Next.Number v) num b s h w ih e =
     let t = ih .0 v (w .2) e in
     let q : value v (t .digits) ≡ value (num * 10 + (b - 48)) (t .digits) = ap (λ (k : ℕ). value k (t .digits)) (w .1) in
     record {
@@ -163,8 +163,8 @@ mid-byte Next.Bad num b s h w ih e = absurd (false-true e)
 start-byte : (x : Next) (b : ℕ) (s : List ℕ) → Says 0 b x → Both s
     → onNext x (λ v. rowFrom v true s) (λ c. rowFrom 0 false s) false ≡ true → Whole (b ∷ s) (onNext x (λ v. opsFrom v s) (λ c. opOf 0 c ∷ opsFrom 0 s) [])
 unfolding value mid-byte
-start-byte (Next.Digit v) b s w ih e =
-    let t = mid-byte (Next.Digit v) 0 b s (omega arith) w ih e in
+start-byte (Next.Number v) b s w ih e =
+    let t = mid-byte (Next.Number v) 0 b s (omega arith) w ih e in
     let u = ih .0 v (w .2) e in
     let k = t .known in
     let n : lenOf (opOf (value 0 (t .digits)) (t .code)) ≡ value 0 (t .digits) = omega arith in

@@ -5,3 +5,4 @@ pub mod PutLaws
 pub mod ValidLaws
 pub mod GrammarLaws
 pub mod Marked
+pub mod RoundTrip

@@ -158,14 +158,16 @@ pub mapped-valid : (xs : List ℕ) → Mapped xs → validMapped xs ≡ true
 unfolding validMapped
 mapped-valid xs m =
     let r = m .reference in
+    let some : not (isEmpty xs) ≡ true = rw (r .split) (some-ops (r .left) (r .op) (r .right)) in
+    let ref : anyRef xs ≡ true = rw (r .split) (any-ref (r .left) (r .op) (r .right) (r .reference)) in
     both-true _ _
     (both-true _ _
     (both-true _ _
     (both-true _ _
     (both-true _ _
-    (rw (r .split) (some-ops (r .left) (r .op) (r .right)))
+    some
     (all-each (λ o. ltb 0 (lenOf o)) (λ o. 0 < lenOf o) (λ o q. lt-ltb 0 (lenOf o) q) xs [] (m .lengths)))
     (hards-placed xs (m .placed)))
     (softs-placed xs (m .placed)))
     (all-each (λ o. ltb (codeOf o) 9) (λ o. codeOf o < 9) (λ o q. lt-ltb (codeOf o) 9 q) xs [] (m .codes)))
-    (rw (r .split) (any-ref (r .left) (r .op) (r .right) (r .reference)))
+    ref
