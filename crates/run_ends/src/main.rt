@@ -126,11 +126,19 @@ fn examples() {
     let r = with_op(with_op(record(99, REVERSE, 5), 0, 3, H), 1, 5, S);
     let s = with_op(with_op(with_op(r, 2, 10, M), 3, 4, S), 4, 2, H);
     show(b"3H5S10M4S2H at 99, reverse", &s, 99);
-    show(b"5S at 99, reverse", &with_op(record(99, REVERSE, 1), 0, 5, S), 99);
+    show(
+        b"5S at 99, reverse",
+        &with_op(record(99, REVERSE, 1), 0, 5, S),
+        99,
+    );
 }
 
 fn without_a_place() {
-    show(b"10M at 99, unmapped", &with_op(record(99, UNMAPPED, 1), 0, 10, M), 99);
+    show(
+        b"10M at 99, unmapped",
+        &with_op(record(99, UNMAPPED, 1), 0, 10, M),
+        99,
+    );
     show(b"no ops at 99", &record(99, 0, 0), 99);
     show(b"12 ops that overrun, at 99", &record(99, 0, 12), 99);
     show(b"31 bytes", &[0u8; 31], 99);
@@ -138,20 +146,48 @@ fn without_a_place() {
 
 // 4 at both ends of the range: `pos` + 1, position + reference + clips, and then the last - 1.
 fn ends_of_the_range() {
-    show(b"1M at 2147483646, reverse", &with_op(record(2147483646, REVERSE, 1), 0, 1, M), 2147483646);
-    show(b"1M at 2147483647", &with_op(record(2147483647, 0, 1), 0, 1, M), 2147483647);
+    show(
+        b"1M at 2147483646, reverse",
+        &with_op(record(2147483646, REVERSE, 1), 0, 1, M),
+        2147483646,
+    );
+    show(
+        b"1M at 2147483647",
+        &with_op(record(2147483647, 0, 1), 0, 1, M),
+        2147483647,
+    );
     show(b"1M at -1", &with_op(record(4294967295, 0, 1), 0, 1, M), -1);
-    show(b"5S1M at -2147483648", &with_op(with_op(record(2147483648, 0, 2), 0, 5, S), 1, 1, M), -2147483648);
-    show(b"5S at -2147483648, reverse", &with_op(record(2147483648, REVERSE, 1), 0, 5, S), -2147483648);
+    show(
+        b"5S1M at -2147483648",
+        &with_op(with_op(record(2147483648, 0, 2), 0, 5, S), 1, 1, M),
+        -2147483648,
+    );
+    show(
+        b"5S at -2147483648, reverse",
+        &with_op(record(2147483648, REVERSE, 1), 0, 5, S),
+        -2147483648,
+    );
 }
 
 // Clips of 2^31 bases between two reference ops don't count, and overflow all the same; before any reference op they don't.
 fn long_sums() {
     let between = with_run(with_op(record(0, REVERSE, 11), 0, 1, M), 1, S);
-    show(b"1M, S of 2^31 in all, 1M at 0, reverse", &with_op(between, 10, 1, M), 0);
+    show(
+        b"1M, S of 2^31 in all, 1M at 0, reverse",
+        &with_op(between, 10, 1, M),
+        0,
+    );
     let before = with_run(record(0, REVERSE, 10), 0, S);
-    show(b"S of 2^31 in all, 1M at 0, reverse", &with_op(before, 9, 1, M), 0);
-    show(b"M of 2^31 in all at 0, reverse", &with_run(record(0, REVERSE, 9), 0, M), 0);
+    show(
+        b"S of 2^31 in all, 1M at 0, reverse",
+        &with_op(before, 9, 1, M),
+        0,
+    );
+    show(
+        b"M of 2^31 in all at 0, reverse",
+        &with_run(record(0, REVERSE, 9), 0, M),
+        0,
+    );
 }
 
 fn look(name: &[u8], ops: &[u32], start: u64, pos: u64, asked: bool) {
