@@ -4,6 +4,7 @@ mod end_calls;
 mod field_calls;
 mod length_calls;
 mod lookup_calls;
+mod mate_calls;
 mod op_calls;
 
 ghost use mathlib.Core.Path.{_≡_};
