@@ -36,7 +36,7 @@ read-le o = go (isRead (codeOf o))
     go true = omega arith
     go false = omega arith
 
-pub read-not : (o : ℕ) → isRead (codeOf o) ≡ false → readLen o ≡ 0
+read-not : (o : ℕ) → isRead (codeOf o) ≡ false → readLen o ≡ 0
 unfolding readLen
 read-not o e = simp e
 
