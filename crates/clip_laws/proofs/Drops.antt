@@ -12,7 +12,7 @@ use Rattle.lists.proofs.Sums.{facing-facing}
 use Rattle.sam.specs.Op.{lenOf, codeOf, opOf, isRef, isQuery, refLen}
 use Rattle.sam.specs.Columns.{Column, spell, columns, refs}
 use Rattle.sam.proofs.ColumnLaws.{columns-cons, spell-add, spell-none, refs-append, refs-spell}
-use Rattle.sam.proofs.Lengths.{reference-length}
+use Rattle.sam.proofs.LengthLaws.{reference-length}
 use Rattle.ops.specs.Ops.{readLen}
 use Rattle.clip.specs.Clipping.{isHard, isSoft, runLen, afterRun, Taken, taking, Cut, hardOf, softOf, upgraded, cutInto, hardLen, softLen, inside, clipLen, clip}
 use Rattle.clip.specs.Answer.{clippedOps}
