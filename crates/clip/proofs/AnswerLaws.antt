@@ -32,7 +32,7 @@ module _ (xs : List ℕ) (a : ℕ) (b : Bool) (d : List ℕ) where
   unfolding clippedInto
   accepted h l = simp (le-ltb 268435455 (sumOf lenOf xs) h, le-ltb (length d) (length (clippedOps xs a b)) l)
 
-module _ (xs : List ℕ) (a : ℕ) (b : Bool) {skip heads first second lost : ℕ} (P : PlanIs (facing b xs) a skip heads first second lost) where
+module _ (xs : List ℕ) (b : Bool) {a skip heads first second lost : ℕ} (P : PlanIs (facing b xs) a skip heads first second lost) where
   ops-are : take heads (first ∷ (second ∷ [])) ++ drop skip (facing b xs) ≡ clip (facing b xs) a .ops
   ops-are = ap (λ (c : Cut). c .ops) (P .cut-is)
 

@@ -25,7 +25,7 @@ count-requires c κs = search needs
 sub-n : tie.Need-sub-n
 sub-n c = let k = c .before .before in
     let a = k .before .before .before .before .before .before .args in
-    let s = plan-skip (opsOf (a .words .now) (a .rec .now) (a .list)) (a .amount) (a .start) (k .make-plan .ensures) in
+    let s = plan-skip (opsOf (a .words .now) (a .rec .now) (a .list)) (a .start) (k .make-plan .ensures) in
     omega arith
 
 add-n : tie.Need-add-n
@@ -35,19 +35,19 @@ returns-2 : tie.Need-returns-2
 returns-2 c = let k = c .before .before .before .before in
     let a = k .before .before .before .before .before .before .args in
     let xs = opsOf (a .words .now) (a .rec .now) (a .list) in
-    let l = plan-length xs (a .amount) (a .start) (k .make-plan .ensures) in
+    let l = plan-length xs (a .start) (k .make-plan .ensures) in
     settled (no-room xs (a .amount) (a .start) (a .out .now) (omega arith) (omega arith))
 
 write-start-requires : tie.Need-write-start-requires
 write-start-requires c κs = let k = c .before .before .before .before .before .before in
     let a = k .before .before .before .before .before .before .args in
-    let s = plan-skip (opsOf (a .words .now) (a .rec .now) (a .list)) (a .amount) (a .start) (k .make-plan .ensures) in
+    let s = plan-skip (opsOf (a .words .now) (a .rec .now) (a .list)) (a .start) (k .make-plan .ensures) in
     (k .make-plan .ensures .heads-in, (s, omega arith))
 
 write-end-requires : tie.Need-write-end-requires
 write-end-requires c κs = let k = c .before .before .before .before .before .before in
     let a = k .before .before .before .before .before .before .args in
-    let s = plan-skip (opsOf (a .words .now) (a .rec .now) (a .list)) (a .amount) (a .start) (k .make-plan .ensures) in
+    let s = plan-skip (opsOf (a .words .now) (a .rec .now) (a .list)) (a .start) (k .make-plan .ensures) in
     (k .make-plan .ensures .heads-in, (s, omega arith))
 
 same-length : tie.Need-same-length
@@ -57,7 +57,7 @@ returns-3 : tie.Need-returns-3
 returns-3 c = let w = c .before .before in
     let k = w .before .before .before .before .before .before .before in
     let a = k .before .before .before .before .before .before .args in
-    done-start (opsOf (a .words .now) (a .rec .now) (a .list)) (a .amount) (a .start) (k .make-plan .ensures) (a .out .now) _ _ (omega arith) (w .before .before .before .if2 .left)
+    done-start (opsOf (a .words .now) (a .rec .now) (a .list)) (a .start) (k .make-plan .ensures) (a .out .now) _ _ (omega arith) (w .before .before .before .if2 .left)
     (ap (λ n. k .make-plan .result .heads + (n - k .make-plan .result .skip)) (w .before .before .before .before .before .before .count .ensures .0)) (w .before .before .if3 .taken) (w .write-start .ensures)
 
 same-length-2 : tie.Need-same-length-2
@@ -67,7 +67,7 @@ returns-4 : tie.Need-returns-4
 returns-4 c = let w = c .before .before in
     let k = w .before .before .before .before .before .before .before in
     let a = k .before .before .before .before .before .before .args in
-    done-end (opsOf (a .words .now) (a .rec .now) (a .list)) (a .amount) (a .start) (k .make-plan .ensures) (a .out .now) _ _ (omega arith) (w .before .before .before .if2 .left)
+    done-end (opsOf (a .words .now) (a .rec .now) (a .list)) (a .start) (k .make-plan .ensures) (a .out .now) _ _ (omega arith) (w .before .before .before .if2 .left)
     (ap (λ n. k .make-plan .result .heads + (n - k .make-plan .result .skip)) (w .before .before .before .before .before .before .count .ensures .0)) (w .before .before .if3 .left) (w .write-end .ensures)
 
 pub clip-ops-spec : {M : Type 1} → statement M
