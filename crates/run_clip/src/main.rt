@@ -3,11 +3,17 @@ use clip::Clipped;
 
 // An op's code, as its letter stands in texts.
 const M: u32 = 0;
+
 const I: u32 = 1;
+
 const D: u32 = 2;
+
 const N: u32 = 3;
+
 const S: u32 = 4;
+
 const H: u32 = 5;
+
 const P: u32 = 6;
 
 // A record with op i stored, and so many ops; as it is past its 7.
