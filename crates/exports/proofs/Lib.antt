@@ -1,4 +1,5 @@
 pub mod ExportLaws
 pub mod OpLaws
 pub mod BinLaws
+pub mod ClipLaws
 pub mod TextLaws

@@ -1,5 +1,6 @@
 // The static library: every call over numbers and slices, as include/cigar.h declares it.
 mod bin_calls;
+mod clip_calls;
 mod end_calls;
 mod field_calls;
 mod length_calls;

@@ -1,0 +1,4 @@
+pub mod CodeLaws
+pub mod RuleLaws
+pub mod WriteLaws
+pub mod AnswerLaws

@@ -1,0 +1,1 @@
+// What is promised of clipping beside its contract: definitions and proofs. No function stands here.
