@@ -1,0 +1,164 @@
+// Document 01, module 10: the query bases that a read has past its mate, over op lists wherever they lie.
+ghost use mathlib.Core.Path.{_≡_};
+ghost use Prim.Native.Nat.{_+_, _-_, _≤_, _<_, min};
+ghost use mathlib.Core.Bool.{cond, _&&_};
+ghost use lib.IntN.{pos, _+ℤ_, _-ℤ_};
+ghost use lib.Dec.{ltb};
+ghost use lib.Signed.{ltZ};
+ghost use Rattle.lists.specs.Lists.{facing};
+ghost use Rattle.signed.specs.Whole.{natural, clamp32};
+ghost use Rattle.sam.specs.Op.{codeOf, isQuery, refLen};
+ghost use Rattle.oplist.specs.Ops.{opsOf};
+ghost use Rattle.overhang.specs.Reach.{basesUpTo, clippedBases};
+ghost use Rattle.overhang.specs.Overhang.{endAt, gapTo};
+use answers::Count;
+use answers::Pos1;
+use answers::Refusal;
+use oplist::Ops;
+
+// Whether a stands before b.
+fn precedes(a: Pos1, b: Pos1) -> bool
+    ensures { λ r. ⌜ r ≡ ltZ (a .0) (b .0) ⌝ }
+{
+    if a.0 < b.0 {
+        return true;
+    }
+    false
+}
+
+// The smaller of two positions.
+fn earlier(a: Pos1, b: Pos1) -> Pos1
+    ensures { λ r. ⌜ r ≡ cond (ltZ (b .0) (a .0)) b a ⌝ }
+{
+    if precedes(b, a) {
+        return b;
+    }
+    a
+}
+
+// The larger of two positions.
+fn later(a: Pos1, b: Pos1) -> Pos1
+    ensures { λ r. ⌜ r ≡ cond (ltZ (a .0) (b .0)) b a ⌝ }
+{
+    if precedes(a, b) {
+        return b;
+    }
+    a
+}
+
+// n, or the largest number of an i32.
+fn held(n: u64) -> i32
+    ensures { λ r. ⌜ r ≡ clamp32 (pos n) ⌝ }
+{
+    if 2147483647 < n {
+        return 2147483647;
+    }
+    n as i32
+}
+
+// n positions after p.
+fn after(p: Pos1, n: u64) -> Pos1
+    ensures { λ r. ⌜ r .0 ≡ clamp32 (p .0 +ℤ clamp32 (pos n)) ⌝ }
+{
+    Pos1(signed::saturating_add(p.0, held(n)))
+}
+
+// n positions before p.
+fn ahead(p: Pos1, n: u64) -> Pos1
+    ensures { λ r. ⌜ r .0 ≡ clamp32 (p .0 -ℤ clamp32 (pos n)) ⌝ }
+{
+    Pos1(signed::saturating_sub(p.0, held(n)))
+}
+
+// The last position of an alignment with n reference bases.
+fn alignment_end(p: Pos1, n: u64) -> Pos1
+    ensures { λ r. ⌜ r .0 ≡ endAt (p .0) n ⌝ }
+{
+    after(ahead(p, 1), n)
+}
+
+// The positions from b to before a.
+fn gap(a: Pos1, b: Pos1) -> u64
+    ensures { λ r. ⌜ r ≡ gapTo (a .0) (b .0) ⌝ }
+{
+    signed::natural_of(signed::saturating_sub(a.0, b.0))
+}
+
+// What a has more than b.
+fn more(a: u64, b: u64) -> u64
+    ensures { λ r. ⌜ r ≡ a - b ⌝ }
+{
+    if a < b {
+        return 0;
+    }
+    a - b
+}
+
+// Whether an op with query bases over reference bases reaches past the next `span` positions.
+fn reaches_past(op: u32, span: u64) -> bool
+    ensures { λ r. ⌜ r ≡ (isQuery (codeOf op) && ltb span (refLen op)) ⌝ }
+{
+    if !ops::consumes_query(op) {
+        return false;
+    }
+    if span < ops::ref_len(op) {
+        return true;
+    }
+    false
+}
+
+// n places on; the last place is that of the largest number of an i32.
+fn place_after(place: u64, n: u64) -> u64
+    requires { ⌜ (place < 4294967296) × (n < 268435456) ⌝ }
+    ensures { λ r. ⌜ r ≡ min (place + n) 4294967295 ⌝ }
+{
+    let far = place + n;
+    if 4294967295 < far {
+        return 4294967295;
+    }
+    far
+}
+
+// The query bases up to position `target`, and the one on it where `on` is 1. A place is a position raised by 2^31.
+fn bases_up_to(words: &[u32], rec: &[u8], list: Ops, start: Pos1, target: Pos1, on: u64) -> u64
+    requires { ⌜ on ≤ 1 ⌝ }
+    ensures { λ r. ⌜ r ≡ basesUpTo on (target .0) (start .0) (opsOf (now (words .entry)) (now (rec .entry)) list) ⌝ }
+{
+    let n = oplist::count(words, rec, list);
+    let last = signed::raise(target.0);
+    let mut place = signed::raise(start.0);
+    let mut bases: u64 = 0;
+    let mut i: usize = 0;
+    while i < n {
+        if last < place {
+            return bases;
+        }
+        let op = oplist::op_at(words, rec, list, i);
+        let span = last - place + on;
+        if reaches_past(op, span) {
+            return bases + span;
+        }
+        bases += ops::query_len(op);
+        place = place_after(place, ops::ref_len(op));
+        i += 1;
+    }
+    bases
+}
+
+// The soft clipped bases at one end.
+fn soft_clip(words: &[u32], rec: &[u8], list: Ops, start: bool) -> u64
+    ensures { λ r. ⌜ r ≡ clippedBases (facing start (opsOf (now (words .entry)) (now (rec .entry)) list)) ⌝ }
+{
+    let n = oplist::count(words, rec, list);
+    let mut bases: u64 = 0;
+    let mut i: usize = 0;
+    while i < n {
+        let op = oplist::op_from(words, rec, list, start, i);
+        if !ops::is_clip(op) {
+            return bases;
+        }
+        bases += ops::query_len(op);
+        i += 1;
+    }
+    bases
+}
