@@ -1,3 +1,4 @@
+-- Document 01: "lent op lists hold at most 65,535 ops"; an op list lies in a lent list or in a record, and is empty where it overruns the record.
 -- The ops that an `Ops` stands for: in the bytes of a record, none where they overrun it, or the first of a list.
 use Prim.Native.Nat.{ℕ, _+_, _*_}
 use mathlib.Core.Bool.{Bool, true, false, cond}
@@ -11,3 +12,7 @@ unfoldable pub opsOf : List ℕ → List ℕ → Ops → List ℕ
 opsOf words rec ops =
     cond (ops .inside) (cond (leb (ops .at + 4 * ops .n) (length rec)) (opsIn rec (ops .at) (ops .n)) [])
     (take (ops .n) words)
+
+-- the most ops of a list, given or parsed: refusal 3
+abbrev pub mostOps : ℕ
+mostOps = 65535

@@ -1,0 +1,33 @@
+use Rattle.answers.specs.declared.Count.the-variants.{Number}
+use Rattle.lengths.specs.Lengths.{queryLength}
+use lib.ListN.{length}
+use Rattle.sam.specs.Record.{opsEnd}
+use Rattle.sam.specs.Op.{refLen, queryLen}
+use Rattle.lists.specs.Lists.{sumOf}
+use borrow.Author.Tests.{lt-ltb, le-ltb, leb-true, leb-false, not-true, not-false}
+use mathlib.Core.Path.{_≡_, refl, ap, sym, _∙_}
+use native.Mathlib.Omega.{arith}
+use borrow.Author.Needs.{needs}
+use Rattle.lengths.proofs.query_length_from_cigar.Statement.{statement}
+use Rattle.lengths.proofs.query_length_from_cigar.Tie as tie
+
+returns : tie.Need-returns
+unfolding queryLength
+returns c = simp (lt-ltb _ _ (c .if1 .taken))
+
+slice-aggregate-sums : tie.Need-slice-aggregate-sums
+slice-aggregate-sums c = search needs
+
+lent-requires : tie.Need-lent-requires
+lent-requires c κs = search needs
+
+sums-requires : tie.Need-sums-requires
+sums-requires c κs = search needs
+
+returns-2 : tie.Need-returns-2
+unfolding queryLength
+returns-2 c = simp (le-ltb _ _ (c .before .before .before .if1 .left)) (ap Number (c .sums .ensures .0 .1 ∙ ap (sumOf queryLen) (c .before .lent .ensures _)))
+
+pub query-length-from-cigar-spec : {M : Type 1} → statement M
+query-length-from-cigar-spec =
+    tie.close (tie.spec returns slice-aggregate-sums lent-requires sums-requires returns-2)

@@ -1,0 +1,70 @@
+-- Document 01, module 3: "Sums over reference and query codes. `saturating_reference_length` stops at 2^31-1." Each with its refusals in order.
+use Prim.Native.Nat.{ℕ}
+use mathlib.Core.Bool.{cond}
+use mathlib.Core.List.{List, [], _∷_}
+use lib.ListN.{length}
+use lib.Dec.{ltb}
+use lib.IntN.{ℤ, pos}
+use Rattle.lists.specs.Lists.{sumOf}
+use Rattle.signed.specs.Whole.{clamp32}
+use Rattle.sam.specs.Op.{refLen, queryLen}
+use Rattle.sam.specs.Record.{opsEnd, recordOps}
+use Rattle.answers.specs.Answers.{Told, answered, refused}
+use Rattle.answers.specs.declared.Refusal.the-variants.{ShortRecord, AreaOverrun, TooManyOps, Overflow}
+use Rattle.answers.specs.declared.Int.{Int}
+use Rattle.answers.specs.declared.Int.the-variants as Int
+use Rattle.answers.specs.declared.Count.{Count}
+use Rattle.answers.specs.declared.Count.the-variants as Count
+use Rattle.oplist.specs.Ops.{mostOps}
+use Rattle.lengths.specs.declared.Lengths.{Lengths}
+use Rattle.lengths.specs.declared.Lengths.the-variants as Lengths
+
+-- a sum as a signed number; from 2^31 on refusal 4
+unfoldable pub asInt : ℕ → Int
+asInt n = cond (ltb 2147483647 n) (Int.Refused Overflow) (Int.Number (pos n))
+
+-- of a lent list: 3, 4
+unfoldable pub refLength : List ℕ → Int
+refLength xs = cond (ltb mostOps (length xs)) (Int.Refused TooManyOps) (asInt (sumOf refLen xs))
+
+-- of a lent list: 3
+unfoldable pub queryLength : List ℕ → Count
+queryLength xs = cond (ltb mostOps (length xs)) (Count.Refused TooManyOps) (Count.Number (sumOf queryLen xs))
+
+unfoldable pub saturatedLength : List ℕ → Int
+saturatedLength xs = cond (ltb mostOps (length xs)) (Int.Refused TooManyOps) (Int.Number (clamp32 (pos (sumOf refLen xs))))
+
+-- of a record, checked: 1, 2, 4
+unfoldable pub checkedRefLength : List ℕ → Int
+checkedRefLength b =
+    cond (ltb (length b) 32) (Int.Refused ShortRecord)
+    (cond (ltb (length b) (opsEnd b)) (Int.Refused AreaOverrun)
+    (asInt (sumOf refLen (recordOps b))))
+
+-- "`reference_length_from_raw_bam` answers 0 for 1, 2 and 4"
+abbrev pub orZero : Int → ℤ
+orZero (Int.Number z) = z
+orZero (Int.Refused r) = pos 0
+
+unfoldable pub refLengthOrZero : List ℕ → ℤ
+unfolding checkedRefLength
+refLengthOrZero b = orZero (checkedRefLength b)
+
+-- of a record: 1
+unfoldable pub recordQueryLength : List ℕ → Count
+recordQueryLength b = cond (ltb (length b) 32) (Count.Refused ShortRecord) (Count.Number (sumOf queryLen (recordOps b)))
+
+-- both of a record: 1, 4
+abbrev pub withQuery : Int → ℕ → Lengths
+withQuery (Int.Number z) q = Lengths.Both z q
+withQuery (Int.Refused r) q = Lengths.Refused r
+
+unfoldable pub bothLengths : List ℕ → Lengths
+unfolding asInt
+bothLengths b =
+    cond (ltb (length b) 32) (Lengths.Refused ShortRecord)
+    (withQuery (asInt (sumOf refLen (recordOps b))) (sumOf queryLen (recordOps b)))
+
+abbrev pub tellLengths : Lengths → Told
+tellLengths (Lengths.Both z q) = answered (z ∷ pos q ∷ [])
+tellLengths (Lengths.Refused r) = refused r
