@@ -13,6 +13,7 @@ use Rattle.sam.specs.Op.{queryLen, refLen}
 use Rattle.answers.specs.declared.Refusal.the-variants.{TooManyOps}
 use Rattle.answers.specs.declared.Count.{Count}
 use Rattle.answers.specs.declared.Count.the-variants as Count
+use Rattle.oplist.specs.Ops.{mostOps}
 use Rattle.overhang.specs.Reach.{basesUpTo, softClip}
 
 -- the last position of n reference bases from p on; p - 1 where there is none
@@ -65,6 +66,6 @@ overhangOf reverse p xs m ys = cond reverse (reverseOverhang p xs m ys) (forward
 -- `bases_extending_past_mate_ops`: 3 where either list is too long
 unfoldable pub basesExtending : Bool → ℤ → List ℕ → ℤ → List ℕ → Count
 basesExtending reverse p xs m ys =
-    cond (ltb 65535 (length xs)) (Count.Refused TooManyOps)
-    (cond (ltb 65535 (length ys)) (Count.Refused TooManyOps)
+    cond (ltb mostOps (length xs)) (Count.Refused TooManyOps)
+    (cond (ltb mostOps (length ys)) (Count.Refused TooManyOps)
     (Count.Number (overhangOf reverse p xs m ys)))

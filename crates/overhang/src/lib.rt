@@ -1,7 +1,7 @@
 // Document 01, module 10: the query bases that a read has past its mate, over op lists wherever they lie.
 ghost use mathlib.Core.Path.{_≡_};
 ghost use Prim.Native.Nat.{_+_, _-_, _≤_, _<_, min};
-ghost use mathlib.Core.Bool.{cond, _&&_};
+ghost use mathlib.Core.Bool.{_&&_};
 ghost use lib.IntN.{pos, _+ℤ_, _-ℤ_};
 ghost use lib.Dec.{ltb};
 ghost use lib.Signed.{ltZ};
@@ -10,7 +10,7 @@ ghost use Rattle.signed.specs.Whole.{natural, clamp32};
 ghost use Rattle.sam.specs.Op.{codeOf, isQuery, refLen};
 ghost use Rattle.oplist.specs.Ops.{opsOf};
 ghost use Rattle.overhang.specs.Reach.{basesUpTo, clippedBases};
-ghost use Rattle.overhang.specs.Overhang.{endAt, gapTo};
+ghost use Rattle.overhang.specs.Overhang.{endAt, gapTo, earlierOf, laterOf, forwardOverhang, reverseOverhang, overhangOf, basesExtending};
 use answers::Count;
 use answers::Pos1;
 use answers::Refusal;
@@ -28,7 +28,7 @@ fn precedes(a: Pos1, b: Pos1) -> bool
 
 // The smaller of two positions.
 fn earlier(a: Pos1, b: Pos1) -> Pos1
-    ensures { λ r. ⌜ r ≡ cond (ltZ (b .0) (a .0)) b a ⌝ }
+    ensures { λ r. ⌜ r .0 ≡ earlierOf (a .0) (b .0) ⌝ }
 {
     if precedes(b, a) {
         return b;
@@ -38,7 +38,7 @@ fn earlier(a: Pos1, b: Pos1) -> Pos1
 
 // The larger of two positions.
 fn later(a: Pos1, b: Pos1) -> Pos1
-    ensures { λ r. ⌜ r ≡ cond (ltZ (a .0) (b .0)) b a ⌝ }
+    ensures { λ r. ⌜ r .0 ≡ laterOf (a .0) (b .0) ⌝ }
 {
     if precedes(a, b) {
         return b;
@@ -46,28 +46,18 @@ fn later(a: Pos1, b: Pos1) -> Pos1
     a
 }
 
-// n, or the largest number of an i32.
-fn held(n: u64) -> i32
-    ensures { λ r. ⌜ r ≡ clamp32 (pos n) ⌝ }
-{
-    if 2147483647 < n {
-        return 2147483647;
-    }
-    n as i32
-}
-
 // n positions after p.
 fn after(p: Pos1, n: u64) -> Pos1
     ensures { λ r. ⌜ r .0 ≡ clamp32 (p .0 +ℤ clamp32 (pos n)) ⌝ }
 {
-    Pos1(signed::saturating_add(p.0, held(n)))
+    Pos1(signed::saturating_add(p.0, lengths::saturated(n)))
 }
 
 // n positions before p.
 fn ahead(p: Pos1, n: u64) -> Pos1
     ensures { λ r. ⌜ r .0 ≡ clamp32 (p .0 -ℤ clamp32 (pos n)) ⌝ }
 {
-    Pos1(signed::saturating_sub(p.0, held(n)))
+    Pos1(signed::saturating_sub(p.0, lengths::saturated(n)))
 }
 
 // The last position of an alignment with n reference bases.
@@ -161,4 +151,105 @@ fn soft_clip(words: &[u32], rec: &[u8], list: Ops, start: bool) -> u64
         i += 1;
     }
     bases
+}
+
+// The forward read: what it has at its right end past its mate.
+fn forward_overhang(
+    this: Pos1,
+    words: &[u32],
+    rec: &[u8],
+    list: Ops,
+    mate: Pos1,
+    mate_words: &[u32],
+    mate_rec: &[u8],
+    mate_list: Ops,
+) -> u64
+    ensures { λ r. ⌜ r ≡ forwardOverhang (this .0) (opsOf (now (words .entry)) (now (rec .entry)) list) (mate .0) (opsOf (now («mate_words» .entry)) (now («mate_rec» .entry)) «mate_list») ⌝ }
+{
+    let own = lengths::sums(words, rec, list);
+    let other = lengths::sums(mate_words, mate_rec, mate_list);
+    let end = alignment_end(this, own.refs);
+    let mate_end = alignment_end(mate, other.refs);
+    if precedes(end, mate) {
+        let far = after(mate_end, soft_clip(mate_words, mate_rec, mate_list, false));
+        return more(soft_clip(words, rec, list, false), gap(far, end));
+    }
+    if precedes(mate_end, this) {
+        return 0;
+    }
+    let last = earlier(end, mate_end);
+    let past = more(own.query, bases_up_to(words, rec, list, this, last, 1));
+    let mate_past = more(other.query, bases_up_to(mate_words, mate_rec, mate_list, mate, last, 1));
+    more(past, mate_past)
+}
+
+// The reverse read: what it has at its left end past its mate.
+fn reverse_overhang(
+    this: Pos1,
+    words: &[u32],
+    rec: &[u8],
+    list: Ops,
+    mate: Pos1,
+    mate_words: &[u32],
+    mate_rec: &[u8],
+    mate_list: Ops,
+) -> u64
+    ensures { λ r. ⌜ r ≡ reverseOverhang (this .0) (opsOf (now (words .entry)) (now (rec .entry)) list) (mate .0) (opsOf (now («mate_words» .entry)) (now («mate_rec» .entry)) «mate_list») ⌝ }
+{
+    let own = lengths::sums(words, rec, list);
+    let other = lengths::sums(mate_words, mate_rec, mate_list);
+    let end = alignment_end(this, own.refs);
+    let mate_end = alignment_end(mate, other.refs);
+    if precedes(mate_end, this) {
+        let far = ahead(mate, soft_clip(mate_words, mate_rec, mate_list, true));
+        return more(soft_clip(words, rec, list, true), gap(this, far));
+    }
+    if precedes(end, mate) {
+        return 0;
+    }
+    let first = later(this, mate);
+    let own_before = bases_up_to(words, rec, list, this, first, 0);
+    let mate_before = bases_up_to(mate_words, mate_rec, mate_list, mate, first, 0);
+    more(own_before, mate_before)
+}
+
+// The query bases that a read has past its mate, with the ops of each wherever they lie.
+pub fn overhang(
+    reverse: bool,
+    this: Pos1,
+    words: &[u32],
+    rec: &[u8],
+    list: Ops,
+    mate: Pos1,
+    mate_words: &[u32],
+    mate_rec: &[u8],
+    mate_list: Ops,
+) -> u64
+    ensures { λ r. ⌜ r ≡ overhangOf reverse (this .0) (opsOf (now (words .entry)) (now (rec .entry)) list) (mate .0) (opsOf (now («mate_words» .entry)) (now («mate_rec» .entry)) «mate_list») ⌝ }
+{
+    if reverse {
+        return reverse_overhang(this, words, rec, list, mate, mate_words, mate_rec, mate_list);
+    }
+    forward_overhang(this, words, rec, list, mate, mate_words, mate_rec, mate_list)
+}
+
+// The query bases that a read has past its mate. Refusal 3.
+pub fn bases_extending_past_mate_ops(
+    is_reverse: bool,
+    this_pos: Pos1,
+    this_ops: &[u32],
+    mate_pos: Pos1,
+    mate_ops: &[u32],
+) -> Count
+    ensures { λ r. ⌜ r ≡ basesExtending «is_reverse» («this_pos» .0) (now («this_ops» .entry)) («mate_pos» .0) (now («mate_ops» .entry)) ⌝ }
+{
+    if oplist::MOST_OPS < this_ops.len() {
+        return Count::Refused(Refusal::TooManyOps);
+    }
+    if oplist::MOST_OPS < mate_ops.len() {
+        return Count::Refused(Refusal::TooManyOps);
+    }
+    let list = oplist::lent(this_ops);
+    let mate_list = oplist::lent(mate_ops);
+    Count::Number(overhang(is_reverse, this_pos, this_ops, &[], list, mate_pos, mate_ops, &[], mate_list))
 }
