@@ -1,0 +1,65 @@
+-- The refusals and the position before the start by their tests; else the answer is read off what the walk saw over the lent list.
+use Prim.Native.Nat.{ℕ, _-_}
+use mathlib.Core.Path.{ap, sym, _∙_}
+use mathlib.Core.List.{List}
+use borrow.Author.Tests.{lt-ltb, le-ltb}
+use Rattle.answers.specs.declared.Spot.{Spot}
+use Rattle.lookup.specs.Lookup.{look, lookup, readOver}
+use Rattle.lookup.proofs.LookupLaws.{Taken, lookup-at}
+use borrow.Author.Needs.{needs}
+use Rattle.lookup.proofs.read_pos_at_ref_pos_raw.Statement.{statement}
+use Rattle.lookup.proofs.read_pos_at_ref_pos_raw.Tie as tie
+
+returns : tie.Need-returns
+unfolding lookup
+returns c = simp (lt-ltb _ _ (c .if1 .taken))
+
+returns-2 : tie.Need-returns-2
+unfolding lookup
+returns-2 c = simp (le-ltb _ _ (c .before .if1 .left), lt-ltb _ _ (c .if2 .taken))
+
+returns-3 : tie.Need-returns-3
+unfolding lookup
+returns-3 c = simp (le-ltb _ _ (c .before .before .if1 .left), le-ltb _ _ (c .before .if2 .left), lt-ltb _ _ (c .if3 .taken))
+
+returns-4 : tie.Need-returns-4
+unfolding lookup
+returns-4 c =
+    simp (le-ltb _ _ (c .before .before .before .if1 .left), le-ltb _ _ (c .before .before .if2 .left), le-ltb _ _ (c .before .if3 .left), lt-ltb _ _ (c .if4 .taken))
+
+slice-aggregate-look-at : tie.Need-slice-aggregate-look-at
+slice-aggregate-look-at c = search needs
+
+lent-requires : tie.Need-lent-requires
+lent-requires c κs = search needs
+
+look-at-requires : tie.Need-look-at-requires
+look-at-requires c κs = search needs
+
+read-over-requires : tie.Need-read-over-requires
+read-over-requires c κs = search needs
+
+returns-5 : tie.Need-returns-5
+returns-5 c =
+    let s = c .before in
+    let k = s .before .before .before in
+    let a = k .before .before .before .before .before .args in
+    let t : Taken (a .cigar .now) (a .start) = record { few = k .before .before .before .if1 .left; low = k .before .before .if2 .left; high = k .before .if3 .left } in
+    let e = s .look-at .ensures .0 ∙ ap (λ (l : List ℕ). look l (a .pos - a .start)) (s .before .lent .ensures _) in
+    c .read-over .ensures
+    ∙ ap (λ (u : Spot). readOver (a .asked) (u .before) (u .over)) e
+    ∙ sym (lookup-at (a .cigar .now) (a .start) (a .pos) (a .asked) t (k .if4 .left))
+
+pub read-pos-at-ref-pos-raw-spec : {M : Type 1} → statement M
+read-pos-at-ref-pos-raw-spec =
+    tie.close
+    (tie.spec
+    returns
+    returns-2
+    returns-3
+    returns-4
+    slice-aggregate-look-at
+    lent-requires
+    look-at-requires
+    read-over-requires
+    returns-5)
