@@ -1,0 +1,4 @@
+pub mod TextLaws
+pub mod ClipLaws
+pub mod PassLaws
+pub mod PutLaws

@@ -1,0 +1,41 @@
+-- The place moves, the op is counted, and its reference bases are added.
+use borrow.Author.Needs.{needs}
+use mathlib.Core.Path.{_≡_, refl, sym, ap, _∙_, subst}
+use mathlib.Core.Bool.{true, false}
+use Rattle.strict_text.specs.Pass.{stepOf, isWrong}
+use Rattle.strict_text.proofs.take_op.Statement.{statement}
+use Rattle.strict_text.proofs.take_op.Tie as tie
+
+moved : (c : tie.After-is-wrong) → isWrong (stepOf (c .before .before .args .seen .place) (c .before .before .args .k)) ≡ c .is-wrong .result
+moved c = ap isWrong (sym (c .before .step .ensures)) ∙ sym (c .is-wrong .ensures)
+
+step-requires : tie.Need-step-requires
+step-requires c κs = search needs
+
+is-wrong-requires : tie.Need-is-wrong-requires
+is-wrong-requires c κs = search needs
+
+returns : tie.Need-returns
+returns c = rw (moved (c .before) ∙ c .if1 .taken)
+
+add-t7 : tie.Need-add-t7
+add-t7 c = search needs
+
+further-requires : tie.Need-further-requires
+further-requires c κs = search needs
+
+returns-2 : tie.Need-returns-2
+returns-2 c =
+    let w = c .before .before in
+    rw (moved (w .before) ∙ w .if1 .left, w .before .before .step .ensures, c .further .ensures)
+
+pub take-op-spec : {M : Type 1} → statement M
+take-op-spec =
+    tie.close
+    (tie.spec
+    step-requires
+    is-wrong-requires
+    returns
+    add-t7
+    further-requires
+    returns-2)

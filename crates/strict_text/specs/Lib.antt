@@ -1,0 +1,5 @@
+pub mod Text
+pub mod Valid
+pub mod Parsed
+pub mod Meaning
+pub mod Pass
