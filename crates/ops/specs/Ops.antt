@@ -75,7 +75,7 @@ unfoldable pub newOp : CigarKind → ℕ → NewOp
 newOp k n = cond (eqb n 0) (NewOp.Refused BadLength) (cond (ltb 268435455 n) (NewOp.Refused BadLength) (NewOp.Op (record { 0 = opOf n (codeOfKind k) })))
 
 abbrev pub tellOp : NewOp → Told
-tellOp (NewOp.Op o) = answered (pos (o .0) ∷ [])
+tellOp (NewOp.Op o) = answered (some (pos (o .0)))
 tellOp (NewOp.Refused r) = refused r
 
 -- `get_cigar_ops` into lent memory d: 1, 6

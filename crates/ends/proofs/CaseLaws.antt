@@ -1,0 +1,68 @@
+-- The cases of the calls on a record of at least 32 bytes, by their tests.
+use Prim.Native.Nat.{ℕ, _≤_}
+use mathlib.Core.Path.{_≡_, sym, ap, _∙_}
+use mathlib.Core.Bool.{Bool, true, false}
+use mathlib.Core.List.{List}
+use borrow.Author.Tests.{le-ltb, eq-eqb, ne-eqb}
+use lib.Dec.{eqb}
+use lib.IntN.{pos}
+use lib.ListN.{length}
+use lib.Signed.{ltZ}
+use Rattle.signed.specs.Whole.{natural}
+use Rattle.signed.specs.declared.Sum.the-variants.{Number}
+use Rattle.sam.specs.Record.{posOf, flagsOf, isUnmapped, isReverse, recordOps}
+use Rattle.lengths.specs.Lengths.{refLengthOrZero}
+use Rattle.answers.specs.declared.Pos0.{Pos0}
+use Rattle.ends.specs.declared.Found1.the-variants.{Nothing}
+use Rattle.ends.specs.declared.Unclipped.the-variants.{Unmapped, NoOps}
+use Rattle.ends.specs.declared.Place0.the-variants as Place0
+use Rattle.ends.specs.Sums.{_⊕_}
+use Rattle.ends.specs.Ends.{toPlace0, toPlace1, toFound1, oneBased, fivePrime, noOps, unclippedAt, unclippedOf, unclippedFrom, alignmentStart, alignmentEnd}
+
+module _ (b : List ℕ) (h : 32 ≤ length b) where
+  pub start-none : ltZ (posOf b) (pos 0) ≡ true → Nothing ≡ alignmentStart b
+  unfolding alignmentStart
+  start-none t = simp (le-ltb (length b) 32 h, t)
+
+  pub start-at : ltZ (posOf b) (pos 0) ≡ false → toFound1 (oneBased (record { 0 = posOf b })) ≡ alignmentStart b
+  unfolding alignmentStart
+  start-at t = simp (le-ltb (length b) 32 h, t)
+
+  pub end-none : ltZ (posOf b) (pos 0) ≡ true → Nothing ≡ alignmentEnd b
+  unfolding alignmentEnd
+  end-none t = simp (le-ltb (length b) 32 h, t)
+
+  pub end-bare : ltZ (posOf b) (pos 0) ≡ false → eqb (natural (refLengthOrZero b)) 0 ≡ true → Nothing ≡ alignmentEnd b
+  unfolding alignmentEnd
+  end-bare t u = simp (le-ltb (length b) 32 h, t, u)
+
+  pub end-at : ltZ (posOf b) (pos 0) ≡ false → eqb (natural (refLengthOrZero b)) 0 ≡ false → toFound1 (toPlace1 (Number (posOf b) ⊕ Number (refLengthOrZero b))) ≡ alignmentEnd b
+  unfolding alignmentEnd
+  end-at t u = simp (le-ltb (length b) 32 h, t, u)
+
+  pub is-unmapped : isUnmapped (flagsOf b) ≡ true → Unmapped ≡ unclippedOf b
+  unfolding unclippedOf
+  is-unmapped t = simp (le-ltb (length b) 32 h, t)
+
+  pub no-ops : isUnmapped (flagsOf b) ≡ false → noOps b ≡ true → NoOps ≡ unclippedOf b
+  unfolding unclippedOf
+  no-ops t u = simp (le-ltb (length b) 32 h, t, u)
+
+  pub is-placed : isUnmapped (flagsOf b) ≡ false → noOps b ≡ false → unclippedAt (oneBased (record { 0 = posOf b })) (isReverse (flagsOf b)) (recordOps b) ≡ unclippedOf b
+  unfolding unclippedOf
+  is-placed t u = simp (le-ltb (length b) 32 h, t, u)
+
+  pub from-given : (p : Pos0) (reverse : Bool) → noOps b ≡ true → Place0.At p ≡ unclippedFrom b p reverse
+  unfolding unclippedFrom
+  from-given p reverse t = simp (le-ltb (length b) 32 h, t)
+
+  pub from-placed : (p : Pos0) (reverse : Bool) → noOps b ≡ false → toPlace0 (fivePrime reverse (p .0) (recordOps b)) ≡ unclippedFrom b p reverse
+  unfolding unclippedFrom
+  from-placed p reverse t = simp (le-ltb (length b) 32 h, t)
+
+-- no op at all, from the count of a record's list
+pub none-left : (b xs : List ℕ) (n : ℕ) → n ≡ length xs → xs ≡ recordOps b → n ≡ 0 → noOps b ≡ true
+none-left b xs n e f g = eq-eqb _ 0 (ap length (sym f) ∙ sym e ∙ g)
+
+pub some-left : (b xs : List ℕ) (n : ℕ) → n ≡ length xs → xs ≡ recordOps b → (n ≡ 0 → ⊥) → noOps b ≡ false
+some-left b xs n e f g = ne-eqb _ 0 (λ z. g (e ∙ ap length f ∙ z))

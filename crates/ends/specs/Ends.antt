@@ -1,0 +1,136 @@
+-- Document 01, module 7: "`unclipped_5prime_from_raw_bam`: unmapped 0; no ops or overrun 2,147,483,647; else from `pos` + 1, forward less the leading S and H,
+-- reverse plus reference length plus clips after the last reference op, less 1. `unclipped_5prime_raw` returns the given position for no ops or overrun."
+use Prim.Native.Nat.{ℕ}
+use mathlib.Core.Bool.{Bool, cond}
+use mathlib.Core.List.{List, [], _∷_}
+use lib.Dec.{ltb, eqb}
+use lib.IntN.{ℤ, pos}
+use lib.ListN.{length}
+use lib.Signed.{ltZ}
+use Rattle.lists.specs.Lists.{sumOf}
+use Rattle.signed.specs.Whole.{natural}
+use Rattle.signed.specs.declared.Sum.{Sum}
+use Rattle.signed.specs.declared.Sum.the-variants as Sum
+use Rattle.sam.specs.Op.{refLen}
+use Rattle.sam.specs.Record.{posOf, flagsOf, isUnmapped, isReverse, recordOps}
+use Rattle.ops.specs.Clips.{leadingClips, trailingClips}
+use Rattle.lengths.specs.Lengths.{refLengthOrZero}
+use Rattle.answers.specs.Answers.{Told, answered, refused, some, none}
+use Rattle.answers.specs.declared.Pos0.{Pos0}
+use Rattle.answers.specs.declared.Refusal.the-variants.{ShortRecord, Overflow}
+use Rattle.ends.specs.declared.Place0.{Place0}
+use Rattle.ends.specs.declared.Place0.the-variants as Place0
+use Rattle.ends.specs.declared.Place1.{Place1}
+use Rattle.ends.specs.declared.Place1.the-variants as Place1
+use Rattle.ends.specs.declared.Found1.{Found1}
+use Rattle.ends.specs.declared.Found1.the-variants as Found1
+use Rattle.ends.specs.declared.Unclipped.{Unclipped}
+use Rattle.ends.specs.declared.Unclipped.the-variants as Unclipped
+use Rattle.ends.specs.Sums.{_⊕_, _⊖_, total}
+use Rattle.ends.specs.Tails.{greatestRun}
+
+-- ---- the unclipped ends of an op list that is aligned at a place, counted from 0 or from 1 as the place is
+
+-- "forward less the leading S and H"
+unfoldable pub unclippedStart : ℤ → List ℕ → Sum
+unclippedStart at xs = Sum.Number at ⊖ total (leadingClips xs)
+
+-- the clips after the last reference op, where the Rust's sum of clips gets so far
+abbrev pub provided : Sum → Sum → Sum
+provided (Sum.Number z) s = s
+provided Sum.Over s = Sum.Over
+
+unfoldable pub trailingSum : List ℕ → Sum
+trailingSum xs = provided (total (greatestRun xs)) (Sum.Number (pos (trailingClips xs)))
+
+-- "reverse plus reference length plus clips after the last reference op, less 1"
+unfoldable pub unclippedEnd : ℤ → List ℕ → Sum
+unclippedEnd at xs = Sum.Number at ⊕ total (sumOf refLen xs) ⊕ trailingSum xs ⊖ Sum.Number (pos 1)
+
+unfoldable pub fivePrime : Bool → ℤ → List ℕ → Sum
+fivePrime reverse at xs = cond reverse (unclippedEnd at xs) (unclippedStart at xs)
+
+-- ---- places, counted from 0 and from 1; a sum that overflows is refusal 4
+
+abbrev pub toPlace0 : Sum → Place0
+toPlace0 (Sum.Number z) = Place0.At (record { 0 = z })
+toPlace0 Sum.Over = Place0.Refused Overflow
+
+abbrev pub toPlace1 : Sum → Place1
+toPlace1 (Sum.Number z) = Place1.At (record { 0 = z })
+toPlace1 Sum.Over = Place1.Refused Overflow
+
+-- "0-based record positions and 1-based answers are kept apart": the one conversion
+unfoldable pub oneBased : Pos0 → Place1
+oneBased p = toPlace1 (Sum.Number (p .0) ⊕ Sum.Number (pos 1))
+
+abbrev pub toFound1 : Place1 → Found1
+toFound1 (Place1.At p) = Found1.At p
+toFound1 (Place1.Refused r) = Found1.Refused r
+
+-- ---- the calls
+
+-- "no ops or overrun": the record's list is empty
+abbrev pub noOps : List ℕ → Bool
+noOps b = eqb (length (recordOps b)) 0
+
+-- the three cases of a record: a place, unmapped, no ops; 1, and 4
+abbrev pub asUnclipped : Place1 → Unclipped
+asUnclipped (Place1.At p) = Unclipped.At p
+asUnclipped (Place1.Refused r) = Unclipped.Refused r
+
+-- "from `pos` + 1"
+abbrev pub unclippedAt : Place1 → Bool → List ℕ → Unclipped
+unclippedAt (Place1.At p) reverse xs = asUnclipped (toPlace1 (fivePrime reverse (p .0) xs))
+unclippedAt (Place1.Refused r) reverse xs = Unclipped.Refused r
+
+unfoldable pub unclippedOf : List ℕ → Unclipped
+unclippedOf b =
+    cond (ltb (length b) 32) (Unclipped.Refused ShortRecord)
+    (cond (isUnmapped (flagsOf b)) Unclipped.Unmapped
+    (cond (noOps b) Unclipped.NoOps
+    (unclippedAt (oneBased (record { 0 = posOf b })) (isReverse (flagsOf b)) (recordOps b))))
+
+-- "unmapped 0; no ops or overrun 2,147,483,647"
+abbrev pub asRust : Unclipped → Place1
+asRust (Unclipped.At p) = Place1.At p
+asRust Unclipped.Unmapped = Place1.At (record { 0 = pos 0 })
+asRust Unclipped.NoOps = Place1.At (record { 0 = pos 2147483647 })
+asRust (Unclipped.Refused r) = Place1.Refused r
+
+-- "returns the given position for no ops or overrun": 1, 4
+unfoldable pub unclippedFrom : List ℕ → Pos0 → Bool → Place0
+unclippedFrom b p reverse =
+    cond (ltb (length b) 32) (Place0.Refused ShortRecord)
+    (cond (noOps b) (Place0.At p)
+    (toPlace0 (fivePrime reverse (p .0) (recordOps b))))
+
+-- "Rust's None in start, end is the answer none": a start below 0: 1, 4
+unfoldable pub alignmentStart : List ℕ → Found1
+alignmentStart b =
+    cond (ltb (length b) 32) (Found1.Refused ShortRecord)
+    (cond (ltZ (posOf b) (pos 0)) Found1.Nothing
+    (toFound1 (oneBased (record { 0 = posOf b }))))
+
+-- and no reference length; `pos`, counted from 0, and the length give the last place counted from 1: 1, 4
+unfoldable pub alignmentEnd : List ℕ → Found1
+alignmentEnd b =
+    cond (ltb (length b) 32) (Found1.Refused ShortRecord)
+    (cond (ltZ (posOf b) (pos 0)) Found1.Nothing
+    (cond (eqb (natural (refLengthOrZero b)) 0) Found1.Nothing
+    (toFound1 (toPlace1 (Sum.Number (posOf b) ⊕ Sum.Number (refLengthOrZero b))))))
+
+-- ---- what a caller is told
+
+abbrev pub tellPlace0 : Place0 → Told
+tellPlace0 (Place0.At p) = answered (p .0 ∷ [])
+tellPlace0 (Place0.Refused r) = refused r
+
+abbrev pub tellPlace1 : Place1 → Told
+tellPlace1 (Place1.At p) = answered (p .0 ∷ [])
+tellPlace1 (Place1.Refused r) = refused r
+
+abbrev pub tellFound1 : Found1 → Told
+tellFound1 (Found1.At p) = answered (some (p .0))
+tellFound1 Found1.Nothing = answered none
+tellFound1 (Found1.Refused r) = refused r

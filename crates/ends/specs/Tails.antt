@@ -1,0 +1,36 @@
+-- Document 01, module 7: "reverse plus reference length plus clips after the last reference op, less 1. Clips before any reference op don't count in reverse."
+-- The Rust keeps one sum of clips, which begins anew at each reference op. So it also sums the clips between two reference ops, which don't count, and stops
+-- where these overflow; clips before any reference op are not summed.
+use Prim.Native.Nat.{ℕ, _+_, max}
+use mathlib.Core.Bool.{Bool, not, cond}
+use mathlib.Core.List.{List, [], _∷_}
+use Rattle.lists.specs.Lists.{sumOf}
+use Rattle.lists.specs.Runs.{leading, holds}
+use Rattle.sam.specs.Op.{codeOf, isRef, refLen}
+use Rattle.ops.specs.Clips.{clipLen, trailingClips}
+use Rattle.ends.specs.declared.tails.Tail.{Tail}
+
+abbrev pub refOp : ℕ → Bool
+refOp o = isRef (codeOf o)
+
+-- the S and H up to the next reference op, or to the end
+unfoldable pub clipsToNext : List ℕ → ℕ
+clipsToNext xs = sumOf clipLen (leading (λ o. not (refOp o)) xs)
+
+-- the most that the sum of clips comes to: over all reference ops, the S and H from there to the next
+unfoldable pub greatestRun : List ℕ → ℕ
+greatestRun [] = 0
+greatestRun (o ∷ xs) = max (cond (refOp o) (clipsToNext xs) 0) (greatestRun xs)
+
+-- what a walk has once it has met the ops that are left
+pub record Met : Type 0 where
+  pub refs : ℕ
+  pub clips : ℕ
+  pub most : ℕ
+
+unfoldable pub met : Tail → List ℕ → Met
+met w xs = record {
+  refs = w .refs + sumOf refLen xs;
+  clips = cond (holds refOp xs) (trailingClips xs) (cond (w .saw) (w .clips + sumOf clipLen xs) (w .clips));
+  most = max (w .most) (max (cond (w .saw) (w .clips + clipsToNext xs) 0) (greatestRun xs));
+}

@@ -1,0 +1,212 @@
+// Document 01, module 7: unclipped ends, start and end of a record. Positions are counted from 0 in records, and from 1 in answers.
+mod sums;
+mod tails;
+
+ghost use mathlib.Core.Path.{_≡_};
+ghost use Prim.Native.Nat.{_≤_};
+ghost use lib.IntN.{pos};
+ghost use Rattle.signed.specs.declared.Sum.the-variants.{Number};
+ghost use Rattle.oplist.specs.Ops.{opsOf};
+ghost use Rattle.ends.specs.Sums.{total};
+ghost use Rattle.ends.specs.Ends.{provided, unclippedStart, unclippedEnd, fivePrime, toPlace0, toPlace1, oneBased, toFound1, asUnclipped, unclippedAt, unclippedOf, asRust, unclippedFrom, alignmentStart, alignmentEnd};
+use answers::Pos0;
+use answers::Pos1;
+use answers::Refusal;
+use oplist::Ops;
+use signed::Sum;
+
+// A place, counted from 0.
+pub enum Place0 {
+    At(Pos0),
+    Refused(Refusal),
+}
+
+// A place, counted from 1.
+pub enum Place1 {
+    At(Pos1),
+    Refused(Refusal),
+}
+
+// A place, counted from 1, or none.
+pub enum Found1 {
+    At(Pos1),
+    Nothing,
+    Refused(Refusal),
+}
+
+// A record's unclipped 5' position, before it is folded to the Rust's number.
+pub enum Unclipped {
+    At(Pos1),
+    Unmapped,
+    NoOps,
+    Refused(Refusal),
+}
+
+// An overflow is refusal 4.
+fn to_place0(s: Sum) -> Place0
+    ensures { λ r. ⌜ r ≡ toPlace0 s ⌝ }
+{
+    match s {
+        Sum::Number(z) => Place0::At(Pos0(z)),
+        Sum::Over => Place0::Refused(Refusal::Overflow),
+    }
+}
+
+fn to_place1(s: Sum) -> Place1
+    ensures { λ r. ⌜ r ≡ toPlace1 s ⌝ }
+{
+    match s {
+        Sum::Number(z) => Place1::At(Pos1(z)),
+        Sum::Over => Place1::Refused(Refusal::Overflow),
+    }
+}
+
+// The same place counted from 1. Refusal 4.
+pub fn one_based(p: Pos0) -> Place1
+    ensures { λ r. ⌜ r ≡ oneBased p ⌝ }
+{
+    to_place1(signed::checked_add(p.0, 1))
+}
+
+// Where the alignment at `at` would begin with its clips; counted as `at` is.
+fn start_from(words: &[u32], rec: &[u8], list: Ops, at: i32) -> Sum
+    ensures { λ r. ⌜ r ≡ unclippedStart at (opsOf (now (words .entry)) (now (rec .entry)) list) ⌝ }
+{
+    let clips = tails::leading_clips(words, rec, list);
+    sums::minus(Sum::Number(at), sums::whole(clips))
+}
+
+// The clips after the last reference op, where the Rust's sum of clips gets so far.
+fn trailing(clips: u64, most: u64) -> Sum
+    requires { ⌜ clips ≤ most ⌝ }
+    ensures { λ r. ⌜ r ≡ provided (total most) (Number (pos clips)) ⌝ }
+{
+    if 2147483647 < most {
+        return Sum::Over;
+    }
+    Sum::Number(clips as i32)
+}
+
+// Where the alignment at `at` would end with its clips; counted as `at` is.
+fn end_from(words: &[u32], rec: &[u8], list: Ops, at: i32) -> Sum
+    ensures { λ r. ⌜ r ≡ unclippedEnd at (opsOf (now (words .entry)) (now (rec .entry)) list) ⌝ }
+{
+    let w = tails::tail_of(words, rec, list);
+    let end = sums::plus(Sum::Number(at), sums::whole(w.refs));
+    let clipped = sums::plus(end, trailing(w.clips, w.most));
+    sums::minus(clipped, Sum::Number(1))
+}
+
+fn five_prime(words: &[u32], rec: &[u8], list: Ops, at: i32, reverse: bool) -> Sum
+    ensures { λ r. ⌜ r ≡ fivePrime reverse at (opsOf (now (words .entry)) (now (rec .entry)) list) ⌝ }
+{
+    if reverse {
+        return end_from(words, rec, list, at);
+    }
+    start_from(words, rec, list, at)
+}
+
+fn as_unclipped(p: Place1) -> Unclipped
+    ensures { λ r. ⌜ r ≡ asUnclipped p ⌝ }
+{
+    match p {
+        Place1::At(at) => Unclipped::At(at),
+        Place1::Refused(why) => Unclipped::Refused(why),
+    }
+}
+
+// The 5' end of ops that are aligned at `pos`.
+fn unclipped_at(words: &[u32], rec: &[u8], list: Ops, pos: Pos0, reverse: bool) -> Unclipped
+    ensures { λ r. ⌜ r ≡ unclippedAt (oneBased pos) reverse (opsOf (now (words .entry)) (now (rec .entry)) list) ⌝ }
+{
+    match one_based(pos) {
+        Place1::At(p) => as_unclipped(to_place1(five_prime(words, rec, list, p.0, reverse))),
+        Place1::Refused(why) => Unclipped::Refused(why),
+    }
+}
+
+// A record's unclipped 5' position in three cases. Refusals 1 and 4.
+fn unclipped_5prime(bam: &[u8]) -> Unclipped
+    ensures { λ r. ⌜ r ≡ unclippedOf (now (bam .entry)) ⌝ }
+{
+    if bam.len() < 32 {
+        return Unclipped::Refused(Refusal::ShortRecord);
+    }
+    let flags = little::u16_at(bam, 14);
+    if fields::is_unmapped(flags) {
+        return Unclipped::Unmapped;
+    }
+    let list = oplist::of_record(bam);
+    if oplist::count(&[], bam, list) == 0 {
+        return Unclipped::NoOps;
+    }
+    let pos = Pos0(little::i32_at(bam, 4));
+    unclipped_at(&[], bam, list, pos, fields::is_reverse(flags))
+}
+
+// A record's unclipped 5' position: 0 where it is unmapped, 2^31 - 1 where it has no ops or they overrun it. Refusals 1 and 4.
+pub fn unclipped_5prime_from_raw_bam(bam: &[u8]) -> Place1
+    ensures { λ r. ⌜ r ≡ asRust (unclippedOf (now (bam .entry))) ⌝ }
+{
+    match unclipped_5prime(bam) {
+        Unclipped::At(p) => Place1::At(p),
+        Unclipped::Unmapped => Place1::At(Pos1(0)),
+        Unclipped::NoOps => Place1::At(Pos1(2147483647)),
+        Unclipped::Refused(why) => Place1::Refused(why),
+    }
+}
+
+// The same from a given position and strand; the given position where the record has no ops or they overrun it. Refusals 1 and 4.
+pub fn unclipped_5prime_raw(bam: &[u8], pos: Pos0, reverse: bool) -> Place0
+    ensures { λ r. ⌜ r ≡ unclippedFrom (now (bam .entry)) pos reverse ⌝ }
+{
+    if bam.len() < 32 {
+        return Place0::Refused(Refusal::ShortRecord);
+    }
+    let list = oplist::of_record(bam);
+    if oplist::count(&[], bam, list) == 0 {
+        return Place0::At(pos);
+    }
+    to_place0(five_prime(&[], bam, list, pos.0, reverse))
+}
+
+fn to_found1(p: Place1) -> Found1
+    ensures { λ r. ⌜ r ≡ toFound1 p ⌝ }
+{
+    match p {
+        Place1::At(at) => Found1::At(at),
+        Place1::Refused(why) => Found1::Refused(why),
+    }
+}
+
+// A record's first place; none where `pos` is negative. Refusals 1 and 4.
+pub fn alignment_start_from_raw(bam: &[u8]) -> Found1
+    ensures { λ r. ⌜ r ≡ alignmentStart (now (bam .entry)) ⌝ }
+{
+    if bam.len() < 32 {
+        return Found1::Refused(Refusal::ShortRecord);
+    }
+    let pos = little::i32_at(bam, 4);
+    if pos < 0 {
+        return Found1::Nothing;
+    }
+    to_found1(one_based(Pos0(pos)))
+}
+
+// A record's last place; none where `pos` is negative or no reference is covered. Refusals 1 and 4.
+pub fn alignment_end_from_raw(bam: &[u8]) -> Found1
+    ensures { λ r. ⌜ r ≡ alignmentEnd (now (bam .entry)) ⌝ }
+{
+    if bam.len() < 32 {
+        return Found1::Refused(Refusal::ShortRecord);
+    }
+    let pos = little::i32_at(bam, 4);
+    if pos < 0 {
+        return Found1::Nothing;
+    }
+    let len = lengths::reference_length_from_raw_bam(bam);
+    if signed::natural_of(len) == 0 {
+        return Found1::Nothing;
+    }
+    to_found1(to_place1(signed::checked_add(pos, len)))
+}

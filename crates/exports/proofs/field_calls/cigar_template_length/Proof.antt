@@ -1,0 +1,23 @@
+-- What the call answers, told.
+use mathlib.Core.Path.{sym, ap}
+use borrow.Author.Needs.{needs}
+use Rattle.answers.specs.Answers.{tellInt}
+use Rattle.exports.proofs.ExportLaws.{told-as}
+use Rattle.exports.proofs.field_calls.cigar_template_length.Statement.{statement}
+use Rattle.exports.proofs.field_calls.cigar_template_length.Tie as tie
+
+template-length-requires : tie.Need-template-length-requires
+template-length-requires c κs = search needs
+
+give-int-requires : tie.Need-give-int-requires
+give-int-requires c κs = search needs
+
+same-length : tie.Need-same-length
+same-length c = search needs
+
+returns : tie.Need-returns
+returns c = told-as _ (ap tellInt (sym (c .before .before .before .before .template-length .ensures))) (c .before .before .give-int .ensures)
+
+pub cigar-template-length-spec : {M : Type 1} → statement M
+cigar-template-length-spec =
+    tie.close (tie.spec template-length-requires give-int-requires same-length returns)

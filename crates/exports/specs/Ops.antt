@@ -1,0 +1,17 @@
+-- include/cigar.h: kinds cross the border as their codes, 0 to 8; a kind above 8 answers none.
+use Prim.Native.Nat.{ℕ}
+use lib.IntN.{pos}
+use Rattle.answers.specs.Answers.{Told, answered, some, none}
+use Rattle.ops.specs.Ops.{letterOfKind, newOp, tellOp}
+use Rattle.ops.specs.declared.KindFound.{KindFound}
+use Rattle.ops.specs.declared.KindFound.the-variants.{Kind, Nothing}
+
+-- a kind's letter
+abbrev pub charOf : KindFound → Told
+charOf (Kind k) = answered (some (pos (letterOfKind k)))
+charOf Nothing = answered none
+
+-- an op of a kind and a length
+abbrev pub opAnswer : KindFound → ℕ → Told
+opAnswer (Kind k) n = tellOp (newOp k n)
+opAnswer Nothing n = answered none

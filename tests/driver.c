@@ -1,0 +1,461 @@
+/* The line protocol on standard input and output, through the static library of include/cigar.h.
+ *
+ * driver              answers request lines
+ * driver --calls      names the calls that the library has
+ * driver --values N   answers request lines with N places lent for the values (at most 3), to see what too few of them do
+ */
+#include "cigar.h"
+
+long read(int file, void *to, size_t bytes);
+long write(int file, const void *from, size_t bytes);
+void exit(int status);
+
+enum { MOST = 1 << 21, LONGEST_LINE = 1 << 23, BLOCK = 1 << 16, ARGS = 5, VALUES = 3, GUARD = 4 };
+
+static const uint32_t FILL_OPS = 2779096485u;
+static const uint8_t FILL_BYTES = 165;
+static const uint64_t FILL_VALUES = 11936128518282651045u;
+
+/* ---- what was read of a request */
+
+struct arg {
+    uint64_t number;
+    uint8_t *bytes;
+    uint32_t *ops;
+    size_t n;
+};
+
+static struct arg arg[ARGS];
+static uint64_t values[VALUES];
+static size_t values_lent = VALUES;
+
+static uint8_t record_area[2][LONGEST_LINE / 2];
+static uint32_t list_area[2][MOST];
+static uint32_t ops_room[MOST + GUARD];
+static uint8_t bytes_room[MOST + GUARD];
+
+/* ---- the calls: name; arguments (R bytes, W bytes lent to be written, L list, o and b lent outputs of ops and bytes, i and u 32 bits, U 64 bits, f flag);
+ * values (s signed, u unsigned, n none or a number, p a part of the record); and how they are passed */
+
+#define BYTES(i) arg[i].bytes, arg[i].n
+#define OPS(i) arg[i].ops, arg[i].n
+#define I32(i) (int32_t)arg[i].number
+#define U32(i) (uint32_t)arg[i].number
+#define U64(i) arg[i].number
+#define FLAG(i) (uint8_t)arg[i].number
+
+#define CALLS \
+    CALL(ref_id, "R", "s", BYTES(0)) \
+    CALL(pos, "R", "s", BYTES(0)) \
+    CALL(l_read_name, "R", "u", BYTES(0)) \
+    CALL(bin, "R", "u", BYTES(0)) \
+    CALL(n_cigar_op, "R", "u", BYTES(0)) \
+    CALL(flags, "R", "u", BYTES(0)) \
+    CALL(l_seq, "R", "u", BYTES(0)) \
+    CALL(mate_ref_id, "R", "s", BYTES(0)) \
+    CALL(mate_pos, "R", "s", BYTES(0)) \
+    CALL(template_length, "R", "s", BYTES(0)) \
+    CALL(cigar_raw_bytes, "R", "p", BYTES(0)) \
+    CALL(get_cigar_ops, "Ro", "u", BYTES(0), OPS(1)) \
+    CALL(consumes_ref, "u", "u", U32(0)) \
+    CALL(consumes_query, "u", "u", U32(0)) \
+    CALL(consumes_read, "u", "u", U32(0)) \
+    CALL(from_op_type, "u", "n", U32(0)) \
+    CALL(as_char, "u", "n", U32(0)) \
+    CALL(op_new, "uu", "n", U32(0), U32(1)) \
+    CALL(op_kind, "u", "u", U32(0)) \
+    CALL(op_len, "u", "u", U32(0)) \
+    CALL(op_consumes_query, "u", "u", U32(0)) \
+    CALL(op_consumes_ref, "u", "u", U32(0)) \
+    CALL(reference_length_from_cigar, "L", "s", OPS(0)) \
+    CALL(query_length_from_cigar, "L", "u", OPS(0)) \
+    CALL(saturating_reference_length, "L", "s", OPS(0)) \
+    CALL(reference_length_from_raw_bam, "R", "s", BYTES(0)) \
+    CALL(reference_length_from_raw_bam_checked, "R", "s", BYTES(0)) \
+    CALL(query_length, "R", "u", BYTES(0)) \
+    CALL(cigar_lengths, "R", "su", BYTES(0)) \
+    CALL(cigar_to_bytes_into, "Rb", "u", BYTES(0), BYTES(1)) \
+    CALL(parse_cigar_string_ops, "Ro", "u", BYTES(0), OPS(1)) \
+    CALL(is_valid_mapped_cigar, "L", "u", OPS(0)) \
+    CALL(mate_unclipped_5prime, "ifR", "s", I32(0), FLAG(1), BYTES(2)) \
+    CALL(mate_unclipped_5prime_1based, "ifR", "s", I32(0), FLAG(1), BYTES(2)) \
+    CALL(unclipped_5prime_from_raw_bam, "R", "s", BYTES(0)) \
+    CALL(unclipped_5prime_raw, "Rif", "s", BYTES(0), I32(1), FLAG(2)) \
+    CALL(alignment_start_from_raw, "R", "n", BYTES(0)) \
+    CALL(alignment_end_from_raw, "R", "n", BYTES(0)) \
+    CALL(read_pos_at_ref_pos_raw, "LUUf", "n", OPS(0), U64(1), U64(2), FLAG(3)) \
+    CALL(clip_cigar_ops_raw, "LUfo", "uu", OPS(0), U64(1), FLAG(2), OPS(3)) \
+    CALL(clip_cigar_ops, "RUfo", "uu", BYTES(0), U64(1), FLAG(2), OPS(3)) \
+    CALL(is_mapped_opposite_strand_pair_raw, "R", "u", BYTES(0)) \
+    CALL(is_fr_pair_raw, "R", "u", BYTES(0)) \
+    CALL(is_primary_fr_pair_raw, "RR", "u", BYTES(0), BYTES(1)) \
+    CALL(bases_extending_past_mate_ops, "fiLiL", "u", FLAG(0), I32(1), OPS(2), I32(3), OPS(4)) \
+    CALL(num_bases_extending_past_mate_cigar_raw, "RL", "u", BYTES(0), OPS(1)) \
+    CALL(num_bases_extending_past_mate_vs_mate_raw, "RR", "u", BYTES(0), BYTES(1)) \
+    CALL(num_bases_extending_past_mate_text_raw, "RRo", "uu", BYTES(0), BYTES(1), OPS(2)) \
+    CALL(reg2bin, "ii", "u", I32(0), I32(1)) \
+    CALL(bin_from_raw_bam, "R", "u", BYTES(0)) \
+    CALL(set_bin_from_raw_bam, "W", "u", BYTES(0))
+
+/* A call that the library lacks is a null pointer here, and a bad request. */
+#define CALL(name, args, kinds, ...) extern __typeof__(cigar_##name) cigar_##name __attribute__((weak));
+CALLS
+#undef CALL
+
+#define CALL(name, args, kinds, ...) \
+    static uint32_t run_##name(void) { return cigar_##name(__VA_ARGS__, values, values_lent); }
+CALLS
+#undef CALL
+
+struct call {
+    const char *name, *args, *kinds;
+    uint32_t (*run)(void);
+    void *function;
+};
+
+#define CALL(name, args, kinds, ...) {#name, args, kinds, run_##name, (void *)cigar_##name},
+static const struct call calls[] = {CALLS};
+#undef CALL
+
+enum { COUNT = sizeof calls / sizeof calls[0] };
+
+/* ---- output */
+
+static char out[BLOCK];
+static size_t out_n;
+
+static void flush(void)
+{
+    size_t done = 0;
+    while (done < out_n) {
+        long n = write(1, out + done, out_n - done);
+        if (n <= 0)
+            exit(1);
+        done += (size_t)n;
+    }
+    out_n = 0;
+}
+
+static void put(char c)
+{
+    if (out_n == sizeof out)
+        flush();
+    out[out_n++] = c;
+}
+
+static void put_text(const char *text)
+{
+    while (*text)
+        put(*text++);
+}
+
+static void put_number(uint64_t n)
+{
+    char digits[20];
+    int i = 0;
+    do {
+        digits[i++] = (char)('0' + n % 10);
+        n /= 10;
+    } while (n);
+    while (i)
+        put(digits[--i]);
+}
+
+static void put_signed(int64_t n)
+{
+    if (n < 0)
+        put('-');
+    put_number(n < 0 ? -(uint64_t)n : (uint64_t)n);
+}
+
+/* One of the two is given. Each run of equal values is written V*N. */
+static void put_content(const uint8_t *bytes, const uint32_t *ops, size_t n)
+{
+#define AT(i) (bytes ? bytes[i] : ops[i])
+    put_text(n ? " ; " : " ; -");
+    for (size_t i = 0, run; i < n; i += run) {
+        for (run = 1; i + run < n && AT(i + run) == AT(i); run++)
+            ;
+        if (i)
+            put(',');
+        put_number(AT(i));
+        if (run > 1) {
+            put('*');
+            put_number(run);
+        }
+    }
+#undef AT
+}
+
+/* ---- the words of a request: each reader takes one from `at`, and answers 0 if it is malformed. A line ends in a newline. */
+
+static char line[LONGEST_LINE + 2];
+static const char *at;
+
+static int decimal(uint64_t *n)
+{
+    const char *first = at;
+    for (*n = 0; *at >= '0' && *at <= '9'; at++)
+        if (__builtin_mul_overflow(*n, 10, n) || __builtin_add_overflow(*n, *at - '0', n))
+            return 0;
+    return at != first;
+}
+
+static int up_to(uint64_t most, uint64_t *n)
+{
+    return decimal(n) && *n <= most;
+}
+
+static int read_i32(struct arg *a)
+{
+    if (*at != '-')
+        return up_to(2147483647u, &a->number);
+    at++;
+    if (!up_to(2147483648u, &a->number))
+        return 0;
+    a->number = -a->number;
+    return 1;
+}
+
+static int nibble(char c)
+{
+    if (c >= '0' && c <= '9')
+        return c - '0';
+    return c >= 'a' && c <= 'f' ? c - 'a' + 10 : -1;
+}
+
+static int read_bytes(struct arg *a, uint8_t *into)
+{
+    a->bytes = into;
+    a->n = 0;
+    if (*at == '-') {
+        at++;
+        return 1;
+    }
+    while (*at != ' ' && *at != '\n') {
+        int high = nibble(at[0]), low = high < 0 ? -1 : nibble(at[1]);
+        if (low < 0)
+            return 0;
+        into[a->n++] = (uint8_t)(high * 16 + low);
+        at += 2;
+    }
+    return a->n > 0;
+}
+
+static int read_list(struct arg *a, uint32_t *into)
+{
+    a->ops = into;
+    a->n = 0;
+    if (*at == '-') {
+        at++;
+        return 1;
+    }
+    for (;; at++) {
+        uint64_t value, times = 1;
+        if (!up_to(4294967295u, &value))
+            return 0;
+        if (*at == '*' && (at++, !up_to(MOST - a->n, &times)))
+            return 0;
+        if (times > MOST - a->n)
+            return 0;
+        for (; times; times--)
+            into[a->n++] = (uint32_t)value;
+        if (*at != ',')
+            return 1;
+    }
+}
+
+/* The places of a lent output, and as many behind them, are filled. */
+static int read_room(struct arg *a, int of_ops)
+{
+    uint64_t places;
+    if (*at++ != '@' || !up_to(MOST, &places))
+        return 0;
+    a->n = places;
+    a->ops = ops_room;
+    a->bytes = bytes_room;
+    for (size_t i = 0; i < places + GUARD; i++)
+        if (of_ops)
+            ops_room[i] = FILL_OPS;
+        else
+            bytes_room[i] = FILL_BYTES;
+    return 1;
+}
+
+static int read_arg(char kind, int i)
+{
+    struct arg *a = &arg[i];
+    switch (kind) {
+    case 'R':
+    case 'W':
+        return read_bytes(a, record_area[i & 1]);
+    case 'L':
+        return read_list(a, list_area[i > 2]);
+    case 'o':
+    case 'b':
+        return read_room(a, kind == 'o');
+    case 'i':
+        return read_i32(a);
+    case 'u':
+        return up_to(4294967295u, &a->number);
+    case 'U':
+        return decimal(&a->number);
+    default:
+        return up_to(1, &a->number) && at[-2] == ' ';
+    }
+}
+
+/* The call that the line asks for, with its arguments read; null for a bad request. */
+static const struct call *read_request(void)
+{
+    static const struct call *c = calls;
+    for (int tried = 0;; tried++, c = c + 1 < calls + COUNT ? c + 1 : calls) {
+        const char *name = c->name;
+        for (at = line; *name && *at == *name; name++)
+            at++;
+        if (!*name && (*at == ' ' || *at == '\n'))
+            break;
+        if (tried == COUNT)
+            return 0;
+    }
+    if (!c->function)
+        return 0;
+    for (int i = 0; c->args[i]; i++)
+        if (*at++ != ' ' || !read_arg(c->args[i], i))
+            return 0;
+    return *at == '\n' ? c : 0;
+}
+
+/* ---- answers */
+
+static void put_values(const struct call *c)
+{
+    if (c->kinds[0] == 'n' && values[0] == 0 && values[1] == 0) {
+        put_text("none");
+        return;
+    }
+    put_text("ok");
+    for (int i = 0; c->kinds[i] && c->kinds[i] != 'p'; i++) {
+        put(' ');
+        if (c->kinds[i] == 'n')
+            put_number(values[0] == 1 ? values[1] : 18446744073709551615u);
+        else if (c->kinds[i] == 's')
+            put_signed((int64_t)values[i]);
+        else
+            put_number(values[i]);
+    }
+}
+
+static void put_part(uint32_t refusal)
+{
+    if (refusal)
+        put_text(" ; -");
+    else if (values[0] > arg[0].n || values[1] > arg[0].n - values[0])
+        put_text(" ; a part outside the record");
+    else
+        put_content(arg[0].bytes + values[0], 0, values[1]);
+}
+
+/* How many values an answer of these kinds stores. */
+static size_t stored(const char *kinds)
+{
+    return kinds[0] == 'n' || kinds[0] == 'p' || kinds[1] ? 2 : 1;
+}
+
+/* Said where the library wrote what it may not: values after a refusal or behind the answer's, places behind a lent output. */
+static void put_strays(const struct call *c, uint32_t refusal)
+{
+    for (size_t i = refusal ? 0 : stored(c->kinds); i < VALUES; i++)
+        if (values[i] != FILL_VALUES)
+            put_text(" ; a value written astray");
+    for (int i = 0; c->args[i]; i++)
+        for (size_t g = 0; g < GUARD; g++)
+            if ((c->args[i] == 'o' && ops_room[arg[i].n + g] != FILL_OPS) || (c->args[i] == 'b' && bytes_room[arg[i].n + g] != FILL_BYTES))
+                put_text(" ; a place written astray");
+}
+
+static void answer(void)
+{
+    const struct call *c = read_request();
+    if (!c) {
+        put_text("bad request\n");
+        return;
+    }
+    for (int i = 0; i < VALUES; i++)
+        values[i] = FILL_VALUES;
+    uint32_t refusal = c->run();
+    if (refusal) {
+        put_text("refuse ");
+        put_number(refusal);
+    } else
+        put_values(c);
+    if (c->kinds[0] == 'p')
+        put_part(refusal);
+    for (int i = 0; c->args[i]; i++)
+        if (c->args[i] == 'o')
+            put_content(0, arg[i].ops, arg[i].n);
+        else if (c->args[i] == 'b' || c->args[i] == 'W')
+            put_content(arg[i].bytes, 0, arg[i].n);
+    put_strays(c, refusal);
+    put('\n');
+}
+
+/* ---- lines */
+
+static char block[BLOCK];
+
+/* Answers every line; what is answered is written before more is read. */
+static void answer_all(void)
+{
+    size_t n = 0;
+    for (;;) {
+        flush();
+        long got = read(0, block, sizeof block);
+        if (got <= 0)
+            break;
+        for (long i = 0; i < got; i++) {
+            if (n <= LONGEST_LINE)
+                line[n] = block[i];
+            if (block[i] != '\n') {
+                n += n <= LONGEST_LINE;
+                continue;
+            }
+            if (n > LONGEST_LINE)
+                put_text("bad request\n");
+            else
+                answer();
+            n = 0;
+        }
+    }
+    if (n > LONGEST_LINE)
+        put_text("bad request\n");
+    else if (n) {
+        line[n] = '\n';
+        answer();
+    }
+    flush();
+}
+
+static int same(const char *a, const char *b)
+{
+    while (*a && *a == *b)
+        a++, b++;
+    return *a == *b;
+}
+
+int main(int count, char **words)
+{
+    if (count == 2 && same(words[1], "--calls")) {
+        for (int i = 0; i < COUNT; i++)
+            if (calls[i].function) {
+                put_text(calls[i].name);
+                put('\n');
+            }
+        flush();
+        return 0;
+    }
+    if (count == 3 && same(words[1], "--values"))
+        values_lent = (size_t)(words[2][0] - '0') % (VALUES + 1);
+    answer_all();
+    return 0;
+}

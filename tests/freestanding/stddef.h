@@ -1,0 +1,2 @@
+/* What include/cigar.h needs of <stddef.h>. */
+typedef __SIZE_TYPE__ size_t;

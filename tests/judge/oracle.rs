@@ -1,0 +1,442 @@
+//! Every call of the protocol, answered by the original inside document 01's domain. The refusal that is due is computed first, by `rules`;
+//! the original is then held to it: it has to stop exactly where 4, 7 or 10 is due, and nowhere else.
+
+use crate::protocol::{FILL_BYTES, FILL_OPS, Reply, Said, Words, split};
+use crate::rules;
+use original::cigar::{self, CigarKind, CigarOp};
+use original::fields::{self, RawRecordView};
+use original::{bin, overlap};
+use std::panic::{self, AssertUnwindSafe};
+use std::sync::atomic::{AtomicBool, Ordering::Relaxed};
+
+type Call = fn(&mut Words) -> Option<Reply>;
+
+/// What the original says when it stops where a refusal is due.
+fn words_of(refusal: u8) -> &'static str {
+    match refusal {
+        7 => "invalid CIGAR op type",
+        10 => "CIGAR op length",
+        _ => "with overflow",
+    }
+}
+
+static HELD: AtomicBool = AtomicBool::new(false);
+
+/// Stops of the original are answers and print nothing; the judge's own are printed.
+pub fn quiet_stops() {
+    let usual = panic::take_hook();
+    panic::set_hook(Box::new(move |stop| {
+        if !HELD.load(Relaxed) {
+            usual(stop);
+        }
+    }));
+}
+
+fn run<T>(original: impl FnOnce() -> T) -> std::thread::Result<T> {
+    HELD.store(true, Relaxed);
+    let result = panic::catch_unwind(AssertUnwindSafe(original));
+    HELD.store(false, Relaxed);
+    result
+}
+
+/// Runs the original, which has to stop if a refusal is due, and to answer if none is.
+fn hold<T>(due: Option<u8>, original: impl FnOnce() -> T) -> Result<T, Said> {
+    match (run(original), due) {
+        (Ok(value), None) => Ok(value),
+        (Ok(_), Some(n)) => Err(Said::Mismatch(format!("{n} is due, and the original answers"))),
+        (Err(stop), due) => {
+            let text = stop.downcast_ref::<String>().map(String::as_str).or(stop.downcast_ref::<&str>().copied()).unwrap_or("no words");
+            Err(match due {
+                Some(n) if text.contains(words_of(n)) => Said::Refusal(n),
+                _ => Said::Mismatch(format!("{due:?} is due, and the original stops: {text}")),
+            })
+        }
+    }
+}
+
+fn said<T>(result: Result<T, Said>, values: impl FnOnce(T) -> Said) -> Said {
+    result.map_or_else(|refusal| refusal, values)
+}
+
+fn one(value: impl Into<i64>) -> Said {
+    Said::Values(vec![value.into()])
+}
+
+fn count(value: usize) -> i64 {
+    i64::try_from(value).expect("an answer of the original is below 2^63")
+}
+
+fn some(value: Option<usize>) -> Said {
+    value.map_or(Said::Nothing, |v| Said::Values(vec![count(v)]))
+}
+
+fn alone(said: Said) -> Option<Reply> {
+    Some(Reply { said, lent: None })
+}
+
+fn bytes_as_list(bytes: &[u8]) -> Vec<u32> {
+    bytes.iter().map(|&b| u32::from(b)).collect()
+}
+
+/// An answer into a lent output: 6 if it is longer; else its first places are filled.
+fn lend(room: usize, fill: u32, result: Result<(Vec<u32>, Said), Said>) -> Option<Reply> {
+    let mut out = vec![fill; room];
+    let said = match result {
+        Err(refusal) => refusal,
+        Ok((list, _)) if list.len() > room => Said::Refusal(6),
+        Ok((list, said)) => {
+            out[..list.len()].copy_from_slice(&list);
+            said
+        }
+    };
+    Some(Reply { said, lent: Some(out) })
+}
+
+fn counted(list: Vec<u32>) -> (Vec<u32>, Said) {
+    let written = count(list.len());
+    (list, Said::Values(vec![written]))
+}
+
+/// A call on one record, refused by 1; `due` is the refusal after that at which the original has to stop.
+fn of_record<T>(words: &mut Words, due: fn(&[u8]) -> Option<u8>, run: fn(&[u8]) -> T, values: fn(T) -> Said) -> Option<Reply> {
+    let record = words.bytes()?;
+    words.done()?;
+    alone(match rules::too_short(&record) {
+        Some(n) => Said::Refusal(n),
+        None => said(hold(due(&record), || run(&record)), values),
+    })
+}
+
+fn never(_: &[u8]) -> Option<u8> {
+    None
+}
+
+/// A call on one list, refused by 3.
+fn of_list<T>(words: &mut Words, due: fn(&[u32]) -> Option<u8>, run: fn(&[u32]) -> T, values: fn(T) -> Said) -> Option<Reply> {
+    let list = words.list()?;
+    words.done()?;
+    alone(match rules::too_many(&list) {
+        Some(n) => Said::Refusal(n),
+        None => said(hold(due(&list), || run(&list)), values),
+    })
+}
+
+/// A call on one number that refuses nothing.
+fn of_number(words: &mut Words, run: fn(u32) -> Said) -> Option<Reply> {
+    let number = words.u32()?;
+    words.done()?;
+    alone(said(hold(None, || run(number)), |said| said))
+}
+
+fn cigar_raw_bytes(words: &mut Words) -> Option<Reply> {
+    let record = words.bytes()?;
+    words.done()?;
+    let part = match rules::too_short(&record) {
+        Some(n) => Err(Said::Refusal(n)),
+        None => hold(None, || bytes_as_list(RawRecordView::new(&record).cigar_raw_bytes())),
+    };
+    let lent = part.as_ref().map_or(Vec::new(), Vec::clone);
+    Some(Reply { said: said(part, |_| Said::Values(Vec::new())), lent: Some(lent) })
+}
+
+fn get_cigar_ops(words: &mut Words) -> Option<Reply> {
+    let (record, room) = (words.bytes()?, words.room()?);
+    words.done()?;
+    let answer = match rules::too_short(&record) {
+        Some(n) => Err(Said::Refusal(n)),
+        None => hold(None, || cigar::get_cigar_ops(&record)).map(counted),
+    };
+    lend(room, FILL_OPS, answer)
+}
+
+fn op_new(words: &mut Words) -> Option<Reply> {
+    let (kind, length) = (words.u32()?, words.u32()?);
+    words.done()?;
+    let Some(kind) = CigarKind::from_op_type(kind) else {
+        return alone(Said::Nothing);
+    };
+    alone(said(hold(rules::bad_length(length), || CigarOp::new(kind, length).raw()), one))
+}
+
+/// The original's unchecked length answers 0 where the checked one refuses, also under 32 bytes.
+fn reference_length_from_raw_bam(words: &mut Words) -> Option<Reply> {
+    let record = words.bytes()?;
+    words.done()?;
+    let due = rules::too_short(&record).or_else(|| rules::checked_length_refusal(&record));
+    let answer = hold(None, || cigar::reference_length_from_raw_bam(&record));
+    alone(match (answer, due) {
+        (Ok(length), Some(n)) if length != 0 => Said::Mismatch(format!("0 is due for {n}, and the original answers {length}")),
+        (answer, _) => said(answer, one),
+    })
+}
+
+/// The original answers `None` for 1, 2 and 4.
+fn reference_length_from_raw_bam_checked(words: &mut Words) -> Option<Reply> {
+    let record = words.bytes()?;
+    words.done()?;
+    let due = rules::too_short(&record).or_else(|| rules::checked_length_refusal(&record));
+    let answer = hold(None, || cigar::reference_length_from_raw_bam_checked(&record));
+    alone(match (answer, due) {
+        (Ok(None), Some(n)) => Said::Refusal(n),
+        (Ok(Some(length)), None) => one(length),
+        (answer, due) => Said::Mismatch(format!("{due:?} is due, and the original gives {answer:?}")),
+    })
+}
+
+fn lengths(view: (i32, usize)) -> Said {
+    Said::Values(vec![view.0.into(), count(view.1)])
+}
+
+fn cigar_to_bytes_into(words: &mut Words) -> Option<Reply> {
+    let (record, room) = (words.bytes()?, words.room()?);
+    words.done()?;
+    let print = || {
+        let mut out = Vec::new();
+        cigar::cigar_to_bytes_into(&mut out, &record);
+        counted(bytes_as_list(&out))
+    };
+    let answer = match rules::too_short(&record) {
+        Some(n) => Err(Said::Refusal(n)),
+        None => hold(rules::bad_code(&rules::Record(&record).ops().unwrap_or_default()), print),
+    };
+    lend(room, FILL_BYTES.into(), answer)
+}
+
+/// The original's strict reader on bytes; text that is not UTF-8 is refused like any unknown letter.
+fn parse(text: &[u8]) -> Result<Option<Vec<u32>>, Said> {
+    let due = rules::strict(text);
+    let answer = hold(None, || std::str::from_utf8(text).ok().and_then(overlap::parse_cigar_string_ops))?;
+    if answer != due {
+        return Err(Said::Mismatch(format!("the text is due as {due:?}, and the original reads {answer:?}")));
+    }
+    Ok(answer)
+}
+
+fn parse_cigar_string_ops(words: &mut Words) -> Option<Reply> {
+    let (text, room) = (words.bytes()?, words.room()?);
+    words.done()?;
+    let answer = parse(&text).and_then(|list| {
+        let list = list.ok_or(Said::Refusal(5))?;
+        rules::too_many(&list).map_or(Ok(counted(list)), |n| Err(Said::Refusal(n)))
+    });
+    lend(room, FILL_OPS, answer)
+}
+
+fn is_valid_mapped_cigar(words: &mut Words) -> Option<Reply> {
+    let list = words.list()?;
+    words.done()?;
+    let due = rules::is_valid(&list);
+    alone(match (rules::too_many(&list), hold(None, || overlap::reach::is_valid_mapped_cigar(&list))) {
+        (Some(n), _) => Said::Refusal(n),
+        (None, Ok(answer)) if answer != due => Said::Mismatch(format!("{due} is due, and the original answers {answer}")),
+        (None, answer) => said(answer, one),
+    })
+}
+
+fn of_mate_text(words: &mut Words, run: fn(i32, bool, &[u8]) -> i32) -> Option<Reply> {
+    let (position, reverse, text) = (words.i32()?, words.flag()?, words.bytes()?);
+    words.done()?;
+    alone(said(hold(None, || run(position, reverse, &text)), one))
+}
+
+fn unclipped_5prime_raw(words: &mut Words) -> Option<Reply> {
+    let (record, position, reverse) = (words.bytes()?, words.i32()?, words.flag()?);
+    words.done()?;
+    alone(match rules::too_short(&record) {
+        Some(n) => Said::Refusal(n),
+        None => {
+            let due = rules::unclipped_overflows(&record, position.into(), reverse);
+            said(hold(due, || cigar::unclipped_5prime_raw(&record, position, reverse)), one)
+        }
+    })
+}
+
+fn read_pos_at_ref_pos_raw(words: &mut Words) -> Option<Reply> {
+    let (list, start, position, last) = (words.list()?, words.u64()?, words.u64()?, words.flag()?);
+    words.done()?;
+    alone(match rules::too_many(&list).or(rules::bad_start(start)) {
+        Some(n) => Said::Refusal(n),
+        None => {
+            let (start, position) = (start as usize, position as usize);
+            said(hold(None, || cigar::read_pos_at_ref_pos_raw(&list, start, position, last)), some)
+        }
+    })
+}
+
+fn clipped((list, lost): (Vec<u32>, usize)) -> (Vec<u32>, Said) {
+    let values = Said::Values(vec![count(list.len()), count(lost)]);
+    (list, values)
+}
+
+fn clip_cigar_ops_raw(words: &mut Words) -> Option<Reply> {
+    let (list, amount, from_start, room) = (words.list()?, words.u64()?, words.flag()?, words.room()?);
+    words.done()?;
+    let answer = match rules::too_many(&list).or(rules::too_long(&list)) {
+        Some(n) => Err(Said::Refusal(n)),
+        None => hold(None, || cigar::clip_cigar_ops_raw(&list, amount as usize, from_start)).map(clipped),
+    };
+    lend(room, FILL_OPS, answer)
+}
+
+fn clip_cigar_ops(words: &mut Words) -> Option<Reply> {
+    let (record, amount, from_start, room) = (words.bytes()?, words.u64()?, words.flag()?, words.room()?);
+    words.done()?;
+    let long = || rules::too_long(&rules::Record(&record).ops().unwrap_or_default());
+    let answer = match rules::too_short(&record).or_else(long) {
+        Some(n) => Err(Said::Refusal(n)),
+        None => hold(None, || RawRecordView::new(&record).clip_cigar_ops(amount as usize, from_start)).map(clipped),
+    };
+    lend(room, FILL_OPS, answer)
+}
+
+fn is_primary_fr_pair_raw(words: &mut Words) -> Option<Reply> {
+    let (a, b) = (words.bytes()?, words.bytes()?);
+    words.done()?;
+    alone(match rules::too_short(&a).or(rules::too_short(&b)) {
+        Some(n) => Said::Refusal(n),
+        None => said(hold(None, || overlap::is_primary_fr_pair_raw(&a, &b)), one),
+    })
+}
+
+fn bases_extending_past_mate_ops(words: &mut Words) -> Option<Reply> {
+    let (reverse, position, list) = (words.flag()?, words.i32()?, words.list()?);
+    let (mate_position, mate_list) = (words.i32()?, words.list()?);
+    words.done()?;
+    let run = || overlap::bases_extending_past_mate_ops(reverse, position, &list, mate_position, &mate_list);
+    alone(match rules::too_many(&list).or(rules::too_many(&mate_list)) {
+        Some(n) => Said::Refusal(n),
+        None => said(hold(None, run), |bases| one(count(bases))),
+    })
+}
+
+/// The overhang of a record of 32 bytes or more against a list of 65,535 ops or fewer.
+fn overhang(record: &[u8], list: &[u32]) -> Result<i64, Said> {
+    let due = rules::overhang_overflows(record, list);
+    hold(due, || overlap::num_bases_extending_past_mate_cigar_raw(record, list)).map(count)
+}
+
+fn num_bases_extending_past_mate_cigar_raw(words: &mut Words) -> Option<Reply> {
+    let (record, list) = (words.bytes()?, words.list()?);
+    words.done()?;
+    alone(match rules::too_short(&record).or(rules::too_many(&list)) {
+        Some(n) => Said::Refusal(n),
+        None => said(overhang(&record, &list), one),
+    })
+}
+
+fn num_bases_extending_past_mate_vs_mate_raw(words: &mut Words) -> Option<Reply> {
+    let (record, mate) = (words.bytes()?, words.bytes()?);
+    words.done()?;
+    alone(match rules::too_short(&record).or(rules::too_short(&mate)) {
+        Some(n) => Said::Refusal(n),
+        None => {
+            let run = || overlap::num_bases_extending_past_mate_vs_mate_raw(&record, &mate);
+            said(hold(rules::pair_overflows(&record, &mate), run), |bases| one(count(bases)))
+        }
+    })
+}
+
+/// The strict reader's 5 answers 0 with nothing written; then 3, 4 and 6.
+fn overhang_of_text(record: &[u8], text: &[u8]) -> Result<(Vec<u32>, Said), Said> {
+    if let Some(n) = rules::too_short(record) {
+        return Err(Said::Refusal(n));
+    }
+    let Some(list) = parse(text)? else {
+        return Ok((Vec::new(), Said::Values(vec![0, 0])));
+    };
+    if let Some(n) = rules::too_many(&list) {
+        return Err(Said::Refusal(n));
+    }
+    let values = Said::Values(vec![overhang(record, &list)?, count(list.len())]);
+    Ok((list, values))
+}
+
+fn num_bases_extending_past_mate_text_raw(words: &mut Words) -> Option<Reply> {
+    let (record, text, room) = (words.bytes()?, words.bytes()?, words.room()?);
+    words.done()?;
+    lend(room, FILL_OPS, overhang_of_text(&record, &text))
+}
+
+fn reg2bin(words: &mut Words) -> Option<Reply> {
+    let (beg, end) = (words.i32()?, words.i32()?);
+    words.done()?;
+    alone(said(hold(rules::overflows(end.into(), &[-1]), || bin::reg2bin(beg, end)), one))
+}
+
+fn set_bin_from_raw_bam(words: &mut Words) -> Option<Reply> {
+    let record = words.bytes()?;
+    words.done()?;
+    let run = || {
+        let mut written = record.clone();
+        bin::set_bin_from_raw_bam(&mut written);
+        written
+    };
+    let answer = match rules::too_short(&record) {
+        Some(n) => Err(Said::Refusal(n)),
+        None => hold(rules::bin_overflows(&record), run),
+    };
+    let lent = bytes_as_list(answer.as_ref().unwrap_or(&record));
+    Some(Reply { said: said(answer, |written| one(u16::from_le_bytes([written[10], written[11]]))), lent: Some(lent) })
+}
+
+/// Every call of the protocol, in its order.
+pub const CALLS: [(&str, Call); 51] = [
+    ("ref_id", |w| of_record(w, never, fields::ref_id, one)),
+    ("pos", |w| of_record(w, never, fields::pos, one)),
+    ("l_read_name", |w| of_record(w, never, fields::reach::l_read_name, one)),
+    ("bin", |w| of_record(w, never, |r| RawRecordView::new(r).bin(), one)),
+    ("n_cigar_op", |w| of_record(w, never, fields::reach::n_cigar_op, one)),
+    ("flags", |w| of_record(w, never, fields::reach::flags, one)),
+    ("l_seq", |w| of_record(w, never, fields::l_seq, one)),
+    ("mate_ref_id", |w| of_record(w, never, fields::mate_ref_id, one)),
+    ("mate_pos", |w| of_record(w, never, fields::mate_pos, one)),
+    ("template_length", |w| of_record(w, never, fields::template_length, one)),
+    ("cigar_raw_bytes", cigar_raw_bytes),
+    ("get_cigar_ops", get_cigar_ops),
+    ("consumes_ref", |w| of_number(w, |n| one(cigar::consumes_ref(n)))),
+    ("consumes_query", |w| of_number(w, |n| one(cigar::consumes_query(n)))),
+    ("consumes_read", |w| of_number(w, |n| one(cigar::consumes_read(n)))),
+    ("from_op_type", |w| of_number(w, |n| CigarKind::from_op_type(n).map_or(Said::Nothing, |kind| one(kind as u8)))),
+    ("as_char", |w| of_number(w, |n| CigarKind::from_op_type(n).map_or(Said::Nothing, |kind| one(u32::from(kind.as_char()))))),
+    ("op_new", op_new),
+    ("op_kind", |w| of_number(w, |n| one(CigarOp::from_raw(n).kind() as u8))),
+    ("op_len", |w| of_number(w, |n| one(CigarOp::from_raw(n).len()))),
+    ("op_consumes_query", |w| of_number(w, |n| one(CigarOp::from_raw(n).consumes_query()))),
+    ("op_consumes_ref", |w| of_number(w, |n| one(CigarOp::from_raw(n).consumes_ref()))),
+    ("reference_length_from_cigar", |w| of_list(w, |l| rules::overflows(rules::reference_total(l), &[0]), cigar::reference_length_from_cigar, one)),
+    ("query_length_from_cigar", |w| of_list(w, |_| None, cigar::query_length_from_cigar, |n| one(count(n)))),
+    ("saturating_reference_length", |w| of_list(w, |_| None, overlap::saturating_reference_length, one)),
+    ("reference_length_from_raw_bam", reference_length_from_raw_bam),
+    ("reference_length_from_raw_bam_checked", reference_length_from_raw_bam_checked),
+    ("query_length", |w| of_record(w, never, |r| RawRecordView::new(r).query_length(), |n| one(count(n)))),
+    ("cigar_lengths", |w| of_record(w, rules::lengths_overflow, |r| RawRecordView::new(r).cigar_lengths(), lengths)),
+    ("cigar_to_bytes_into", cigar_to_bytes_into),
+    ("parse_cigar_string_ops", parse_cigar_string_ops),
+    ("is_valid_mapped_cigar", is_valid_mapped_cigar),
+    ("mate_unclipped_5prime", |w| of_mate_text(w, cigar::mate_unclipped_5prime)),
+    ("mate_unclipped_5prime_1based", |w| of_mate_text(w, cigar::mate_unclipped_5prime_1based)),
+    ("unclipped_5prime_from_raw_bam", |w| of_record(w, rules::own_unclipped_overflows, cigar::unclipped_5prime_from_raw_bam, one)),
+    ("unclipped_5prime_raw", unclipped_5prime_raw),
+    ("alignment_start_from_raw", |w| of_record(w, rules::alignment_start_overflows, cigar::alignment_start_from_raw, some)),
+    ("alignment_end_from_raw", |w| of_record(w, rules::alignment_end_overflows, cigar::alignment_end_from_raw, some)),
+    ("read_pos_at_ref_pos_raw", read_pos_at_ref_pos_raw),
+    ("clip_cigar_ops_raw", clip_cigar_ops_raw),
+    ("clip_cigar_ops", clip_cigar_ops),
+    ("is_mapped_opposite_strand_pair_raw", |w| of_record(w, never, overlap::is_mapped_opposite_strand_pair_raw, one)),
+    ("is_fr_pair_raw", |w| of_record(w, never, overlap::reach::is_fr_pair_raw, one)),
+    ("is_primary_fr_pair_raw", is_primary_fr_pair_raw),
+    ("bases_extending_past_mate_ops", bases_extending_past_mate_ops),
+    ("num_bases_extending_past_mate_cigar_raw", num_bases_extending_past_mate_cigar_raw),
+    ("num_bases_extending_past_mate_vs_mate_raw", num_bases_extending_past_mate_vs_mate_raw),
+    ("num_bases_extending_past_mate_text_raw", num_bases_extending_past_mate_text_raw),
+    ("reg2bin", reg2bin),
+    ("bin_from_raw_bam", |w| of_record(w, rules::bin_overflows, bin::bin_from_raw_bam, one)),
+    ("set_bin_from_raw_bam", set_bin_from_raw_bam),
+];
+
+/// The answer to a request, or none for a bad one.
+pub fn reply(line: &[u8]) -> Option<Reply> {
+    let (name, mut words) = split(line);
+    let (_, call) = CALLS.iter().find(|(call, _)| call.as_bytes() == name)?;
+    call(&mut words)
+}

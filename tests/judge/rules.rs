@@ -1,0 +1,264 @@
+//! Document 01's refusals, computed from the input alone: nothing here asks the original or the port.
+
+pub const MOST_OPS: usize = 65_535;
+const SHORTEST_RECORD: usize = 32;
+const TOO_LONG: u64 = 1 << 28;
+const I32: std::ops::RangeInclusive<i64> = i32::MIN as i64..=i32::MAX as i64;
+
+pub fn code(op: u32) -> u32 {
+    op % 16
+}
+
+pub fn length(op: u32) -> i64 {
+    i64::from(op / 16)
+}
+
+/// M, D, N, = and X.
+pub fn is_reference(op: u32) -> bool {
+    [0, 2, 3, 7, 8].contains(&code(op))
+}
+
+/// S and H.
+pub fn is_clip(op: u32) -> bool {
+    [4, 5].contains(&code(op))
+}
+
+pub fn reference_total(ops: &[u32]) -> i64 {
+    ops.iter().filter(|&&op| is_reference(op)).map(|&op| length(op)).sum()
+}
+
+/// 1: a record has under 32 bytes.
+pub fn too_short(record: &[u8]) -> Option<u8> {
+    (record.len() < SHORTEST_RECORD).then_some(1)
+}
+
+/// 3: a list has over 65,535 ops.
+pub fn too_many(list: &[u32]) -> Option<u8> {
+    (list.len() > MOST_OPS).then_some(3)
+}
+
+/// 8: clipping, total length 2^28 or more, whatever the codes.
+pub fn too_long(list: &[u32]) -> Option<u8> {
+    (list.iter().map(|&op| u64::from(op / 16)).sum::<u64>() >= TOO_LONG).then_some(8)
+}
+
+/// 9: lookup, alignment start outside 1 to 2^31.
+pub fn bad_start(start: u64) -> Option<u8> {
+    (start < 1 || start > 1 << 31).then_some(9)
+}
+
+/// 10: `CigarOp::new`, length 0 or above 2^28 - 1.
+pub fn bad_length(length: u32) -> Option<u8> {
+    (length == 0 || u64::from(length) >= TOO_LONG).then_some(10)
+}
+
+/// 7: printing meets a code 9 to 15.
+pub fn bad_code(list: &[u32]) -> Option<u8> {
+    list.iter().any(|&op| code(op) > 8).then_some(7)
+}
+
+/// 4: a signed 32-bit sum, step by step from `from`, leaves its range.
+pub fn overflows(from: i64, steps: &[i64]) -> Option<u8> {
+    let mut sum = from;
+    for step in steps {
+        sum += step;
+        if !I32.contains(&sum) {
+            return Some(4);
+        }
+    }
+    None
+}
+
+/// The fields of a record of 32 bytes or more.
+pub struct Record<'a>(pub &'a [u8]);
+
+impl Record<'_> {
+    fn unsigned(&self, at: usize, bytes: usize) -> i64 {
+        self.0[at..at + bytes].iter().rev().fold(0, |n, &b| n * 256 + i64::from(b))
+    }
+
+    fn signed(&self, at: usize) -> i64 {
+        let n = self.unsigned(at, 4);
+        if n >= 1 << 31 { n - (1 << 32) } else { n }
+    }
+
+    pub fn pos(&self) -> i64 {
+        self.signed(4)
+    }
+
+    pub fn mate_pos(&self) -> i64 {
+        self.signed(24)
+    }
+
+    fn has(&self, flag: i64) -> bool {
+        self.unsigned(14, 2) & flag != 0
+    }
+
+    pub fn is_unmapped(&self) -> bool {
+        self.has(4)
+    }
+
+    pub fn is_reverse(&self) -> bool {
+        self.has(16)
+    }
+
+    /// The record's ops; none where their area ends past the record.
+    pub fn ops(&self) -> Option<Vec<u32>> {
+        let start = 32 + self.unsigned(8, 1) as usize;
+        let end = start + 4 * self.unsigned(12, 2) as usize;
+        let area = self.0.get(start..end)?;
+        Some(area.chunks_exact(4).map(|four| u32::from_le_bytes([four[0], four[1], four[2], four[3]])).collect())
+    }
+
+    /// The reference length, 0 where the checked one refuses.
+    pub fn reference_length(&self) -> i64 {
+        let total = self.ops().map_or(0, |ops| reference_total(&ops));
+        if I32.contains(&total) { total } else { 0 }
+    }
+
+    /// Paired, both mapped, same reference, strands differ.
+    fn is_opposite_strand_pair(&self) -> bool {
+        self.has(1) && !self.has(4) && !self.has(8) && self.signed(0) == self.signed(20) && self.has(16) != self.has(32)
+    }
+
+    /// A reverse record of such a pair is FR if the mate's start is at or before its own end.
+    fn reverse_is_fr(&self) -> bool {
+        self.is_opposite_strand_pair() && self.mate_pos() < self.pos() + self.reference_length()
+    }
+}
+
+/// FR with mate ops: for a forward record, if its own start is at or before the mate's end.
+fn is_fr_with_ops(record: &Record, mate_ops: &[u32]) -> bool {
+    if record.is_reverse() {
+        return record.reverse_is_fr();
+    }
+    let mate_length = reference_total(mate_ops).min(*I32.end());
+    record.is_opposite_strand_pair() && record.pos() < record.mate_pos() + mate_length
+}
+
+/// Both mapped, both mates mapped, one reference, one of each strand, and the reverse one is FR.
+fn is_primary_fr(a: &Record, b: &Record) -> bool {
+    let mapped = |r: &Record| !r.has(4) && !r.has(8);
+    let reverse = if a.is_reverse() { a } else { b };
+    mapped(a) && mapped(b) && a.signed(0) == b.signed(0) && a.is_reverse() != b.is_reverse() && reverse.reverse_is_fr()
+}
+
+/// 4 of a record against its mate's ops: the mate's position + 1, then the own position + 1, for a valid list and an FR pair.
+pub fn overhang_overflows(record: &[u8], mate_ops: &[u32]) -> Option<u8> {
+    let record = Record(record);
+    if !is_valid(mate_ops) || !is_fr_with_ops(&record, mate_ops) {
+        return None;
+    }
+    overflows(record.mate_pos(), &[1]).or(overflows(record.pos(), &[1]))
+}
+
+/// 4 of a record against its mate's record.
+pub fn pair_overflows(record: &[u8], mate: &[u8]) -> Option<u8> {
+    let (record, mate) = (Record(record), Record(mate));
+    if !is_primary_fr(&record, &mate) {
+        return None;
+    }
+    overflows(mate.pos(), &[1]).or(overflows(record.pos(), &[1]))
+}
+
+/// 4 at the start: position less the leading S and H.
+fn start_overflows(position: i64, ops: &[u32]) -> Option<u8> {
+    let clips: Vec<i64> = ops.iter().take_while(|&&op| is_clip(op)).map(|&op| length(op)).collect();
+    overflows(0, &clips).or(overflows(position, &[-clips.iter().sum::<i64>()]))
+}
+
+/// 4 at the end: the reference length, each run of clips after a reference op, and then position + length + last run - 1.
+fn end_overflows(position: i64, ops: &[u32]) -> Option<u8> {
+    let mut clips = 0;
+    let mut seen = false;
+    let mut stops = None;
+    for &op in ops {
+        if is_reference(op) {
+            (clips, seen) = (0, true);
+        } else if is_clip(op) && seen {
+            clips += length(op);
+            stops = stops.or(overflows(clips, &[0]));
+        }
+    }
+    let reference = reference_total(ops);
+    stops.or(overflows(reference, &[0])).or(overflows(position, &[reference, clips, -1]))
+}
+
+/// 4 of an unclipped end, with ops in bounds only.
+pub fn unclipped_overflows(record: &[u8], position: i64, reverse: bool) -> Option<u8> {
+    match Record(record).ops() {
+        Some(ops) if ops.is_empty() => None,
+        None => None,
+        Some(ops) if reverse => end_overflows(position, &ops),
+        Some(ops) => start_overflows(position, &ops),
+    }
+}
+
+/// 4 of a record's own unclipped end: for a mapped record with ops, whose position + 1 comes first.
+pub fn own_unclipped_overflows(record: &[u8]) -> Option<u8> {
+    let fields = Record(record);
+    if fields.is_unmapped() || fields.ops().is_none_or(|ops| ops.is_empty()) {
+        return None;
+    }
+    overflows(fields.pos(), &[1]).or(unclipped_overflows(record, fields.pos() + 1, fields.is_reverse()))
+}
+
+/// 4 of the alignment's start: position + 1.
+pub fn alignment_start_overflows(record: &[u8]) -> Option<u8> {
+    overflows(Record(record).pos(), &[1]).filter(|_| Record(record).pos() >= 0)
+}
+
+/// 4 of the alignment's end: position + length, for a position of at least 0.
+pub fn alignment_end_overflows(record: &[u8]) -> Option<u8> {
+    let fields = Record(record);
+    overflows(fields.pos(), &[fields.reference_length()]).filter(|_| fields.pos() >= 0)
+}
+
+/// 4 of the bin: position + a length of at least 1, for a position of at least 0.
+pub fn bin_overflows(record: &[u8]) -> Option<u8> {
+    let fields = Record(record);
+    overflows(fields.pos(), &[fields.reference_length().max(1)]).filter(|_| fields.pos() >= 0)
+}
+
+/// 4 of the two lengths of a record.
+pub fn lengths_overflow(record: &[u8]) -> Option<u8> {
+    overflows(reference_total(&Record(record).ops().unwrap_or_default()), &[0])
+}
+
+/// 2, then 4, of the checked reference length.
+pub fn checked_length_refusal(record: &[u8]) -> Option<u8> {
+    match Record(record).ops() {
+        None => Some(2),
+        Some(ops) => overflows(reference_total(&ops), &[0]),
+    }
+}
+
+/// `is_valid_mapped_cigar`: S stands only as the first or last op that is not H, H only as the first or last op.
+pub fn is_valid(ops: &[u32]) -> bool {
+    let first = ops.iter().position(|&op| code(op) != 5);
+    let last = ops.iter().rposition(|&op| code(op) != 5);
+    let placed = |(i, &op): (usize, &u32)| match code(op) {
+        4 => Some(i) == first || Some(i) == last,
+        5 => i == 0 || i + 1 == ops.len(),
+        other => other <= 8,
+    };
+    ops.iter().enumerate().all(placed) && ops.iter().all(|&op| length(op) > 0) && ops.iter().any(|&op| is_reference(op))
+}
+
+/// The list that the strict reader has of a text; none where it refuses by 5.
+pub fn strict(text: &[u8]) -> Option<Vec<u32>> {
+    let mut ops = Vec::new();
+    let mut rest = text;
+    while !rest.is_empty() {
+        let digits = rest.iter().take_while(|b| b.is_ascii_digit()).count();
+        let number = std::str::from_utf8(&rest[..digits]).ok()?.trim_start_matches('0');
+        let length = if number.len() > 9 { return None } else { number.parse::<u32>().ok()? };
+        let code = b"MIDNSHP=X".iter().position(|b| Some(b) == rest.get(digits))?;
+        if u64::from(length) >= TOO_LONG {
+            return None;
+        }
+        ops.push(length * 16 + code as u32);
+        rest = &rest[digits + 1..];
+    }
+    is_valid(&ops).then_some(ops)
+}
