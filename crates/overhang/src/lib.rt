@@ -179,7 +179,10 @@ fn forward_overhang(
     }
     let last = earlier(end, mate_end);
     let past = more(own.query, bases_up_to(words, rec, list, this, last, 1));
-    let mate_past = more(other.query, bases_up_to(mate_words, mate_rec, mate_list, mate, last, 1));
+    let mate_past = more(
+        other.query,
+        bases_up_to(mate_words, mate_rec, mate_list, mate, last, 1),
+    );
     more(past, mate_past)
 }
 
@@ -228,9 +231,27 @@ pub fn overhang(
     ensures { λ r. ⌜ r ≡ overhangOf reverse (this .0) (opsOf (now (words .entry)) (now (rec .entry)) list) (mate .0) (opsOf (now («mate_words» .entry)) (now («mate_rec» .entry)) «mate_list») ⌝ }
 {
     if reverse {
-        return reverse_overhang(this, words, rec, list, mate, mate_words, mate_rec, mate_list);
+        return reverse_overhang(
+            this,
+            words,
+            rec,
+            list,
+            mate,
+            mate_words,
+            mate_rec,
+            mate_list,
+        );
     }
-    forward_overhang(this, words, rec, list, mate, mate_words, mate_rec, mate_list)
+    forward_overhang(
+        this,
+        words,
+        rec,
+        list,
+        mate,
+        mate_words,
+        mate_rec,
+        mate_list,
+    )
 }
 
 // The query bases that a read has past its mate. Refusal 3.
@@ -251,5 +272,15 @@ pub fn bases_extending_past_mate_ops(
     }
     let list = oplist::lent(this_ops);
     let mate_list = oplist::lent(mate_ops);
-    Count::Number(overhang(is_reverse, this_pos, this_ops, &[], list, mate_pos, mate_ops, &[], mate_list))
+    Count::Number(overhang(
+        is_reverse,
+        this_pos,
+        this_ops,
+        &[],
+        list,
+        mate_pos,
+        mate_ops,
+        &[],
+        mate_list,
+    ))
 }

@@ -79,7 +79,10 @@ fn placed_pair(fr: bool, bam: &[u8], mate: Pos0) -> Placed
     if !fr {
         return Placed::Apart;
     }
-    both_places(ends::one_based(Pos0(little::i32_at(bam, 4))), ends::one_based(mate))
+    both_places(
+        ends::one_based(Pos0(little::i32_at(bam, 4))),
+        ends::one_based(mate),
+    )
 }
 
 fn is_over(placed: Placed) -> bool
@@ -97,11 +100,24 @@ fn bases_at(placed: Placed, bam: &[u8], words: &[u32], rec: &[u8], list: Ops) ->
     requires { ⌜ 32 ≤ length (now bam) ⌝ }
     ensures { λ r. ⌜ r ≡ basesAt placed (now (bam .entry)) (opsOf (now (words .entry)) (now (rec .entry)) list) ⌝ }
 {
-    let Placed::At(p, m) = placed else {
-        return 0;
-    };
-    let reverse = fields::is_reverse(little::u16_at(bam, 14));
-    overhang::overhang(reverse, p, &[], bam, oplist::of_record(bam), m, words, rec, list)
+    match placed {
+        Placed::Apart => 0,
+        Placed::At(p, m) => {
+            let reverse = fields::is_reverse(little::u16_at(bam, 14));
+            overhang::overhang(
+                reverse,
+                p,
+                &[],
+                bam,
+                oplist::of_record(bam),
+                m,
+                words,
+                rec,
+                list,
+            )
+        }
+        Placed::Over => 0,
+    }
 }
 
 fn overhang_at(placed: Placed, bam: &[u8], words: &[u32], rec: &[u8], list: Ops) -> Count
@@ -128,7 +144,11 @@ pub fn num_bases_extending_past_mate_cigar_raw(bam: &[u8], mate_ops: &[u32]) -> 
     let Measured::Ops(_, span) = strict_text::measure_ops(mate_ops, &[], list) else {
         return Count::Number(0);
     };
-    let placed = placed_pair(pairs::fr_with_mate(bam, span), bam, Pos0(little::i32_at(bam, 24)));
+    let placed = placed_pair(
+        pairs::fr_with_mate(bam, span),
+        bam,
+        Pos0(little::i32_at(bam, 24)),
+    );
     overhang_at(placed, bam, mate_ops, &[], list)
 }
 
@@ -142,7 +162,11 @@ pub fn num_bases_extending_past_mate_vs_mate_raw(rec: &[u8], mate: &[u8]) -> Cou
     if mate.len() < 32 {
         return Count::Refused(Refusal::ShortRecord);
     }
-    let placed = placed_pair(pairs::primary_fr(rec, mate), rec, Pos0(little::i32_at(mate, 4)));
+    let placed = placed_pair(
+        pairs::primary_fr(rec, mate),
+        rec,
+        Pos0(little::i32_at(mate, 4)),
+    );
     overhang_at(placed, rec, &[], mate, oplist::of_record(mate))
 }
 
@@ -160,7 +184,11 @@ pub fn num_bases_extending_past_mate_text_raw(bam: &[u8], text: &[u8], out: &mut
     if (oplist::MOST_OPS as u64) < n {
         return Overhang::Refused(Refusal::TooManyOps);
     }
-    let placed = placed_pair(pairs::fr_with_mate(bam, span), bam, Pos0(little::i32_at(bam, 24)));
+    let placed = placed_pair(
+        pairs::fr_with_mate(bam, span),
+        bam,
+        Pos0(little::i32_at(bam, 24)),
+    );
     if is_over(placed) {
         return Overhang::Refused(Refusal::Overflow);
     }
@@ -168,6 +196,10 @@ pub fn num_bases_extending_past_mate_text_raw(bam: &[u8], text: &[u8], out: &mut
         return Overhang::Refused(Refusal::NoRoom);
     }
     strict_text::write_ops(text, out);
-    let list = Ops { inside: false, at: 0, n: n as u32 };
+    let list = Ops {
+        inside: false,
+        at: 0,
+        n: n as u32,
+    };
     Overhang::Bases(bases_at(placed, bam, out, &[], list), n)
 }

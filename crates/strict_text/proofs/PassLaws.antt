@@ -116,6 +116,7 @@ took-fits s t len k e = go (isWrong (stepOf (s .place) k)) e
   where
     more : Seen
     more = record { place = stepOf (s .place) k; n = s .n + 1; refs = min (s .refs + refOf k len) 2147483647 }
+
     go : (w : Bool) → cond w Stop (More (record { place = stepOf (s .place) k; n = s .n + 1; refs = min (s .refs + refOf k len) 2147483647 })) ≡ More t → (t .n ≡ s .n + 1) × (t .refs ≤ 2147483647)
     go true q = absurd (let z : _≡_ {A = ℕ} 0 1 = cc in omega arith)
     go false q =

@@ -15,7 +15,7 @@ saturating-sub-requires : tie.Need-saturating-sub-requires
 saturating-sub-requires c κs = search needs
 
 returns : tie.Need-returns
-returns c = 
+returns c =
     let a = c .before .before .before .args in
     let e : toZ w32 (ofZ w32 (a .p .0)) ≡ a .p .0 = search needs in
     let f : toZ w32 (ofZ w32 (c .before .before .saturated .result)) ≡ c .before .before .saturated .result = search needs in

@@ -17,7 +17,7 @@ after-requires c κs = search needs
 
 returns : tie.Need-returns
 unfolding endAt
-returns c = 
+returns c =
     let a = c .before .before .args in
     let one : clamp32 (pos 1) ≡ pos 1 = clamp-in (pos 1) (omega arith) (omega arith) in
     let e = c .before .ahead .ensures ∙ ap (λ z. clamp32 (a .p .0 -ℤ z)) one in

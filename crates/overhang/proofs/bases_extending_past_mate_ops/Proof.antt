@@ -36,7 +36,7 @@ overhang-requires c κs = search needs
 
 returns-3 : tie.Need-returns-3
 unfolding basesExtending
-returns-3 c = 
+returns-3 c =
     let s = c .before .before .before .before .before .before .before .before .before in
     let a = s .args in
     let e = c .before .before .before in

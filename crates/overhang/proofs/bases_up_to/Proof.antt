@@ -15,7 +15,7 @@ use Rattle.overhang.proofs.bases_up_to.Statement.{statement}
 use Rattle.overhang.proofs.bases_up_to.Tie as tie
 
 abbrev Inv-loop : tie.InvT-loop
-Inv-loop words rec list on n last place₀ bases₀ i₀ place bases i = 
+Inv-loop words rec list on n last place₀ bases₀ i₀ place bases i =
     (i ≤ n)
     × (place < 4294967296)
     × (bases ≤ 268435456 * i)
@@ -52,7 +52,7 @@ loop-holds : tie.Need-loop-holds Inv-loop μ-loop
 loop-holds c = search needs
 
 returns : tie.Need-returns Inv-loop μ-loop
-returns c = 
+returns c =
     let k = c .before .before in
     let a = k .before .before .before .before .before .before .before .before .args in
     let xs = opsOf (a .words .now) (a .rec .now) (a .list) in
@@ -72,7 +72,7 @@ add-result : tie.Need-add-result Inv-loop μ-loop
 add-result c = search needs
 
 returns-2 : tie.Need-returns-2 Inv-loop μ-loop
-returns-2 c = 
+returns-2 c =
     let k = c .before .before .before .before .before in
     let a = k .before .before .before .before .before .before .before .before .args in
     let xs = opsOf (a .words .now) (a .rec .now) (a .list) in
@@ -98,7 +98,7 @@ loop-less : tie.Need-loop-less Inv-loop μ-loop
 loop-less c = search needs
 
 loop-again : tie.Need-loop-again Inv-loop μ-loop
-loop-again c = 
+loop-again c =
     let k = c .before .before .before .before .before .before .before .before in
     let a = k .before .before .before .before .before .before .before .before .args in
     let xs = opsOf (a .words .now) (a .rec .now) (a .list) in
@@ -107,7 +107,7 @@ loop-again c =
     (omega arith, omega arith, omega arith, rw m (omega (arith, c .before .before .query-len .ensures .0)))
 
 returns-3 : tie.Need-returns-3 Inv-loop μ-loop
-returns-3 c = 
+returns-3 c =
     let k = c .before in
     let a = k .before .before .before .before .before .before .before .before .args in
     let xs = opsOf (a .words .now) (a .rec .now) (a .list) in

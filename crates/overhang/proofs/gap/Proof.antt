@@ -14,7 +14,7 @@ natural-of-requires : tie.Need-natural-of-requires
 natural-of-requires c κs = search needs
 
 returns : tie.Need-returns
-returns c = 
+returns c =
     let a = c .before .before .before .before .args in
     let e : toZ w32 (ofZ w32 (a .a .0)) ≡ a .a .0 = search needs in
     let f : toZ w32 (ofZ w32 (a .b .0)) ≡ a .b .0 = search needs in

@@ -7,14 +7,14 @@ use Rattle.overhang.proofs.precedes.Statement.{statement}
 use Rattle.overhang.proofs.precedes.Tie as tie
 
 returns : tie.Need-returns
-returns c = 
+returns c =
     let a = c .before .before .before .before .before .args in
     let e : toZ w32 (ofZ w32 (a .a .0)) ≡ a .a .0 = search needs in
     let f : toZ w32 (ofZ w32 (a .b .0)) ≡ a .b .0 = search needs in
     sym (simp (e, f) at (c .if1 .taken))
 
 returns-2 : tie.Need-returns-2
-returns-2 c = 
+returns-2 c =
     let a = c .before .before .before .before .before .args in
     let e : toZ w32 (ofZ w32 (a .a .0)) ≡ a .a .0 = search needs in
     let f : toZ w32 (ofZ w32 (a .b .0)) ≡ a .b .0 = search needs in

@@ -17,13 +17,13 @@ ref-len-requires : tie.Need-ref-len-requires
 ref-len-requires c κs = search needs
 
 returns-2 : tie.Need-returns-2
-returns-2 c = 
+returns-2 c =
     let s = c .before .before .before in
     let n = c .before .ref-len .ensures .0 in
     simp (sym (s .consumes-query .ensures) ∙ not-false _ (c .before .before .if1 .left), lt-ltb (s .before .args .span) (refLen (s .before .args .op)) (omega arith))
 
 returns-3 : tie.Need-returns-3
-returns-3 c = 
+returns-3 c =
     let s = c .before .before .before in
     let n = c .before .ref-len .ensures .0 in
     simp (sym (s .consumes-query .ensures) ∙ not-false _ (c .before .before .if1 .left), le-ltb (s .before .args .span) (refLen (s .before .args .op)) (omega arith))

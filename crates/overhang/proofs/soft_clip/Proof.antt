@@ -14,7 +14,7 @@ use Rattle.overhang.proofs.soft_clip.Statement.{statement}
 use Rattle.overhang.proofs.soft_clip.Tie as tie
 
 abbrev Inv-loop : tie.InvT-loop
-Inv-loop words rec list start n bases₀ i₀ bases i = 
+Inv-loop words rec list start n bases₀ i₀ bases i =
     (i ≤ n)
     × (bases ≤ 268435456 * i)
     × (bases + clippedBases (drop i (facing start (opsOf words rec list))) ≡ clippedBases (facing start (opsOf words rec list)))
@@ -35,7 +35,7 @@ is-clip-requires : tie.Need-is-clip-requires Inv-loop μ-loop
 is-clip-requires c κs = search needs
 
 returns : tie.Need-returns Inv-loop μ-loop
-returns c = 
+returns c =
     let k = c .before .before .before .before in
     let a = k .before .before .before .before .args in
     let xs = opsOf (a .words .now) (a .rec .now) (a .list) in
@@ -56,7 +56,7 @@ loop-less : tie.Need-loop-less Inv-loop μ-loop
 loop-less c = search needs
 
 loop-again : tie.Need-loop-again Inv-loop μ-loop
-loop-again c = 
+loop-again c =
     let k = c .before .before .before .before .before in
     let a = k .before .before .before .before .args in
     let xs = opsOf (a .words .now) (a .rec .now) (a .list) in
@@ -65,7 +65,7 @@ loop-again c =
     (omega arith, omega arith, omega arith)
 
 returns-2 : tie.Need-returns-2 Inv-loop μ-loop
-returns-2 c = 
+returns-2 c =
     let k = c .before in
     let a = k .before .before .before .before .args in
     let xs = opsOf (a .words .now) (a .rec .now) (a .list) in

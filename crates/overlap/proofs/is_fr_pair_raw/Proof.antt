@@ -1,21 +1,22 @@
+-- The one test, and then the rule.
+use mathlib.Core.Path.{_≡_, refl, sym, ap, _∙_}
+use borrow.Author.Tests.{lt-ltb, le-ltb}
+use Rattle.answers.specs.declared.Flag.the-variants.{Is}
+use Rattle.overlap.specs.Overlap.{frPair}
 use borrow.Author.Needs.{needs}
 use Rattle.overlap.proofs.is_fr_pair_raw.Statement.{statement}
 use Rattle.overlap.proofs.is_fr_pair_raw.Tie as tie
-use Rattle.overlap.proofs.is_fr_pair_raw.Reads as reads
-use Rattle.overlap.proofs.is_fr_pair_raw.Lts as lts
-use Rattle.pairs.proofs.fr.Reads as fr-reads
 
--- src/lib.rt:45:9
 returns : tie.Need-returns
-returns c = ?
+unfolding frPair
+returns c = simp (lt-ltb _ _ (c .if1 .taken))
 
--- src/lib.rt:47:14
 fr-requires : tie.Need-fr-requires
 fr-requires c κs = search needs
 
--- src/lib.rt:41:1
 returns-2 : tie.Need-returns-2
-returns-2 c = ?
+unfolding frPair
+returns-2 c = simp (le-ltb _ _ (c .before .if1 .left)) (ap Is (c .fr .ensures))
 
 pub is-fr-pair-raw-spec : {M : Type 1} → statement M
 is-fr-pair-raw-spec = tie.close (tie.spec returns fr-requires returns-2)

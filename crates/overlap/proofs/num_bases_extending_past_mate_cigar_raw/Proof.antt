@@ -1,70 +1,73 @@
+-- One test after another, and then the overhang where the mate lies.
+use mathlib.Core.Path.{_≡_, refl, sym, ap, _∙_}
+use denote.Ref.{now}
+use mathlib.Core.List.{[]}
+use mir.Syntax.{w32}
+use mir.Val.{toZ, ofZ}
+use Rattle.strict_text.specs.Parsed.{measuredOps}
+use Rattle.pairs.specs.Pairs.{isFrWithMate}
+use Rattle.overlap.proofs.CallLaws.{placed-by, cigar-short, cigar-many, cigar-bad, cigar-is, span-of-ops}
 use borrow.Author.Needs.{needs}
 use Rattle.overlap.proofs.num_bases_extending_past_mate_cigar_raw.Statement.{statement}
 use Rattle.overlap.proofs.num_bases_extending_past_mate_cigar_raw.Tie as tie
-use Rattle.overlap.proofs.num_bases_extending_past_mate_cigar_raw.Reads as reads
-use Rattle.overlap.proofs.num_bases_extending_past_mate_cigar_raw.Lts as lts
-use Rattle.little.proofs.i32_at.Reads as i32-at-reads
-use Rattle.oplist.proofs.lent.Reads as lent-reads
-use Rattle.overlap.proofs.overhang_at.Reads as overhang-at-reads
-use Rattle.overlap.proofs.placed_pair.Reads as placed-pair-reads
-use Rattle.pairs.proofs.fr_with_mate.Reads as fr-with-mate-reads
-use Rattle.strict_text.proofs.measure_ops.Reads as measure-ops-reads
 
--- src/lib.rt:122:9
+-- the pass was over the given list
+measured : (k : tie.After-measure-ops) → measuredOps (now (k .before .before .before .before .before .before .before .args .mate-ops)) ≡ k .measure-ops .result
+measured k = sym (k .measure-ops .ensures ∙ ap measuredOps (k .before .before .lent .ensures []))
+
 returns : tie.Need-returns
-returns c = ?
+returns c = cigar-short _ _ (c .if1 .taken)
 
--- src/lib.rt:125:9
 returns-2 : tie.Need-returns-2
-returns-2 c = ?
+returns-2 c = cigar-many _ _ (c .before .if1 .left) (c .if2 .taken)
 
--- src/lib.rt:127:9
 lent-requires : tie.Need-lent-requires
 lent-requires c κs = search needs
 
--- src/lib.rt:128:69
 slice-aggregate-measure-ops : tie.Need-slice-aggregate-measure-ops
 slice-aggregate-measure-ops c = search needs
 
--- src/lib.rt:128:34
 measure-ops-requires : tie.Need-measure-ops-requires
 measure-ops-requires c κs = search needs
 
--- src/lib.rt:128:26
 enum-known-span : tie.Need-enum-known-span
 enum-known-span c = search needs
 
--- src/lib.rt:129:9
 enum-told : tie.Need-enum-told
 enum-told c = search needs
 
--- src/lib.rt:129:9
 returns-3 : tie.Need-returns-3
-returns-3 c = ?
+returns-3 c =
+    let s = c .before .before .before .before .before .before .before .before .before in
+    cigar-bad (now (s .args .bam)) (now (s .args .mate-ops)) (c .before .before .before .before .before .before .if1 .left) (c .before .before .before .before .before .if2 .left) (measured (c .before .before) ∙ c .enum-told .given .1)
 
--- src/lib.rt:131:30
 fr-with-mate-requires : tie.Need-fr-with-mate-requires
 fr-with-mate-requires c κs = search needs
 
--- src/lib.rt:131:72
 i32-at-requires : tie.Need-i32-at-requires
 i32-at-requires c κs = search needs
 
--- src/lib.rt:131:9
 placed-pair-requires : tie.Need-placed-pair-requires
 placed-pair-requires c κs = search needs
 
--- src/lib.rt:132:40
 slice-aggregate-overhang-at : tie.Need-slice-aggregate-overhang-at
 slice-aggregate-overhang-at c = search needs
 
--- src/lib.rt:132:5
 overhang-at-requires : tie.Need-overhang-at-requires
 overhang-at-requires c κs = search needs
 
--- src/lib.rt:118:1
 returns-4 : tie.Need-returns-4
-returns-4 c = ?
+returns-4 c =
+    let k = c .before .before .before .before .before .before .before .before in
+    let s = k .before .before .before .before .before .before .before in
+    let g = c .before .before .before .before .before .before .span .given in
+    let i = c .before .before .before .i32-at .result in
+    let z = g .0 .1 .0 in
+    let e : toZ w32 (ofZ w32 i) ≡ i = search needs in
+    let f : toZ w32 (ofZ w32 z) ≡ z = search needs in
+    cigar-is (now (s .args .bam)) (now (s .args .mate-ops)) (k .before .before .before .before .if1 .left) (k .before .before .before .if2 .left) _ _ (measured k ∙ g .1)
+    (placed-by (now (s .args .bam)) (now (s .args .mate-ops)) _ (span-of-ops _ _ _ (measured k ∙ g .1)) (c .before .before .before .before .fr-with-mate .ensures ∙ ap (isFrWithMate (now (s .args .bam))) f) (e ∙ c .before .before .before .i32-at .ensures) (c .before .before .placed-pair .ensures))
+    (k .before .before .lent .ensures []) (c .overhang-at .ensures)
 
 pub num-bases-extending-past-mate-cigar-raw-spec : {M : Type 1} → statement M
 num-bases-extending-past-mate-cigar-raw-spec =

@@ -27,7 +27,7 @@ mate-starts-before-requires : tie.Need-mate-starts-before-requires
 mate-starts-before-requires c κs = search needs
 
 returns-2 : tie.Need-returns-2
-returns-2 c = 
+returns-2 c =
     let u = c .before .before .before in
     fr-reverse (now (u .before .before .before .before .args .bam)) _ (u .u16-at .ensures .0) _ (sym (u .before .before .opposite .ensures) ∙ not-false _ (u .before .if1 .left))
     (sym (c .before .before .is-reverse .ensures) ∙ c .before .if2 .taken) (c .mate-starts-before .ensures)
@@ -39,7 +39,7 @@ at-least-one-requires : tie.Need-at-least-one-requires
 at-least-one-requires c κs = search needs
 
 returns-3 : tie.Need-returns-3
-returns-3 c = 
+returns-3 c =
     let u = c .before .before .before .before in
     let n = c .before .i32-at .result in
     let e : toZ w32 (ofZ w32 n) ≡ n = search needs in

@@ -26,7 +26,7 @@ mate-starts-before-requires : tie.Need-mate-starts-before-requires
 mate-starts-before-requires c κs = search needs
 
 returns-2 : tie.Need-returns-2
-returns-2 c = 
+returns-2 c =
     let u = c .before .before .before in
     with-reverse (now (u .before .before .before .before .args .bam)) _ (u .u16-at .ensures .0) _ (sym (u .before .before .opposite .ensures) ∙ not-false _ (u .before .if1 .left)) _
     (sym (c .before .before .is-reverse .ensures) ∙ c .before .if2 .taken) (c .mate-starts-before .ensures)
@@ -41,7 +41,7 @@ starts-before-end-requires : tie.Need-starts-before-end-requires
 starts-before-end-requires c κs = search needs
 
 returns-3 : tie.Need-returns-3
-returns-3 c = 
+returns-3 c =
     let u = c .before .before .before .before .before in
     let p = c .before .before .i32-at .result in
     let m = c .before .i32-at2 .result in

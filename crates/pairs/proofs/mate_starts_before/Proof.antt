@@ -25,7 +25,7 @@ starts-before-end-requires c κs = search needs
 
 returns : tie.Need-returns
 unfolding mateStartsBefore
-returns c = 
+returns c =
     let b = now (c .before .before .before .before .before .args .bam) in
     let m = c .before .before .before .i32-at .result in
     let p = c .before .before .i32-at2 .result in

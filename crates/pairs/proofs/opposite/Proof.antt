@@ -27,7 +27,7 @@ is-paired-requires : tie.Need-is-paired-requires
 is-paired-requires c κs = search needs
 
 returns : tie.Need-returns
-returns c = 
+returns c =
     let u = c .before .before in
     not-paired (now (u .before .before .args .bam)) _ (u .u16-at .ensures .0) (sym (c .before .is-paired .ensures) ∙ not-true _ (c .if1 .taken))
 
@@ -35,7 +35,7 @@ both-mapped-requires : tie.Need-both-mapped-requires
 both-mapped-requires c κs = search needs
 
 returns-2 : tie.Need-returns-2
-returns-2 c = 
+returns-2 c =
     let u = c .before .before .before .before in
     not-mapped (now (u .before .before .args .bam)) _ (u .u16-at .ensures .0) (sym (c .before .before .before .is-paired .ensures) ∙ not-false _ (c .before .before .if1 .left))
     (sym (c .before .both-mapped .ensures) ∙ not-true _ (c .if2 .taken))
@@ -50,7 +50,7 @@ same-requires : tie.Need-same-requires
 same-requires c κs = search needs
 
 returns-3 : tie.Need-returns-3
-returns-3 c = 
+returns-3 c =
     let k = c .before in
     let u = k .before .before .before .before .before .before .before in
     apart (now (u .before .before .args .bam)) _ (u .u16-at .ensures .0) (sym (k .before .before .before .before .before .before .is-paired .ensures) ∙ not-false _ (k .before .before .before .before .before .if1 .left))
@@ -66,7 +66,7 @@ differ-requires : tie.Need-differ-requires
 differ-requires c κs = search needs
 
 returns-4 : tie.Need-returns-4
-returns-4 c = 
+returns-4 c =
     let k = c .before .before .before .before in
     let u = k .before .before .before .before .before .before .before in
     strands (now (u .before .before .args .bam)) _ (u .u16-at .ensures .0) _ _ _ (sym (k .before .before .before .before .before .before .is-paired .ensures) ∙ not-false _ (k .before .before .before .before .before .if1 .left))

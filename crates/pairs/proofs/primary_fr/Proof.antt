@@ -38,7 +38,7 @@ both-mapped-requires : tie.Need-both-mapped-requires
 both-mapped-requires c κs = search needs
 
 returns : tie.Need-returns
-returns c = 
+returns c =
     let u = c .before .before in
     let s = u .before .before .before .before in
     first-unmapped (now (s .args .a)) (now (s .args .b)) _ _ (u .before .u16-at .ensures .0) (u .u16-at2 .ensures .0) (sym (c .before .both-mapped .ensures) ∙ not-true _ (c .if1 .taken))
@@ -47,7 +47,7 @@ both-mapped-requires-2 : tie.Need-both-mapped-requires-2
 both-mapped-requires-2 c κs = search needs
 
 returns-2 : tie.Need-returns-2
-returns-2 c = 
+returns-2 c =
     let u = c .before .before .before .before in
     let s = u .before .before .before .before in
     second-unmapped (now (s .args .a)) (now (s .args .b)) _ _ (u .before .u16-at .ensures .0) (u .u16-at2 .ensures .0) (sym (c .before .before .before .both-mapped .ensures) ∙ not-false _ (c .before .before .if1 .left)) (sym (c .before .both-mapped2 .ensures) ∙ not-true _ (c .if2 .taken))
@@ -62,7 +62,7 @@ same-requires : tie.Need-same-requires
 same-requires c κs = search needs
 
 returns-3 : tie.Need-returns-3
-returns-3 c = 
+returns-3 c =
     let k = c .before in
     let u = k .before .before .before .before .before .before .before in
     let s = u .before .before .before .before in
@@ -78,7 +78,7 @@ differ-requires : tie.Need-differ-requires
 differ-requires c κs = search needs
 
 returns-4 : tie.Need-returns-4
-returns-4 c = 
+returns-4 c =
     let d = c .before in
     let k = d .before .before .before .before in
     let u = k .before .before .before .before .before .before .before in
@@ -89,7 +89,7 @@ fr-requires : tie.Need-fr-requires
 fr-requires c κs = search needs
 
 returns-5 : tie.Need-returns-5
-returns-5 c = 
+returns-5 c =
     let d = c .before .before .before in
     let k = d .before .before .before .before in
     let u = k .before .before .before .before .before .before .before in
@@ -101,7 +101,7 @@ fr-requires-2 : tie.Need-fr-requires-2
 fr-requires-2 c κs = search needs
 
 returns-6 : tie.Need-returns-6
-returns-6 c = 
+returns-6 c =
     let d = c .before .before .before in
     let k = d .before .before .before .before in
     let u = k .before .before .before .before .before .before .before in

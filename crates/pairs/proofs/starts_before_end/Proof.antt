@@ -41,7 +41,7 @@ add-if1 : tie.Need-add-if1
 add-if1 c = search needs
 
 returns : tie.Need-returns
-returns c = 
+returns c =
     let k = c .before in
     let a = k .before .before .before .before .before .args in
     let i : SFits w32 (a .s .0) = search needs in
@@ -49,7 +49,7 @@ returns c =
     sym (starts-by (a .s .0) (a .p .0) (a .n) i j (k .before .before .before .before .before .fits .n) (omega (arith, own k, from k, span k)))
 
 returns-2 : tie.Need-returns-2
-returns-2 c = 
+returns-2 c =
     let k = c .before in
     let a = k .before .before .before .before .before .args in
     let i : SFits w32 (a .s .0) = search needs in
