@@ -2,6 +2,7 @@
 mod bin_calls;
 mod field_calls;
 mod length_calls;
+mod mate_calls;
 mod op_calls;
 
 ghost use mathlib.Core.Path.{_≡_};
@@ -9,10 +10,18 @@ ghost use mathlib.Core.List.{List, [], _∷_};
 ghost use Rattle.answers.specs.Settled.{Settled};
 ghost use Rattle.answers.specs.Answers.{answered, flagValue, tellInt, tellNat, tellCount, tellFlag};
 ghost use Rattle.exports.specs.Exported.{stored, exported};
+ghost use Rattle.exports.specs.Flags.{flagged};
 use answers::Count;
 use answers::Flag;
 use answers::Int;
 use answers::Nat;
+
+// A flag from the other side: anything but 0 is yes.
+pub(crate) fn flag(n: u8) -> bool
+    ensures { λ r. ⌜ r ≡ flagged n ⌝ }
+{
+    n != 0
+}
 
 // One number into the first place of values, or 6.
 pub(crate) fn store(values: &mut [u64], a: u64) -> u32

@@ -10,7 +10,7 @@ use borrow.Author.Tests.{lt-ltb, le-ltb, leb-true, eq-eqb, ne-eqb}
 use Rattle.lists.proofs.Walks.{step, done}
 use Rattle.sam.specs.Op.{opOf}
 use Rattle.strict_text.specs.Pass.{OpAt, NoneAt}
-use Rattle.strict_text.specs.Text.{isDigit, letterCode, Next, Next.Digit, Next.Letter, Next.Bad, nextOf, onNext, rowFrom, opsFrom}
+use Rattle.strict_text.specs.Text.{isDigit, letterCode, Next, Next.Number, Next.Letter, Next.Bad, nextOf, onNext, rowFrom, opsFrom}
 
 pub false-true : false ≡ true → ⊥
 false-true e = let z : _≡_ {A = ℕ} 0 1 = cc in omega arith
@@ -25,7 +25,7 @@ pub digit-bounds : (b : ℕ) → isDigit b ≡ true → (48 ≤ b) × (b ≤ 57)
 digit-bounds b e = let h = both (leb 48 b) (leb b 57) e in (leb-true 48 b (h .0), leb-true b 57 (h .1))
 
 module _ (num b : ℕ) where
-  pub next-digit : isDigit b ≡ true → num * 10 + (b - 48) ≤ 268435455 → nextOf num b ≡ Next.Digit (num * 10 + (b - 48))
+  pub next-digit : isDigit b ≡ true → num * 10 + (b - 48) ≤ 268435455 → nextOf num b ≡ Next.Number (num * 10 + (b - 48))
   unfolding nextOf
   next-digit d h = rw (d, le-ltb 268435455 (num * 10 + (b - 48)) h)
 
@@ -51,7 +51,7 @@ abbrev Both : ℕ → Bool → List ℕ → Bool → List ℕ → Type 0
 Both num some s row ops = (rowFrom num some s ≡ row) × (opsFrom num s ≡ ops)
 
 module _ (s : List ℕ) (i num b : ℕ) (some : Bool) (e : b ≡ getD s i 0) (h : i < length s) where
-  pub on-digit : (v : ℕ) → nextOf num b ≡ Next.Digit v → Both num some (drop i s) (rowFrom v true (drop (i + 1) s)) (opsFrom v (drop (i + 1) s))
+  pub on-digit : (v : ℕ) → nextOf num b ≡ Next.Number v → Both num some (drop i s) (rowFrom v true (drop (i + 1) s)) (opsFrom v (drop (i + 1) s))
   unfolding rowFrom opsFrom
   on-digit v n = let d = step s i b e h in (rw (d, n), rw (d, n))
 
@@ -80,7 +80,7 @@ module _ (s : List ℕ) (at i num : ℕ) (r : Reading s at i num) where
   pub read-bad : i < length s → nextOf num (getD s i 0) ≡ Next.Bad → NoneAt s at
   read-bad h n = let d = on-bad s i num (getD s i 0) (ltb at i) refl h n in record { row = r .0 ∙ d .0; ops = r .1 ∙ d .1 }
 
-  pub read-digit : (v : ℕ) → i < length s → at ≤ i → nextOf num (getD s i 0) ≡ Next.Digit v → Reading s at (i + 1) v
+  pub read-digit : (v : ℕ) → i < length s → at ≤ i → nextOf num (getD s i 0) ≡ Next.Number v → Reading s at (i + 1) v
   read-digit v h l n =
       let d = on-digit s i num (getD s i 0) (ltb at i) refl h v n in
       (r .0 ∙ d .0 ∙ rw (lt-ltb at (i + 1) (omega arith)) refl, r .1 ∙ d .1)

@@ -2,11 +2,13 @@
 -- H and S (`WellPlaced`), lengths from 1, the ops of the table, a reference op; for a text its grammar (`Spells`), with lengths to 268,435,455.
 use Prim.Native.Nat.{ℕ, _≤_, _<_}
 use mathlib.Core.Path.{_≡_}
-use mathlib.Core.Bool.{true}
+use mathlib.Core.Bool.{Bool, true, false, cond, not, _&&_}
 use mathlib.Core.List.{List, [], _∷_, _++_}
+use lib.Dec.{eqb}
 use Rattle.sam.specs.Op.{lenOf, codeOf, isRef}
 use Rattle.sam.specs.Placement.{WellPlaced}
 use Rattle.sam.specs.Text.{Spells}
+use Rattle.strict_text.specs.Text.{isDigit}
 
 abbrev pub Each : (ℕ → Type 0) → List ℕ → Type 0
 Each P [] = Unit {0}
@@ -29,3 +31,11 @@ pub record MappedText (s xs : List ℕ) : Type 0 where
   pub spells : Spells s xs
   pub fits : Each (λ o. lenOf o ≤ 268435455) xs
   pub mapped : Mapped xs
+
+-- a text without its leading zeros: a 0 goes where no kept digit of its number stands before it
+unfoldable pub withoutZeros : Bool → List ℕ → List ℕ
+withoutZeros kept [] = []
+withoutZeros kept (b ∷ s) =
+    cond (isDigit b)
+    (cond (not kept && eqb b 48) (withoutZeros false s) (b ∷ withoutZeros true s))
+    (b ∷ withoutZeros false s)

@@ -21,7 +21,7 @@ letterCode b = place b (77 ∷ 73 ∷ 68 ∷ 78 ∷ 83 ∷ 72 ∷ 80 ∷ 61 ∷ 
 
 -- what a byte does: the number that it makes of the digits so far, the op's code, or no CIGAR
 pub data Next : Type 0 where
-  Digit : ℕ → Next
+  Number : ℕ → Next
   Letter : ℕ → Next
   Bad : Next
 
@@ -29,11 +29,11 @@ pub data Next : Type 0 where
 unfoldable pub nextOf : ℕ → ℕ → Next
 nextOf num b =
     cond (isDigit b)
-    (cond (ltb 268435455 (num * 10 + (b - 48))) Next.Bad (Next.Digit (num * 10 + (b - 48))))
+    (cond (ltb 268435455 (num * 10 + (b - 48))) Next.Bad (Next.Number (num * 10 + (b - 48))))
     (cond (eqb num 0 || ltb 8 (letterCode b)) Next.Bad (Next.Letter (letterCode b)))
 
 abbrev pub onNext : {A : Type 0} → Next → (ℕ → A) → (ℕ → A) → A → A
-onNext (Next.Digit v) digit letter bad = digit v
+onNext (Next.Number v) digit letter bad = digit v
 onNext (Next.Letter c) digit letter bad = letter c
 onNext Next.Bad digit letter bad = bad
 

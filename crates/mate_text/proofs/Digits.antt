@@ -1,0 +1,71 @@
+-- Digits as bytes and as numbers: the test is the specification's, and a run held at 2^64 - 1 counts what the unbounded number counts, since both count 0 from 2^31 on.
+use mathlib.Core.Path.{_≡_, refl, sym, ap, _∙_}
+use mathlib.Core.Bool.{Bool, true, false}
+use mathlib.Core.List.{List, [], _∷_, _++_}
+use Prim.Native.Nat.{ℕ, _+_, _-_, _*_, _≤_, _<_, min}
+use native.Mathlib.Omega.{arith}
+use lib.Dec.{ltb, leb}
+use borrow.Author.Tests.{le-ltb, ltb-false, leb-true, leb-false, le-leb, lt-leb}
+use Rattle.sam.specs.Text.{Digit, Digits, value}
+use Rattle.mate_text.specs.Run.{isDigit, countOf, pushOf}
+
+false-true : false ≡ true → ⊥
+false-true e = let z : _≡_ {A = ℕ} 0 1 = cc in omega arith
+
+-- ---- the test of a byte
+
+pub digit-range : (b : ℕ) → isDigit b ≡ true → Digit b
+digit-range b e = go (ltb b 48) refl
+  where
+    go : (t : Bool) → ltb b 48 ≡ t → Digit b
+    go true q = absurd (false-true (rw q at e))
+    go false q = record { least = ltb-false b 48 q; most = leb-true b 57 (rw q at e) }
+
+pub digit-test : (b : ℕ) → Digit b → isDigit b ≡ true
+digit-test b d = rw (le-ltb b 48 (d .least)) (le-leb b 57 (d .most))
+
+-- ---- what a number counts
+
+pub count-small : (n : ℕ) → n ≤ 2147483647 → countOf n ≡ n
+unfolding countOf
+count-small n h = rw (le-leb n 2147483647 h)
+
+count-large : (n : ℕ) → 2147483647 < n → countOf n ≡ 0
+unfolding countOf
+count-large n h = rw (lt-leb n 2147483647 h)
+
+count-held : (n : ℕ) → countOf (min n 18446744073709551615) ≡ countOf n
+count-held n = go (leb n 2147483647) refl
+  where
+    go : (t : Bool) → leb n 2147483647 ≡ t → countOf (min n 18446744073709551615) ≡ countOf n
+    go true q = let h = leb-true n 2147483647 q in ap countOf (omega arith)
+    go false q = let h = leb-false n 2147483647 q in count-large (min n 18446744073709551615) (omega arith) ∙ sym (count-large n (omega arith))
+
+-- ---- the run
+
+-- a run after digits
+abbrev pub runOf : ℕ → List ℕ → ℕ
+runOf x [] = x
+runOf x (b ∷ ds) = runOf (pushOf x b) ds
+
+pub run-snoc : (x : ℕ) (ds : List ℕ) (b : ℕ) → runOf x (ds ++ (b ∷ [])) ≡ pushOf (runOf x ds) b
+run-snoc x [] b = refl
+run-snoc x (d ∷ ds) b = run-snoc (pushOf x d) ds b
+
+pub digits-snoc : (ds : List ℕ) (b : ℕ) → Digits ds → Digit b → Digits (ds ++ (b ∷ []))
+digits-snoc [] b k d = (d, tt)
+digits-snoc (e ∷ ds) b k d = (k .0, digits-snoc ds b (k .1) d)
+
+push-held : (n b : ℕ) → isDigit b ≡ true → pushOf (min n 18446744073709551615) b ≡ min (n * 10 + (b - 48)) 18446744073709551615
+unfolding pushOf
+push-held n b e = rw e (omega arith)
+
+run-held : (ds : List ℕ) (n x : ℕ) → Digits ds → x ≡ min n 18446744073709551615 → runOf x ds ≡ min (value n ds) 18446744073709551615
+unfolding value
+run-held [] n x k h = h
+run-held (b ∷ ds) n x k h =
+    run-held ds (n * 10 + (b - 48)) (pushOf x b) (k .1) (ap (λ (y : ℕ). pushOf y b) h ∙ push-held n b (digit-test b (k .0)))
+
+-- THE LAW of the run: saturating at 2^64 - 1 does not show
+pub run-counts : (ds : List ℕ) → Digits ds → countOf (runOf 0 ds) ≡ countOf (value 0 ds)
+run-counts ds k = ap countOf (run-held ds 0 0 k refl) ∙ count-held (value 0 ds)

@@ -1,0 +1,5 @@
+pub mod Digits
+pub mod Steps
+pub mod Scans
+pub mod Sums
+pub mod Agree

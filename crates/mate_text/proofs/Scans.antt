@@ -1,0 +1,88 @@
+-- The scan of the bytes is a walk over the text's pieces: digits gather in the run, and the byte after them ends the piece that they are the digits of.
+use mathlib.Core.Path.{_≡_, refl, sym, ap, _∙_}
+use mathlib.Core.Bool.{Bool, true, false, not, cond}
+use mathlib.Core.List.{List, [], _∷_, _++_, append-assoc, append-nil}
+use Prim.Native.Nat.{ℕ, _+_, _<_, _≤_}
+use lib.IntN.{ℤ, pos}
+use lib.ListN.{length, drop, getD}
+use Rattle.lists.proofs.Walks.{step, done}
+use Rattle.sam.specs.Text.{Digits, value}
+use Rattle.mate_text.specs.Run.{isDigit, countOf}
+use Rattle.mate_text.specs.Mate.{Piece, pieces, withDigit, counts}
+use Rattle.mate_text.specs.Scan.{runAfter, numberAfter, foundAfter, leadPiece}
+use Rattle.mate_text.specs.declared.Lead.{Lead}
+use Rattle.mate_text.proofs.Digits.{digit-range, digit-test, runOf, run-snoc, digits-snoc, run-counts}
+use Rattle.mate_text.proofs.Steps.{run-digit, run-letter, found-digit, found-letter, found-read, lead-off}
+
+-- ---- pieces of a text that begins with digits
+
+pub no-piece : (ds : List ℕ) → Digits ds → pieces ds ≡ []
+unfolding pieces
+no-piece [] k = refl
+no-piece (d ∷ ds) k = rw (digit-test d (k .0)) (ap (withDigit d) (no-piece ds (k .1)))
+
+pub first-piece : (ds : List ℕ) (b : ℕ) (t : List ℕ) → Digits ds → isDigit b ≡ false → pieces (ds ++ (b ∷ t)) ≡ record { digits = ds; letter = b } ∷ pieces t
+unfolding pieces
+first-piece [] b t k e = rw e
+first-piece (d ∷ ds) b t k e = rw (digit-test d (k .0)) (ap (withDigit d) (first-piece ds b t (k .1) e))
+
+-- ---- the scan
+
+module _ {S : Type 0} (f : S → ℤ → ℕ → S) where
+  -- a text, from a run and what was found before
+  unfoldable pub scan : ℕ → S → List ℕ → S
+  scan x s [] = s
+  scan x s (b ∷ t) = scan (runAfter x b) (foundAfter f x s b) t
+
+  unfoldable pub overPieces : S → List Piece → S
+  overPieces s [] = s
+  overPieces s (p ∷ ps) = overPieces (f s (pos (counts p)) (p .letter)) ps
+
+  scan-pieces : (t ds : List ℕ) (s : S) → Digits ds → scan (runOf 0 ds) s t ≡ overPieces s (pieces (ds ++ t))
+  unfolding scan overPieces
+  scan-pieces [] ds s k = sym (ap (overPieces s) (ap pieces (append-nil ds) ∙ no-piece ds k))
+  scan-pieces (b ∷ t) ds s k = go (isDigit b) refl (scan-pieces t)
+    where
+      go : (u : Bool) → isDigit b ≡ u → ((es : List ℕ) (r : S) → Digits es → scan (runOf 0 es) r t ≡ overPieces r (pieces (es ++ t)))
+          → scan (runAfter (runOf 0 ds) b) (foundAfter f (runOf 0 ds) s b) t ≡ overPieces s (pieces (ds ++ (b ∷ t)))
+      go true e ih =
+          ap (λ (x : ℕ). scan x (foundAfter f (runOf 0 ds) s b) t) (run-digit (runOf 0 ds) b e ∙ sym (run-snoc 0 ds b))
+          ∙ ap (λ (r : S). scan (runOf 0 (ds ++ (b ∷ []))) r t) (found-digit f (runOf 0 ds) s b e)
+          ∙ ih (ds ++ (b ∷ [])) s (digits-snoc ds b k (digit-range b e))
+          ∙ ap (λ (l : List ℕ). overPieces s (pieces l)) (append-assoc ds (b ∷ []) t)
+      go false e ih =
+          ap (λ (x : ℕ). scan x (foundAfter f (runOf 0 ds) s b) t) (run-letter (runOf 0 ds) b e)
+          ∙ ap (λ (r : S). scan 0 r t) (found-letter f (runOf 0 ds) s b e ∙ ap (λ (n : ℕ). f s (pos n) b) (run-counts ds k))
+          ∙ ih [] (f s (pos (countOf (value 0 ds))) b) tt
+          ∙ sym (ap (overPieces s) (first-piece ds b t k e))
+
+  -- THE LAW of the scan
+  pub scan-is : (s : S) (t : List ℕ) → scan 0 s t ≡ overPieces s (pieces t)
+  scan-is s t = scan-pieces t [] s tt
+
+  -- one turn of its loop, from what reading the byte answered; and the end
+  pub scan-turn : (text : List ℕ) (i x y : ℕ) (s r : S) (ended : Bool) (n : ℤ) → i < length text
+      → (y ≡ runAfter x (getD text i 0)) × (ended ≡ not (isDigit (getD text i 0))) × (n ≡ numberAfter x (getD text i 0))
+      → r ≡ cond ended (f s n (getD text i 0)) s → scan y r (drop (i + 1) text) ≡ scan x s (drop i text)
+  unfolding scan
+  scan-turn text i x y s r ended n h e g =
+      ap (λ (z : ℕ). scan z r (drop (i + 1) text)) (e .0)
+      ∙ ap (λ (q : S). scan (runAfter x (getD text i 0)) q (drop (i + 1) text)) (found-read f x s (getD text i 0) ended n r (e .1) (e .2) g)
+      ∙ sym (ap (scan x s) (step text i (getD text i 0) refl h))
+
+  pub scan-end : (text : List ℕ) (i x : ℕ) (s : S) → length text ≤ i → scan x s (drop i text) ≡ s
+  unfolding scan
+  scan-end text i x s h = ap (scan x s) (done text i h)
+
+-- once another letter than a clip was met, nothing more is found
+found-off : (x : ℕ) (s : Lead) (b : ℕ) → s .on ≡ false → foundAfter leadPiece x s b ≡ s
+found-off x s b e = go (isDigit b) refl
+  where
+    go : (u : Bool) → isDigit b ≡ u → foundAfter leadPiece x s b ≡ s
+    go true q = found-digit leadPiece x s b q
+    go false q = found-letter leadPiece x s b q ∙ lead-off s (pos (countOf x)) b e
+
+pub scan-off : (t : List ℕ) (x : ℕ) (s : Lead) → s .on ≡ false → scan leadPiece x s t ≡ s
+unfolding scan
+scan-off [] x s e = refl
+scan-off (b ∷ t) x s e = ap (λ (r : Lead). scan leadPiece (runAfter x b) r t) (found-off x s b e) ∙ scan-off t (runAfter x b) s e

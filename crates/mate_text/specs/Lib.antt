@@ -1,0 +1,4 @@
+pub mod Run
+pub mod Mate
+pub mod Scan
+pub mod Readers

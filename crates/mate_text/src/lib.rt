@@ -1,0 +1,298 @@
+// Document 01, module 6: the mate's unclipped 5' end from text. Reads any bytes, refuses none; each step saturates.
+ghost use mathlib.Core.Path.{_≡_};
+ghost use mathlib.Core.Bool.{cond, not};
+ghost use lib.IntN.{ℤ, pos};
+ghost use Rattle.mate_text.specs.Run.{isDigit, countOf, pushOf};
+ghost use Rattle.mate_text.specs.Mate.{isRefLetter, isClipLetter, mateLeading, mateReference, mateTrailing, held, mateStart, mateEnd, mateUnclipped, mateUnclipped1};
+ghost use Rattle.mate_text.specs.Scan.{runAfter, numberAfter, leadPiece, tailPiece};
+use answers::Pos0;
+use answers::Pos1;
+
+fn is_digit(b: u8) -> bool
+    ensures { λ r. ⌜ r ≡ isDigit b ⌝ }
+{
+    if b < 48 { false } else { b <= 57 }
+}
+
+// M D N = X.
+fn is_ref(b: u8) -> bool
+    ensures { λ r. ⌜ r ≡ isRefLetter b ⌝ }
+{
+    match b {
+        b'M' => true,
+        b'D' => true,
+        b'N' => true,
+        b'=' => true,
+        b'X' => true,
+        _ => false,
+    }
+}
+
+// S H.
+fn is_clip(b: u8) -> bool
+    ensures { λ r. ⌜ r ≡ isClipLetter b ⌝ }
+{
+    match b {
+        b'S' => true,
+        b'H' => true,
+        _ => false,
+    }
+}
+
+fn wide(b: u8) -> u64
+    ensures { λ r. ⌜ r ≡ b ⌝ }
+{
+    b as u64
+}
+
+// The digits so far, then one more byte; as they were where the byte is no digit.
+fn pushed(x: u64, b: u8) -> u64
+    ensures { λ r. ⌜ r ≡ pushOf x b ⌝ }
+{
+    if is_digit(b) {
+        if 1844674407370955161 < x {
+            return 18446744073709551615;
+        }
+        let y = x * 10;
+        let d = wide(b) - 48;
+        if 18446744073709551615 - d < y {
+            return 18446744073709551615;
+        }
+        return y + d;
+    }
+    x
+}
+
+// What a number counts: 0 above 2^31 - 1.
+fn counted(x: u64) -> i32
+    ensures { λ r. ⌜ r ≡ pos (countOf x) ⌝ }
+{
+    if x <= 2147483647 {
+        return x as i32;
+    }
+    0
+}
+
+// The number of the digits since the last letter.
+pub struct DigitRun(u64);
+
+impl DigitRun {
+    pub fn new() -> Self
+        ensures { λ r. ⌜ r .0 ≡ 0 ⌝ }
+    {
+        DigitRun(0)
+    }
+
+    // Feeds one byte; answers whether it was a digit and was taken.
+    pub fn push(&mut self, byte: u8) -> bool
+        ensures { λ r. ⌜ (r ≡ isDigit byte) × (now (self .exit) .0 ≡ pushOf (now (self .entry) .0) byte) ⌝ }
+    {
+        let x = pushed(self.0, byte);
+        self.0 = x;
+        is_digit(byte)
+    }
+
+    // What the run counts; the run is empty afterwards.
+    pub fn take(&mut self) -> i32
+        ensures { λ r. ⌜ (r ≡ pos (countOf (now (self .entry) .0))) × (now (self .exit) .0 ≡ 0) ⌝ }
+    {
+        let v = counted(self.0);
+        self.0 = 0;
+        v
+    }
+}
+
+// A run after a byte, and whether the byte was a digit.
+struct Fed {
+    run: DigitRun,
+    digit: bool,
+}
+
+// The run is lent to `push` for one byte, and comes back.
+fn feed(run: DigitRun, byte: u8) -> Fed
+    ensures { λ r. ⌜ (r .run .0 ≡ pushOf (run .0) byte) × (r .digit ≡ isDigit byte) ⌝ }
+{
+    let mut r = run;
+    let digit = r.push(byte);
+    Fed { run: r, digit }
+}
+
+// The empty run after a letter, and what it counted before.
+struct Taken {
+    run: DigitRun,
+    number: i32,
+}
+
+// The run is lent to `take` at a letter, and comes back.
+fn drain(run: DigitRun) -> Taken
+    ensures { λ r. ⌜ (r .run .0 ≡ 0) × (r .number ≡ pos (countOf (run .0))) ⌝ }
+{
+    let mut r = run;
+    let number = r.take();
+    Taken { run: r, number }
+}
+
+// The run after a byte; whether the byte ended a piece, and what that counts.
+struct Read {
+    run: DigitRun,
+    ended: bool,
+    number: i32,
+}
+
+fn read_byte(run: DigitRun, byte: u8) -> Read
+    ensures { λ r. ⌜ (r .run .0 ≡ runAfter (run .0) byte) × (r .ended ≡ not (isDigit byte)) × (r .number ≡ numberAfter (run .0) byte) ⌝ }
+{
+    let fed = feed(run, byte);
+    let more = fed.run;
+    if fed.digit {
+        return Read {
+            run: more,
+            ended: false,
+            number: 0,
+        };
+    }
+    let taken = drain(more);
+    let empty = taken.run;
+    Read {
+        run: empty,
+        ended: true,
+        number: taken.number,
+    }
+}
+
+// The leading clips, and whether no other letter was met.
+struct Lead {
+    clips: i32,
+    on: bool,
+}
+
+fn lead_piece(s: Lead, ended: bool, number: i32, letter: u8) -> Lead
+    ensures { λ r. ⌜ r ≡ cond ended (leadPiece s number letter) s ⌝ }
+{
+    if !ended {
+        return s;
+    }
+    if !s.on {
+        return s;
+    }
+    if !is_clip(letter) {
+        return Lead {
+            clips: s.clips,
+            on: false,
+        };
+    }
+    Lead {
+        clips: signed::saturating_add(s.clips, number),
+        on: true,
+    }
+}
+
+// The total of the leading S and H.
+fn parse_leading_clips(text: &[u8]) -> i32
+    ensures { λ r. ⌜ r ≡ held (mateLeading (now (text .entry))) ⌝ }
+{
+    let mut run = DigitRun::new();
+    let mut found = Lead { clips: 0, on: true };
+    let mut i = 0;
+    while i < text.len() {
+        let b = text[i];
+        let read = read_byte(run, b);
+        found = lead_piece(found, read.ended, read.number, b);
+        if !found.on {
+            return found.clips;
+        }
+        let next = read.run;
+        run = next;
+        i += 1;
+    }
+    found.clips
+}
+
+// The reference length, the clips since its last letter, and whether there was one.
+struct Tail {
+    refs: i32,
+    clips: i32,
+    seen: bool,
+}
+
+fn tail_piece(s: Tail, ended: bool, number: i32, letter: u8) -> Tail
+    ensures { λ r. ⌜ r ≡ cond ended (tailPiece s number letter) s ⌝ }
+{
+    if !ended {
+        return s;
+    }
+    if is_ref(letter) {
+        return Tail {
+            refs: signed::saturating_add(s.refs, number),
+            clips: 0,
+            seen: true,
+        };
+    }
+    if !is_clip(letter) {
+        return s;
+    }
+    if !s.seen {
+        return s;
+    }
+    Tail {
+        refs: s.refs,
+        clips: signed::saturating_add(s.clips, number),
+        seen: true,
+    }
+}
+
+// The reference length, and the total of the S and H after its last letter.
+fn parse_ref_len_and_trailing_clips(text: &[u8]) -> Tail
+    ensures { λ r. ⌜ (r .refs ≡ held (mateReference (now (text .entry)))) × (r .clips ≡ held (mateTrailing (now (text .entry)))) ⌝ }
+{
+    let mut run = DigitRun::new();
+    let mut found = Tail {
+        refs: 0,
+        clips: 0,
+        seen: false,
+    };
+    let mut i = 0;
+    while i < text.len() {
+        let b = text[i];
+        let read = read_byte(run, b);
+        found = tail_piece(found, read.ended, read.number, b);
+        let next = read.run;
+        run = next;
+        i += 1;
+    }
+    found
+}
+
+fn unclipped_other_start(position: i32, text: &[u8]) -> i32
+    ensures { λ r. ⌜ r ≡ mateStart position (now (text .entry)) ⌝ }
+{
+    signed::saturating_sub(position, parse_leading_clips(text))
+}
+
+// The 1 goes first: taken last, it would bring a sum that saturated below 2^31 - 1.
+fn unclipped_other_end(position: i32, text: &[u8]) -> i32
+    ensures { λ r. ⌜ r ≡ mateEnd position (now (text .entry)) ⌝ }
+{
+    let t = parse_ref_len_and_trailing_clips(text);
+    signed::saturating_add(
+        signed::saturating_add(signed::saturating_sub(position, 1), t.refs),
+        t.clips,
+    )
+}
+
+// The mate's unclipped 5' position from its text: its start where it is forward, its end where it is reverse.
+pub fn mate_unclipped_5prime(position: i32, reverse: bool, text: &[u8]) -> i32
+    ensures { λ r. ⌜ r ≡ mateUnclipped position reverse (now (text .entry)) ⌝ }
+{
+    if reverse {
+        return unclipped_other_end(position, text);
+    }
+    unclipped_other_start(position, text)
+}
+
+// The same, of a record's position, as an answer that counts from 1.
+pub fn mate_unclipped_5prime_1based(position: Pos0, reverse: bool, text: &[u8]) -> Pos1
+    ensures { λ r. ⌜ r ≡ mateUnclipped1 position reverse (now (text .entry)) ⌝ }
+{
+    Pos1(mate_unclipped_5prime(signed::saturating_add(position.0, 1), reverse, text))
+}

@@ -1,0 +1,121 @@
+-- A run of stores in parts; decimal is the last digits, as many as there are; the text goes op by op.
+use Prim.Native.Nat.{ℕ, zero, suc, _+_, _-_, _*_, _/_, _%_, _^_, _≤_, _<_}
+use mathlib.Core.Path.{_≡_, refl, sym, ap, _∙_, subst}
+use mathlib.Core.Bool.{Bool, true, false, cond, _||_}
+use mathlib.Core.List.{List, [], _∷_, _++_}
+use native.Mathlib.Nat.{add-zero, add-suc, suc-add, mod-eq-of-lt, pow-suc, pow-le-pow-right, le-div-iff-mul-le, div-lt-iff-lt-mul, zero-lt-suc}
+use native.Mathlib.Omega.{arith}
+use lib.ListN.{length, set, drop, getD, length-append}
+use lib.Seq.{sets, set-comm}
+use lib.Dec.{ltb}
+use borrow.Author.Tests.{lt-ltb, le-ltb}
+use Rattle.lists.proofs.Walks.{step, done}
+use Rattle.sam.specs.Op.{lenOf, codeOf}
+use Rattle.ops.specs.Ops.{letterOf}
+use Rattle.print.specs.Text.{dec, decimal, opText, textOf, anyBad}
+use Rattle.print.specs.Digits.{Width, digits}
+use Rattle.print.specs.declared.Room.the-variants as Room
+
+module _ {ℓ} {A : Type ℓ} where
+  -- a run of stores in two parts
+  pub sets-append : (t u l : List A) (i : ℕ) → sets l i (t ++ u) ≡ sets (sets l i t) (i + length t) u
+  sets-append [] u l i = ap (λ (k : ℕ). sets l k u) (sym (add-zero i))
+  sets-append (a ∷ t) u l i =
+      sets-append t u (set l i a) (suc i) ∙ ap (λ (k : ℕ). sets (sets (set l i a) (suc i) t) k u) (suc-add i (length t) ∙ sym (add-suc i (length t)))
+
+  -- a store after a run of stores before it may go first
+  pub set-sets : (vs l : List A) (i k : ℕ) (a : A) → i + length vs ≤ k → set (sets l i vs) k a ≡ sets (set l k a) i vs
+  set-sets [] l i k a h = refl
+  set-sets (b ∷ vs) l i k a h =
+      set-sets vs (set l i b) (suc i) k a (omega arith)
+      ∙ ap (λ (m : List A). sets m (suc i) vs) (set-comm l i k b a (omega arith))
+
+pub length-digits : (k n : ℕ) → length (digits k n) ≡ k
+unfolding digits
+length-digits zero n = refl
+length-digits (suc k) n = length-append (digits k (n / 10)) _ ∙ omega (arith, length-digits k (n / 10))
+
+-- a turn of the loop that puts digits from the right
+pub digits-turn : (j n at : ℕ) (l : List ℕ) → sets (set l (at + j) (48 + n % 10)) at (digits j (n / 10)) ≡ sets l at (digits (suc j) n)
+unfolding digits
+digits-turn j n at l =
+    let e : length (digits j (n / 10)) ≡ j = length-digits j (n / 10) in
+    sym (set-sets (digits j (n / 10)) l at (at + j) (48 + n % 10) (omega arith))
+    ∙ ap (λ (k : ℕ). set (sets l at (digits j (n / 10))) (at + k) (48 + n % 10)) (sym e)
+    ∙ sym (sets-append (digits j (n / 10)) ((48 + n % 10) ∷ []) l at)
+
+dec-digits : (k f n : ℕ) → k ≤ f → n < 10 ^ suc k → (0 < k → 10 ^ k ≤ n) → dec (suc f) n ≡ digits (suc k) n
+unfolding dec digits
+dec-digits zero f n h lt le = rw (lt-ltb n 10 lt, mod-eq-of-lt {n = n} {m = 10} lt)
+dec-digits (suc k) zero n h lt le = absurd (omega arith)
+dec-digits (suc k) (suc f) n h lt le =
+    let low : 10 ^ k * 10 ≤ n = subst (λ (x : ℕ). x ≤ n) (pow-suc 10 k) (le (zero-lt-suc k)) in
+    let one : 1 ≤ 10 ^ k = pow-le-pow-right {n = 10} (zero-lt-suc 9) {i = 0} {j = k} (omega arith) in
+    let ge : 10 ≤ n = omega arith in
+    rw (le-ltb n 10 ge)
+    (ap (λ (l : List ℕ). l ++ ((48 + n % 10) ∷ []))
+    (dec-digits k f (n / 10) (omega arith)
+    (div-lt-iff-lt-mul {k = 10} (zero-lt-suc 9) .1 (subst (λ (x : ℕ). n < x) (pow-suc 10 (suc k)) lt))
+    (λ _. le-div-iff-mul-le {k = 10} (zero-lt-suc 9) .1 low)))
+
+few : (k n : ℕ) → k ≤ 9 → (0 < k → 10 ^ k ≤ n) → k ≤ n
+few zero n h le = omega arith
+few (suc k) n h le =
+    let ten : 10 ≤ 10 ^ suc k = pow-le-pow-right {n = 10} (zero-lt-suc 9) {i = 1} {j = suc k} (omega arith) in
+    omega (arith, le (zero-lt-suc k))
+
+pub decimal-digits : (n r : ℕ) → Width n r → decimal n ≡ digits r n
+unfolding decimal
+decimal-digits n zero w = absurd (omega (arith, w .some))
+decimal-digits n (suc k) w =
+    let le : 0 < k → 10 ^ k ≤ n = λ h. subst (λ (x : ℕ). 10 ^ x ≤ n) {x = suc k - 1} {y = k} (omega arith) (w .least (omega arith)) in
+    dec-digits k n n (few k n (omega (arith, w .most)) le) (w .below) le
+
+pub opText-digits : (op r : ℕ) → Width (lenOf op) r → opText op ≡ digits r (lenOf op) ++ (letterOf (codeOf op) ∷ [])
+unfolding opText
+opText-digits op r w = ap (λ (l : List ℕ). l ++ (letterOf (codeOf op) ∷ [])) (decimal-digits (lenOf op) r w)
+
+pub opText-length : (op r : ℕ) → Width (lenOf op) r → length (opText op) ≡ r + 1
+opText-length op r w =
+    ap length (opText-digits op r w) ∙ length-append (digits r (lenOf op)) _ ∙ ap (λ (k : ℕ). k + 1) (length-digits r (lenOf op))
+
+module _ (xs : List ℕ) (i x : ℕ) (e : x ≡ getD xs i 0) (h : i < length xs) where
+  pub text-step : textOf (drop i xs) ≡ opText x ++ textOf (drop (i + 1) xs)
+  unfolding textOf
+  text-step = ap textOf (step xs i x e h)
+
+  pub length-step : length (textOf (drop i xs)) ≡ length (opText x) + length (textOf (drop (i + 1) xs))
+  length-step = ap length text-step ∙ length-append (opText x) (textOf (drop (i + 1) xs))
+
+  pub bad-step : anyBad (drop i xs) ≡ (ltb 8 (codeOf x) || anyBad (drop (i + 1) xs))
+  unfolding anyBad
+  bad-step = ap anyBad (step xs i x e h)
+
+  -- what is left to store after the op at i
+  pub text-turn : (l : List ℕ) (at : ℕ) → sets (sets l at (opText x)) (at + length (opText x)) (textOf (drop (i + 1) xs)) ≡ sets l at (textOf (drop i xs))
+  text-turn l at = sym (ap (sets l at) text-step ∙ sets-append (opText x) (textOf (drop (i + 1) xs)) l at)
+
+module _ (xs : List ℕ) (i : ℕ) (h : length xs ≤ i) where
+  pub text-done : textOf (drop i xs) ≡ []
+  unfolding textOf
+  text-done = ap textOf (done xs i h)
+
+  pub bad-done : anyBad (drop i xs) ≡ false
+  unfolding anyBad
+  bad-done = ap anyBad (done xs i h)
+
+-- what `put_op` stores: the digits, then the letter
+pub op-stores : (op r : ℕ) → Width (lenOf op) r → (l : List ℕ) (at : ℕ) → set (sets l at (digits r (lenOf op))) (at + r) (letterOf (codeOf op)) ≡ sets l at (opText op)
+op-stores op r w l at =
+    ap (λ (k : ℕ). set (sets l at (digits r (lenOf op))) (at + k) (letterOf (codeOf op))) (sym (length-digits r (lenOf op)))
+    ∙ sym (sets-append (digits r (lenOf op)) (letterOf (codeOf op) ∷ []) l at)
+    ∙ ap (λ (t : List ℕ). sets l at t) (sym (opText-digits op r w))
+
+-- which case `roomOf` is
+pub room-bad : (b : Bool) (t : ℕ) → cond b Room.BadCode (Room.Bytes t) ≡ Room.BadCode → b ≡ true
+room-bad true t e = refl
+room-bad false t e = let z : _≡_ {A = ℕ} 0 1 = cc in absurd (omega arith)
+
+pub room-some : (b : Bool) (t n : ℕ) → cond b Room.BadCode (Room.Bytes t) ≡ Room.Bytes n → (b ≡ false) × (t ≡ n)
+room-some true t n e = let z : _≡_ {A = ℕ} 0 1 = cc in absurd (omega arith)
+room-some false t n e = (refl, cc)
