@@ -1,3 +1,4 @@
 pub mod ExportLaws
 pub mod OpLaws
 pub mod BinLaws
+pub mod OverlapLaws

@@ -4,6 +4,7 @@ mod field_calls;
 mod length_calls;
 mod mate_calls;
 mod op_calls;
+mod overlap_calls;
 
 ghost use mathlib.Core.Path.{_≡_};
 ghost use mathlib.Core.List.{List, [], _∷_};

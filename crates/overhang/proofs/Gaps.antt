@@ -1,10 +1,10 @@
 -- The gap of a read that stops short is never negative, so the Rust's cast to an unsigned number takes it as it is: a held sum keeps an order with a number of an i32.
 use Prim.Native.Nat.{ℕ, _+_, _≤_, _<_}
-use mathlib.Core.Path.{_≡_, refl, sym, ap, _∙_}
+use mathlib.Core.Path.{_≡_, refl}
 use mathlib.Core.Bool.{Bool, true, false}
 use mathlib.Core.List.{List}
 use native.Mathlib.Omega.{arith}
-use lib.IntN.{ℤ, pos, negsuc, _+ℤ_, _-ℤ_}
+use lib.IntN.{ℤ, pos, _+ℤ_, _-ℤ_}
 use lib.Dec.{ltb}
 use lib.Signed.{ltZ, leZ}
 use mir.Syntax.{w32}

@@ -10,12 +10,12 @@ use lib.Dec.{ltb}
 use lib.Signed.{ltZ, leZ}
 use mir.Syntax.{w32}
 use mir.Val.{SFits}
-use borrow.Author.Tests.{ltb-true, ltb-false, lt-ltb, le-ltb}
+use borrow.Author.Tests.{ltb-true, ltb-false, le-ltb}
 use Rattle.lists.specs.Lists.{sumOf}
 use Rattle.signed.specs.Whole.{raised}
 use Rattle.signed.proofs.Halves.{up, dn, plus, is-lt, is-le, raise-fact}
 use Rattle.sam.specs.Op.{lenOf, codeOf, isQuery, isRef, queryLen, refLen}
-use Rattle.sam.specs.Columns.{Column, Both, Query, Reference, columns, queries, refs, refOf, Seen, base, gap}
+use Rattle.sam.specs.Columns.{Column, Both, Query, Reference, columns, queries, refs, refOf, Seen}
 use Rattle.sam.proofs.ColumnLaws.{queries-append}
 use Rattle.sam.proofs.LengthLaws.{query-length}
 use Rattle.answers.specs.declared.Spot.{Spot}

@@ -1,15 +1,15 @@
 -- The three ways of a read to lie to its mate, each from its tests: the definition's own.
 use Prim.Native.Nat.{ℕ, _-_}
-use mathlib.Core.Path.{_≡_, refl, sym, ap, _∙_}
+use mathlib.Core.Path.{_≡_, sym}
 use mathlib.Core.Bool.{Bool, true, false}
 use mathlib.Core.List.{List}
 use lib.IntN.{ℤ, pos, _+ℤ_, _-ℤ_}
 use lib.Signed.{ltZ}
 use Rattle.lists.specs.Lists.{sumOf}
 use Rattle.signed.specs.Whole.{clamp32}
-use Rattle.sam.specs.Op.{queryLen, refLen}
+use Rattle.sam.specs.Op.{queryLen}
 use Rattle.overhang.specs.Reach.{basesUpTo, softClip}
-use Rattle.overhang.specs.Overhang.{endAt, endOf, softStart, softEnd, gapTo, earlierOf, laterOf, forwardOverhang, reverseOverhang, overhangOf}
+use Rattle.overhang.specs.Overhang.{endOf, softStart, softEnd, gapTo, earlierOf, laterOf, forwardOverhang, reverseOverhang, overhangOf}
 
 pub differ : {r a b x y : ℕ} → r ≡ a - b → a ≡ x → b ≡ y → r ≡ x - y
 differ e p q = cc

@@ -2,7 +2,7 @@
 use Prim.Native.Nat.{ℕ, _+_, _-_, _≤_, _<_, min}
 use mathlib.Core.Path.{_≡_, refl, sym, ap, _∙_}
 use mathlib.Core.Bool.{Bool, true, false}
-use mathlib.Core.Logic.{_⊎_, inl, inr, ⊎-elim}
+use mathlib.Core.Logic.{⊎-elim}
 use native.Mathlib.Omega.{arith}
 use lib.IntN.{ℤ, pos, negsuc, _+ℤ_, _-ℤ_}
 use lib.Dec.{ltb}
@@ -11,7 +11,7 @@ use mir.Syntax.{w32}
 use mir.Val.{SFits}
 use borrow.Author.Tests.{lt-ltb, le-ltb, ltb-true, ltb-false}
 use Rattle.signed.specs.Whole.{raised, natural, clamp32}
-use Rattle.signed.proofs.Halves.{up, dn, plus, minus, same, is-lt, is-ge, one-half, raise-fact, top32, low32, sfits32}
+use Rattle.signed.proofs.Halves.{up, dn, plus, minus, is-lt, is-ge, one-half, raise-fact, top32, low32, sfits32}
 use Rattle.signed.proofs.Ranges.{clamp-in, clamp-above, clamp-below}
 
 -- a held number is of an i32

@@ -5,16 +5,22 @@ ghost use mathlib.Core.Bool.{_&&_};
 ghost use lib.IntN.{pos, _+ℤ_, _-ℤ_};
 ghost use lib.Dec.{ltb};
 ghost use lib.Signed.{ltZ};
-ghost use Rattle.lists.specs.Lists.{facing};
+ghost use Rattle.lists.specs.Lists.{facing, sumOf};
 ghost use Rattle.signed.specs.Whole.{natural, clamp32};
-ghost use Rattle.sam.specs.Op.{codeOf, isQuery, refLen};
+ghost use Rattle.sam.specs.Op.{codeOf, isQuery, queryLen, refLen};
 ghost use Rattle.oplist.specs.Ops.{opsOf};
 ghost use Rattle.overhang.specs.Reach.{basesUpTo, clippedBases};
-ghost use Rattle.overhang.specs.Overhang.{endAt, gapTo, earlierOf, laterOf, forwardOverhang, reverseOverhang, overhangOf, basesExtending};
+ghost use Rattle.overhang.specs.Overhang.{endAt, endOf, gapTo, earlierOf, laterOf, forwardOverhang, reverseOverhang, overhangOf, basesExtending};
 use answers::Count;
 use answers::Pos1;
 use answers::Refusal;
 use oplist::Ops;
+
+// Where an alignment ends, and its query bases.
+pub struct Extent {
+    pub end: Pos1,
+    pub query: u64,
+}
 
 // Whether a stands before b.
 fn precedes(a: Pos1, b: Pos1) -> bool
@@ -153,6 +159,17 @@ fn soft_clip(words: &[u32], rec: &[u8], list: Ops, start: bool) -> u64
     bases
 }
 
+// The last position and the query bases of an alignment from `start` on.
+fn extent_of(words: &[u32], rec: &[u8], list: Ops, start: Pos1) -> Extent
+    ensures { λ r. ⌜ (r .end .0 ≡ endOf (start .0) (opsOf (now (words .entry)) (now (rec .entry)) list)) × (r .query ≡ sumOf queryLen (opsOf (now (words .entry)) (now (rec .entry)) list)) ⌝ }
+{
+    let total = lengths::sums(words, rec, list);
+    Extent {
+        end: alignment_end(start, total.refs),
+        query: total.query,
+    }
+}
+
 // The forward read: what it has at its right end past its mate.
 fn forward_overhang(
     this: Pos1,
@@ -166,10 +183,10 @@ fn forward_overhang(
 ) -> u64
     ensures { λ r. ⌜ r ≡ forwardOverhang (this .0) (opsOf (now (words .entry)) (now (rec .entry)) list) (mate .0) (opsOf (now («mate_words» .entry)) (now («mate_rec» .entry)) «mate_list») ⌝ }
 {
-    let own = lengths::sums(words, rec, list);
-    let other = lengths::sums(mate_words, mate_rec, mate_list);
-    let end = alignment_end(this, own.refs);
-    let mate_end = alignment_end(mate, other.refs);
+    let own = extent_of(words, rec, list, this);
+    let other = extent_of(mate_words, mate_rec, mate_list, mate);
+    let end = own.end;
+    let mate_end = other.end;
     if precedes(end, mate) {
         let far = after(mate_end, soft_clip(mate_words, mate_rec, mate_list, false));
         return more(soft_clip(words, rec, list, false), gap(far, end));
@@ -199,10 +216,10 @@ fn reverse_overhang(
 ) -> u64
     ensures { λ r. ⌜ r ≡ reverseOverhang (this .0) (opsOf (now (words .entry)) (now (rec .entry)) list) (mate .0) (opsOf (now («mate_words» .entry)) (now («mate_rec» .entry)) «mate_list») ⌝ }
 {
-    let own = lengths::sums(words, rec, list);
-    let other = lengths::sums(mate_words, mate_rec, mate_list);
-    let end = alignment_end(this, own.refs);
-    let mate_end = alignment_end(mate, other.refs);
+    let own = extent_of(words, rec, list, this);
+    let other = extent_of(mate_words, mate_rec, mate_list, mate);
+    let end = own.end;
+    let mate_end = other.end;
     if precedes(mate_end, this) {
         let far = ahead(mate, soft_clip(mate_words, mate_rec, mate_list, true));
         return more(soft_clip(words, rec, list, true), gap(this, far));

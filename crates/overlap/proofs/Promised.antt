@@ -1,6 +1,6 @@
 -- What document 01 promises of the calls: "An overhang never exceeds the read's query length"; a pair test needs only the fields that it names; two records are symmetric.
 use Prim.Native.Nat.{ℕ, _≤_}
-use mathlib.Core.Path.{_≡_, refl, sym, ap, _∙_}
+use mathlib.Core.Path.{_≡_, refl, ap}
 use mathlib.Core.Bool.{Bool, true, false, cond, not}
 use mathlib.Core.List.{List}
 use native.Mathlib.Omega.{arith}
@@ -20,7 +20,7 @@ use Rattle.oplist.specs.Ops.{mostOps}
 use Rattle.strict_text.specs.Text.{textOps}
 use Rattle.strict_text.specs.Valid.{validMapped}
 use Rattle.strict_text.specs.Parsed.{strict}
-use Rattle.pairs.specs.Pairs.{isOpposite, isFr, isPrimaryFr}
+use Rattle.pairs.specs.Pairs.{isPrimaryFr}
 use Rattle.pairs.proofs.Needed.{SamePair, SameReverse, opposite-needs, fr-needs-reverse, fr-needs-forward, primary-symmetric}
 use Rattle.overhang.specs.Overhang.{overhangOf, basesExtending}
 use Rattle.overhang.proofs.Most.{overhang-most}

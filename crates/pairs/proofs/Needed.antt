@@ -1,6 +1,6 @@
 -- A pair test's answer needs only the fields that document 01 names, and `is_primary_fr_pair_raw` is symmetric: the definitions read nothing else, and the reverse record decides either way.
-use mathlib.Core.Path.{_≡_, refl, sym, ap, _∙_}
-use mathlib.Core.Bool.{Bool, true, false, cond, not, xor, _&&_}
+use mathlib.Core.Path.{_≡_, refl, ap, _∙_}
+use mathlib.Core.Bool.{Bool, true, false, cond, xor, _&&_}
 use mathlib.Core.List.{List}
 use Prim.Native.Nat.{ℕ}
 use lib.IntN.{ℤ}

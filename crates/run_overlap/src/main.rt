@@ -1,6 +1,5 @@
 // Runs document 01's overhang and pair tests on its examples and edges. A line has what is asked, and then the answer; after mate text also what the room holds,
 // where an op `7M` was never written.
-ghost use mathlib.Core.Path.{_≡_};
 ghost use Prim.Native.Nat.{_≤_};
 use answers::Pos1;
 use overlap::Overhang;
@@ -35,41 +34,124 @@ fn op(n: u32, code: u32) -> u32
 fn lists(name: &[u8], reverse: bool, this: i32, ops: &[u32], mate: i32, mate_ops: &[u32]) {
     shown::text(name);
     shown::text(b": ");
-    shown::count(overhang::bases_extending_past_mate_ops(reverse, Pos1(this), ops, Pos1(mate), mate_ops));
+    shown::count(overhang::bases_extending_past_mate_ops(
+        reverse,
+        Pos1(this),
+        ops,
+        Pos1(mate),
+        mate_ops,
+    ));
     shown::end();
 }
 
 fn forward_lists() {
     let own = [op(20, M)];
     let mate = [op(10, M), op(5, S)];
-    lists(b"forward 20M and mate 10M5S, both at 100", false, 100, &own, 100, &mate);
+    lists(
+        b"forward 20M and mate 10M5S, both at 100",
+        false,
+        100,
+        &own,
+        100,
+        &mate,
+    );
     let gapped = [op(10, M), op(5, D), op(10, M)];
     let in_gap = [op(12, M)];
-    lists(b"forward 10M5D10M and mate 12M, both at 100", false, 100, &gapped, 100, &in_gap);
+    lists(
+        b"forward 10M5D10M and mate 12M, both at 100",
+        false,
+        100,
+        &gapped,
+        100,
+        &in_gap,
+    );
     let tail = [op(10, M), op(20, S)];
     let far = [op(10, M)];
-    lists(b"forward 10M20S at 100 stops short of 10M at 112", false, 100, &tail, 112, &far);
-    lists(b"forward 10M at 200 past 10M at 100", false, 200, &far, 100, &far);
+    lists(
+        b"forward 10M20S at 100 stops short of 10M at 112",
+        false,
+        100,
+        &tail,
+        112,
+        &far,
+    );
+    lists(
+        b"forward 10M at 200 past 10M at 100",
+        false,
+        200,
+        &far,
+        100,
+        &far,
+    );
 }
 
 fn reverse_lists() {
     let own = [op(5, S), op(20, M)];
     let mate = [op(20, M)];
-    lists(b"reverse 5S20M at 100 and mate 20M at 103", true, 100, &own, 103, &mate);
+    lists(
+        b"reverse 5S20M at 100 and mate 20M at 103",
+        true,
+        100,
+        &own,
+        103,
+        &mate,
+    );
     let clipped = [op(3, H), op(2, S), op(20, M)];
-    lists(b"reverse 5S20M at 100 and mate 3H2S20M at 103", true, 100, &own, 103, &clipped);
+    lists(
+        b"reverse 5S20M at 100 and mate 3H2S20M at 103",
+        true,
+        100,
+        &own,
+        103,
+        &clipped,
+    );
     let head = [op(25, S), op(10, M)];
     let far = [op(10, M)];
-    lists(b"reverse 25S10M at 120 stops short of 10M at 100", true, 120, &head, 100, &far);
-    lists(b"reverse 10M at 100 before 10M at 200", true, 100, &far, 200, &far);
+    lists(
+        b"reverse 25S10M at 120 stops short of 10M at 100",
+        true,
+        120,
+        &head,
+        100,
+        &far,
+    );
+    lists(
+        b"reverse 10M at 100 before 10M at 200",
+        true,
+        100,
+        &far,
+        200,
+        &far,
+    );
 }
 
 fn edges() {
     let two = [op(1, M), op(1, M)];
     let one = [op(1, M)];
-    lists(b"forward 1M1M and mate 1M, both at 2147483647", false, TOP, &two, TOP, &one);
-    lists(b"forward 1M1M and mate 1M, both at 2147483646", false, 2147483646, &two, 2147483646, &one);
-    lists(b"forward no ops and mate 1M, both at 100", false, 100, &[], 100, &one);
+    lists(
+        b"forward 1M1M and mate 1M, both at 2147483647",
+        false,
+        TOP,
+        &two,
+        TOP,
+        &one,
+    );
+    lists(
+        b"forward 1M1M and mate 1M, both at 2147483646",
+        false,
+        2147483646,
+        &two,
+        2147483646,
+        &one,
+    );
+    lists(
+        b"forward no ops and mate 1M, both at 100",
+        false,
+        100,
+        &[],
+        100,
+        &one,
+    );
     let many = [op(1, M); 65536];
     lists(b"65,536 ops", false, 1, &many, 1, &one);
     lists(b"65,536 mate ops", false, 1, &one, 1, &many);
@@ -111,20 +193,50 @@ fn pair(name: &[u8], rec: &[u8]) {
 }
 
 fn forward_pairs() {
-    pair(b"forward, template length 1", &record(FORWARD, 99, 199, 1, op(20, M), op(5, S)));
-    pair(b"forward, template length 0", &record(FORWARD, 99, 199, 0, op(20, M), op(5, S)));
-    pair(b"unmapped", &record(FORWARD + 4, 99, 199, 1, op(20, M), op(5, S)));
-    pair(b"mate unmapped", &record(FORWARD + 8, 99, 199, 1, op(20, M), op(5, S)));
-    pair(b"not paired", &record(FORWARD - 1, 99, 199, 1, op(20, M), op(5, S)));
-    pair(b"both reverse", &record(49, 99, 199, 1, op(20, M), op(5, S)));
+    pair(
+        b"forward, template length 1",
+        &record(FORWARD, 99, 199, 1, op(20, M), op(5, S)),
+    );
+    pair(
+        b"forward, template length 0",
+        &record(FORWARD, 99, 199, 0, op(20, M), op(5, S)),
+    );
+    pair(
+        b"unmapped",
+        &record(FORWARD + 4, 99, 199, 1, op(20, M), op(5, S)),
+    );
+    pair(
+        b"mate unmapped",
+        &record(FORWARD + 8, 99, 199, 1, op(20, M), op(5, S)),
+    );
+    pair(
+        b"not paired",
+        &record(FORWARD - 1, 99, 199, 1, op(20, M), op(5, S)),
+    );
+    pair(
+        b"both reverse",
+        &record(49, 99, 199, 1, op(20, M), op(5, S)),
+    );
     pair(b"31 bytes", &[0u8; 31]);
 }
 
 fn reverse_pairs() {
-    pair(b"reverse 100 to 119, mate from 119", &record(REVERSE, 99, 118, 0, op(20, M), op(5, S)));
-    pair(b"reverse 100 to 119, mate from 120", &record(REVERSE, 99, 119, 0, op(20, M), op(5, S)));
-    pair(b"reverse at 2147483648, mate there", &record(REVERSE, TOP_BITS, TOP_BITS, 0, op(1, M), op(5, S)));
-    pair(b"reverse without reference bases, mate there", &record(REVERSE, 99, 99, 0, op(20, S), op(5, S)));
+    pair(
+        b"reverse 100 to 119, mate from 119",
+        &record(REVERSE, 99, 118, 0, op(20, M), op(5, S)),
+    );
+    pair(
+        b"reverse 100 to 119, mate from 120",
+        &record(REVERSE, 99, 119, 0, op(20, M), op(5, S)),
+    );
+    pair(
+        b"reverse at 2147483648, mate there",
+        &record(REVERSE, TOP_BITS, TOP_BITS, 0, op(1, M), op(5, S)),
+    );
+    pair(
+        b"reverse without reference bases, mate there",
+        &record(REVERSE, 99, 99, 0, op(20, S), op(5, S)),
+    );
 }
 
 fn both(name: &[u8], a: &[u8], b: &[u8]) {
@@ -144,9 +256,21 @@ fn two_records() {
     let own = record(FORWARD, 99, 99, 0, op(20, M), op(0, M));
     let mate = record(REVERSE, 99, 99, 0, op(10, M), op(5, S));
     both(b"forward 20M and reverse 10M5S, both at 100", &own, &mate);
-    both(b"the forward one not paired", &record(FORWARD - 1, 99, 99, 0, op(20, M), op(0, M)), &mate);
-    both(b"the reverse one not paired", &own, &record(REVERSE - 1, 99, 99, 0, op(10, M), op(5, S)));
-    both(b"reverse at 2147483648", &record(FORWARD, 0, TOP_BITS, 0, op(20, M), op(0, M)), &record(REVERSE, TOP_BITS, 0, 0, op(10, M), op(5, S)));
+    both(
+        b"the forward one not paired",
+        &record(FORWARD - 1, 99, 99, 0, op(20, M), op(0, M)),
+        &mate,
+    );
+    both(
+        b"the reverse one not paired",
+        &own,
+        &record(REVERSE - 1, 99, 99, 0, op(10, M), op(5, S)),
+    );
+    both(
+        b"reverse at 2147483648",
+        &record(FORWARD, 0, TOP_BITS, 0, op(20, M), op(0, M)),
+        &record(REVERSE, TOP_BITS, 0, 0, op(10, M), op(5, S)),
+    );
     both(b"one of 31 bytes", &own, &[0u8; 31]);
 }
 
@@ -169,7 +293,11 @@ fn mate_lists() {
     cigar(b"no mate ops", &own, &[]);
     cigar(b"mate at 2147483648", &top, &mate);
     cigar(b"mate at 2147483648, mate ops 5S5S10M", &top, &bad);
-    cigar(b"no FR pair, mate at 2147483648", &record(1, 99, TOP_BITS, 0, op(20, M), op(0, M)), &mate);
+    cigar(
+        b"no FR pair, mate at 2147483648",
+        &record(1, 99, TOP_BITS, 0, op(20, M), op(0, M)),
+        &mate,
+    );
     let many = [op(1, M); 65536];
     cigar(b"65,536 mate ops", &own, &many);
     cigar(b"31 bytes, and 65,536 mate ops", &[0u8; 31], &many);
@@ -207,8 +335,18 @@ fn mate_texts() {
     text(b"10M5S, mate at 2147483648", &top, b"10M5S", 3);
     text(b"10M5S, mate at 2147483648, room for 1", &top, b"10M5S", 1);
     text(b"10M5, mate at 2147483648", &top, b"10M5", 3);
-    text(b"10M5S, no FR pair", &record(1, 99, TOP_BITS, 0, op(20, M), op(0, M)), b"10M5S", 3);
-    text(b"10M5S, no FR pair, room for 1", &record(1, 99, TOP_BITS, 0, op(20, M), op(0, M)), b"10M5S", 1);
+    text(
+        b"10M5S, no FR pair",
+        &record(1, 99, TOP_BITS, 0, op(20, M), op(0, M)),
+        b"10M5S",
+        3,
+    );
+    text(
+        b"10M5S, no FR pair, room for 1",
+        &record(1, 99, TOP_BITS, 0, op(20, M), op(0, M)),
+        b"10M5S",
+        1,
+    );
     text(b"10M5, 31 bytes", &[0u8; 31], b"10M5", 3);
 }
 
@@ -220,18 +358,36 @@ fn long_text() {
         words[2 * i] = b'1';
         i += 1;
     }
-    text(b"65,536 times 1M", &record(FORWARD, 99, 99, 0, op(20, M), op(0, M)), &words, 3);
-    text(b"65,536 times 1M, mate at 2147483648", &record(FORWARD, 99, TOP_BITS, 0, op(20, M), op(0, M)), &words, 3);
+    text(
+        b"65,536 times 1M",
+        &record(FORWARD, 99, 99, 0, op(20, M), op(0, M)),
+        &words,
+        3,
+    );
+    text(
+        b"65,536 times 1M, mate at 2147483648",
+        &record(FORWARD, 99, TOP_BITS, 0, op(20, M), op(0, M)),
+        &words,
+        3,
+    );
 }
 
 // A record whose ops end past it.
 fn overrun() {
     let mut r = record(FORWARD, 99, 99, 0, op(20, M), op(0, M));
     r[12] = 3;
-    cigar(b"own ops past the record, mate ops 10M5S", &r, &[op(10, M), op(5, S)]);
+    cigar(
+        b"own ops past the record, mate ops 10M5S",
+        &r,
+        &[op(10, M), op(5, S)],
+    );
     let cut = record(REVERSE, 99, 98, 0, op(10, M), op(5, S));
     pair(b"reverse, own ops past the record", &cut[..40]);
-    both(b"mate ops past its record", &record(FORWARD, 99, 99, 0, op(20, M), op(0, M)), &cut[..40]);
+    both(
+        b"mate ops past its record",
+        &record(FORWARD, 99, 99, 0, op(20, M), op(0, M)),
+        &cut[..40],
+    );
 }
 
 fn main() {

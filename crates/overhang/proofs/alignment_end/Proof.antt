@@ -1,5 +1,5 @@
 -- The two steps are the definition's.
-use mathlib.Core.Path.{_≡_, refl, sym, ap, _∙_}
+use mathlib.Core.Path.{_≡_, ap, _∙_}
 use lib.IntN.{pos, _+ℤ_, _-ℤ_}
 use Rattle.signed.specs.Whole.{clamp32}
 use Rattle.signed.proofs.Ranges.{clamp-in}

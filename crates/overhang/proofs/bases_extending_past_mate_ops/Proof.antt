@@ -1,5 +1,5 @@
 -- The two tests for 3, and then the read's and the mate's list as they are lent.
-use mathlib.Core.Path.{_≡_, refl, sym, ap, _∙_}
+use mathlib.Core.Path.{ap}
 use mathlib.Core.List.{[]}
 use lib.ListN.{length}
 use borrow.Author.Tests.{lt-ltb, le-ltb}

@@ -1,7 +1,7 @@
 -- What is counted and what is left to count make the whole count over places, which is the definition's over positions.
-use mathlib.Core.Path.{_≡_, refl, sym, ap, _∙_}
+use mathlib.Core.Path.{_≡_, sym, _∙_}
 use Prim.Native.Nat.{_+_, _-_, _*_, _≤_, _<_, min}
-use lib.ListN.{length, drop}
+use lib.ListN.{drop}
 use mir.Syntax.{w32}
 use mir.Val.{toZ, ofZ, SFits}
 use Rattle.signed.specs.Whole.{raised}

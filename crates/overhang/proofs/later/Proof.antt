@@ -1,5 +1,5 @@
 -- The test is the definition's.
-use mathlib.Core.Path.{_≡_, refl, sym, ap, _∙_}
+use mathlib.Core.Path.{sym, _∙_}
 use borrow.Author.Needs.{needs}
 use Rattle.overhang.proofs.later.Statement.{statement}
 use Rattle.overhang.proofs.later.Tie as tie

@@ -1,5 +1,4 @@
 -- The strand chooses the side.
-use mathlib.Core.Path.{_≡_, refl, sym, ap, _∙_}
 use Rattle.overhang.specs.Overhang.{overhangOf}
 use borrow.Author.Needs.{needs}
 use Rattle.overhang.proofs.overhang.Statement.{statement}

@@ -1,5 +1,5 @@
 -- The tests are the definition's.
-use mathlib.Core.Path.{_≡_, refl, sym, ap, _∙_}
+use mathlib.Core.Path.{sym, _∙_}
 use borrow.Author.Tests.{lt-ltb, le-ltb, not-true, not-false}
 use Rattle.sam.specs.Op.{refLen}
 use borrow.Author.Needs.{needs}

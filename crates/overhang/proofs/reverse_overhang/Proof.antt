@@ -1,40 +1,18 @@
 -- Each way out is one of the definition's ways.
-use mathlib.Core.Path.{_≡_, refl, sym, ap, _∙_}
-use Prim.Native.Nat.{ℕ, _-_}
-use lib.IntN.{pos, _+ℤ_, _-ℤ_}
-use mathlib.Core.List.{List}
+use mathlib.Core.Path.{refl, sym, ap, _∙_}
+use lib.IntN.{pos, _-ℤ_}
 use Rattle.signed.specs.Whole.{clamp32}
 use Rattle.oplist.specs.Ops.{opsOf}
-use Rattle.overhang.specs.Overhang.{endAt, endOf}
 use Rattle.overhang.proofs.OverhangLaws.{differ, reverse-short, reverse-away, reverse-shared}
 use borrow.Author.Needs.{needs}
 use Rattle.overhang.proofs.reverse_overhang.Statement.{statement}
 use Rattle.overhang.proofs.reverse_overhang.Tie as tie
 
--- the ops of the read and of its mate
-abbrev own : tie.Start → List ℕ
-own s = opsOf (s .args .words .now) (s .args .rec .now) (s .args .list)
+extent-of-requires : tie.Need-extent-of-requires
+extent-of-requires c κs = search needs
 
-abbrev mates : tie.Start → List ℕ
-mates s = opsOf (s .args .mate-words .now) (s .args .mate-rec .now) (s .args .mate-list)
-
-own-end : (k : tie.After-alignment-end2) → k .before .alignment-end .result .0 ≡ endOf (k .before .before .before .before .before .before .before .before .args .this .0) (own (k .before .before .before .before .before .before .before .before))
-own-end k = k .before .alignment-end .ensures ∙ ap (endAt _) (k .before .before .before .sums .ensures .0 .0)
-
-mate-end : (k : tie.After-alignment-end2) → k .alignment-end2 .result .0 ≡ endOf (k .before .before .before .before .before .before .before .before .args .mate .0) (mates (k .before .before .before .before .before .before .before .before))
-mate-end k = k .alignment-end2 .ensures ∙ ap (endAt _) (k .before .before .sums2 .ensures .0 .0)
-
-sums-requires : tie.Need-sums-requires
-sums-requires c κs = search needs
-
-sums-requires-2 : tie.Need-sums-requires-2
-sums-requires-2 c κs = search needs
-
-alignment-end-requires : tie.Need-alignment-end-requires
-alignment-end-requires c κs = search needs
-
-alignment-end-requires-2 : tie.Need-alignment-end-requires-2
-alignment-end-requires-2 c κs = search needs
+extent-of-requires-2 : tie.Need-extent-of-requires-2
+extent-of-requires-2 c κs = search needs
 
 precedes-requires : tie.Need-precedes-requires
 precedes-requires c κs = search needs
@@ -56,10 +34,12 @@ more-requires c κs = search needs
 
 returns : tie.Need-returns
 returns c =
-    let k = c .before .before .before .before .before .before .before in
-    let s = k .before .before .before .before .before .before .before .before in
-    reverse-short (s .args .this .0) (s .args .mate .0) (own s) (mates s) _ _ (own-end k) (mate-end k) _ _ (sym (c .before .before .before .before .before .before .precedes .ensures) ∙ c .before .before .before .before .before .if1 .taken)
-    (c .before .before .before .ahead .ensures ∙ ap (λ n. clamp32 (s .args .mate .0 -ℤ clamp32 (pos n))) (c .before .before .before .before .soft-clip .ensures))
+    let k = c .before .before .before .before .before .before .before .before .before in
+    let a = k .before .before .before .before .before .before .args in
+    let xs = opsOf (a .words .now) (a .rec .now) (a .list) in
+    let ys = opsOf (a .mate-words .now) (a .mate-rec .now) (a .mate-list) in
+    reverse-short (a .this .0) (a .mate .0) xs ys _ _ (k .before .extent-of .ensures .0) (k .extent-of2 .ensures .0) _ _ (sym (c .before .before .before .before .before .before .precedes .ensures) ∙ c .before .before .before .before .before .if1 .taken)
+    (c .before .before .before .ahead .ensures ∙ ap (λ n. clamp32 (a .mate .0 -ℤ clamp32 (pos n))) (c .before .before .before .before .soft-clip .ensures))
     (differ (c .more .ensures) (c .before .before .soft-clip2 .ensures) (c .before .gap .ensures))
 
 precedes-requires-2 : tie.Need-precedes-requires-2
@@ -67,9 +47,11 @@ precedes-requires-2 c κs = search needs
 
 returns-2 : tie.Need-returns-2
 returns-2 c =
-    let k = c .before .before .before .before in
-    let s = k .before .before .before .before .before .before .before .before in
-    reverse-away (s .args .this .0) (s .args .mate .0) (own s) (mates s) _ _ (own-end k) (mate-end k) _ (sym (c .before .before .before .precedes .ensures) ∙ c .before .before .if1 .left) (sym (c .before .precedes2 .ensures) ∙ c .if2 .taken) refl
+    let k = c .before .before .before .before .before .before in
+    let a = k .before .before .before .before .before .before .args in
+    let xs = opsOf (a .words .now) (a .rec .now) (a .list) in
+    let ys = opsOf (a .mate-words .now) (a .mate-rec .now) (a .mate-list) in
+    reverse-away (a .this .0) (a .mate .0) xs ys _ _ (k .before .extent-of .ensures .0) (k .extent-of2 .ensures .0) _ (sym (c .before .before .before .precedes .ensures) ∙ c .before .before .if1 .left) (sym (c .before .precedes2 .ensures) ∙ c .if2 .taken) refl
 
 later-requires : tie.Need-later-requires
 later-requires c κs = search needs
@@ -85,19 +67,19 @@ more-requires-2 c κs = search needs
 
 returns-3 : tie.Need-returns-3
 returns-3 c =
-    let k = c .before .before .before .before .before .before .before .before in
-    let s = k .before .before .before .before .before .before .before .before in
-    reverse-shared (s .args .this .0) (s .args .mate .0) (own s) (mates s) _ _ (own-end k) (mate-end k) _ _ (sym (c .before .before .before .before .before .before .before .precedes .ensures) ∙ c .before .before .before .before .before .before .if1 .left) (sym (c .before .before .before .before .before .precedes2 .ensures) ∙ c .before .before .before .before .if2 .left) (c .before .before .before .later .ensures)
+    let k = c .before .before .before .before .before .before .before .before .before .before in
+    let a = k .before .before .before .before .before .before .args in
+    let xs = opsOf (a .words .now) (a .rec .now) (a .list) in
+    let ys = opsOf (a .mate-words .now) (a .mate-rec .now) (a .mate-list) in
+    reverse-shared (a .this .0) (a .mate .0) xs ys _ _ (k .before .extent-of .ensures .0) (k .extent-of2 .ensures .0) _ _ (sym (c .before .before .before .before .before .before .before .precedes .ensures) ∙ c .before .before .before .before .before .before .if1 .left) (sym (c .before .before .before .before .before .precedes2 .ensures) ∙ c .before .before .before .before .if2 .left) (c .before .before .before .later .ensures)
     (differ (c .more2 .ensures) (c .before .before .bases-up-to .ensures) (c .before .bases-up-to2 .ensures))
 
 pub reverse-overhang-spec : {M : Type 1} → statement M
 reverse-overhang-spec =
     tie.close
     (tie.spec
-    sums-requires
-    sums-requires-2
-    alignment-end-requires
-    alignment-end-requires-2
+    extent-of-requires
+    extent-of-requires-2
     precedes-requires
     soft-clip-requires
     ahead-requires

@@ -1,7 +1,7 @@
 -- What is counted and what is left to count make the whole count, as seen from the end.
-use mathlib.Core.Path.{_≡_, refl, sym, ap, _∙_}
-use Prim.Native.Nat.{_+_, _-_, _*_, _≤_, _<_}
-use lib.ListN.{length, drop}
+use mathlib.Core.Path.{_≡_, sym, _∙_}
+use Prim.Native.Nat.{_+_, _-_, _*_, _≤_}
+use lib.ListN.{drop}
 use borrow.Author.Tests.{not-true, not-false}
 use Rattle.lists.specs.Lists.{facing}
 use Rattle.lists.proofs.ListLaws.{length-facing}

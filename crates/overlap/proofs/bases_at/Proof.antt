@@ -1,5 +1,5 @@
 -- The case decides; the read's ops are the record's.
-use mathlib.Core.Path.{_≡_, refl, sym, ap, _∙_}
+use mathlib.Core.Path.{refl, sym, ap, _∙_}
 use denote.Ref.{now}
 use mathlib.Core.List.{[]}
 use Rattle.oplist.specs.Ops.{opsOf}

@@ -1,6 +1,4 @@
 -- By the two answers.
-use mathlib.Core.Path.{_≡_, refl, sym, ap, _∙_}
-use Rattle.overlap.specs.Overlap.{bothPlaces}
 use borrow.Author.Needs.{needs}
 use Rattle.overlap.proofs.both_places.Statement.{statement}
 use Rattle.overlap.proofs.both_places.Tie as tie

@@ -1,5 +1,5 @@
 -- One test after another, and then the overhang where the mate lies.
-use mathlib.Core.Path.{_≡_, refl, sym, ap, _∙_}
+use mathlib.Core.Path.{_≡_, sym, ap, _∙_}
 use denote.Ref.{now}
 use mathlib.Core.List.{[]}
 use mir.Syntax.{w32}

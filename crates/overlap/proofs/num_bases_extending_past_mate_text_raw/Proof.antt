@@ -1,7 +1,6 @@
 -- The pass decides each refusal before anything is written, and what is written fits.
 use mathlib.Core.Path.{_≡_, refl, sym, ap, _∙_}
 use denote.Ref.{now}
-use mathlib.Core.List.{[]}
 use lib.ListN.{length, take}
 use lib.Seq.{take-all}
 use mir.Syntax.{w32}

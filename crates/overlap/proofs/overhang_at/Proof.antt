@@ -1,5 +1,5 @@
 -- The test is the definition's.
-use mathlib.Core.Path.{_≡_, refl, sym, ap, _∙_}
+use mathlib.Core.Path.{sym, _∙_}
 use Rattle.overlap.proofs.CallLaws.{over, counted}
 use borrow.Author.Needs.{needs}
 use Rattle.overlap.proofs.overhang_at.Statement.{statement}

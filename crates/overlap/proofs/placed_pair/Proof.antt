@@ -1,5 +1,5 @@
 -- The test is the definition's, and the two places are counted from 1.
-use mathlib.Core.Path.{_≡_, refl, sym, ap, _∙_}
+use mathlib.Core.Path.{_≡_, ap, _∙_}
 use borrow.Author.Tests.{not-true, not-false}
 use mir.Syntax.{w32}
 use mir.Val.{toZ, ofZ}

@@ -1,5 +1,5 @@
 -- The tests are the definition's.
-use mathlib.Core.Path.{_≡_, refl, sym, ap, _∙_}
+use mathlib.Core.Path.{sym, _∙_}
 use Rattle.pairs.proofs.PairLaws.{unmapped, mapped}
 use borrow.Author.Needs.{needs}
 use Rattle.pairs.proofs.both_mapped.Statement.{statement}

@@ -1,12 +1,9 @@
 -- The record's own fields.
-use mathlib.Core.Path.{_≡_, refl, sym, ap, _∙_}
+use mathlib.Core.Path.{_≡_, _∙_}
 use denote.Ref.{now}
-use lib.Signed.{leZ}
 use mir.Syntax.{w32}
 use mir.Val.{toZ, ofZ}
-use Rattle.sam.specs.Record.{posOf, matePosOf}
-use Rattle.lengths.specs.Lengths.{refLengthOrZero}
-use Rattle.pairs.specs.Pairs.{startOf, lastOf, mateStartsBefore}
+use Rattle.pairs.specs.Pairs.{mateStartsBefore}
 use borrow.Author.Needs.{needs}
 use Rattle.pairs.proofs.mate_starts_before.Statement.{statement}
 use Rattle.pairs.proofs.mate_starts_before.Tie as tie
