@@ -7,6 +7,7 @@ mod length_calls;
 mod lookup_calls;
 mod mate_calls;
 mod op_calls;
+mod overlap_calls;
 mod text_calls;
 
 ghost use mathlib.Core.Path.{_≡_};

@@ -2,6 +2,7 @@
 ghost use mathlib.Core.Path.{_≡_};
 ghost use Prim.Native.Nat.{_<_};
 ghost use lib.IntN.{ℤ, _+ℤ_, _-ℤ_};
+ghost use Rattle.signed.specs.Equal.{eqℤ};
 ghost use Rattle.signed.specs.Whole.{twos32, twos64, raised, natural, sideOf, checked, clamp32};
 
 // Where a number lies: below the range of an i32, within it, or above it.
@@ -125,4 +126,10 @@ pub fn saturating_sub(a: i32, b: i32) -> i32
     ensures { λ r. ⌜ r ≡ clamp32 (a -ℤ b) ⌝ }
 {
     clamp(wide_difference(a, b))
+}
+
+pub fn same(a: i32, b: i32) -> bool
+    ensures { λ r. ⌜ r ≡ eqℤ a b ⌝ }
+{
+    a == b
 }

@@ -1,0 +1,117 @@
+-- What the counts mean, against the SAM specification's columns: with no position held at 2^31 - 1, the walk counts what stands up to the column of its target.
+use Prim.Native.Nat.{ℕ, _+_, _-_, _≤_, _<_, min}
+use mathlib.Core.Path.{_≡_, refl, sym, ap, _∙_}
+use mathlib.Core.Bool.{Bool, true, false, cond, _&&_}
+use mathlib.Core.List.{List, [], _∷_, _++_}
+use mathlib.Core.Logic.{_⊎_, inl, inr, ⊎-elim}
+use native.Mathlib.Omega.{arith}
+use lib.IntN.{ℤ, pos, _+ℤ_}
+use lib.Dec.{ltb}
+use lib.Signed.{ltZ, leZ}
+use mir.Syntax.{w32}
+use mir.Val.{SFits}
+use borrow.Author.Tests.{ltb-true, ltb-false, le-ltb}
+use Rattle.lists.specs.Lists.{sumOf}
+use Rattle.signed.specs.Whole.{raised}
+use Rattle.signed.proofs.Halves.{up, dn, plus, is-lt, is-le, raise-fact}
+use Rattle.sam.specs.Op.{lenOf, codeOf, isQuery, isRef, queryLen, refLen}
+use Rattle.sam.specs.Columns.{Column, Both, Query, Reference, columns, queries, refs, refOf, Seen}
+use Rattle.sam.proofs.ColumnLaws.{queries-append}
+use Rattle.sam.proofs.LengthLaws.{query-length}
+use Rattle.answers.specs.declared.Spot.{Spot}
+use Rattle.lookup.specs.Lookup.{onBase, upTo}
+use Rattle.lookup.proofs.LookupLaws.{look-only, up-to-look, up-to-means, up-to-gap}
+use Rattle.overhang.specs.Reach.{basesUpTo}
+use Rattle.overhang.specs.Overhang.{basesPast}
+use Rattle.overhang.proofs.ReachLaws.{upToPlace, place-is, up-past}
+
+-- no position that counts is held: the target lies before 2^31 - 1, or the alignment ends before it
+abbrev pub Unheld : ℤ → ℤ → List ℕ → Type 0
+Unheld t p xs = (ltZ t (pos 2147483647) ≡ true) ⊎ (leZ (p +ℤ pos (sumOf refLen xs)) (pos 2147483647) ≡ true)
+
+-- an op over both has as many query as reference bases
+both-len : (o : ℕ) → isQuery (codeOf o) ≡ true → 0 < refLen o → queryLen o ≡ refLen o
+unfolding queryLen refLen
+both-len o e h = go (isRef (codeOf o)) refl
+  where
+    go : (r : Bool) → isRef (codeOf o) ≡ r → cond (isQuery (codeOf o)) (lenOf o) 0 ≡ cond (isRef (codeOf o)) (lenOf o) 0
+    go true f = rw (e, f)
+    go false f = absurd (let z : refLen o ≡ 0 = rw f in omega arith)
+
+gap-len : (o : ℕ) → isQuery (codeOf o) ≡ false → queryLen o ≡ 0
+unfolding queryLen
+gap-len o e = rw e
+
+places : (on t p k : ℕ) (xs : List ℕ) → on ≤ 1 → t ≡ p + k → (t < 4294967295) ⊎ (p + sumOf refLen xs ≤ 4294967295) → upToPlace on t p xs ≡ upTo on xs k
+unfolding upToPlace upTo sumOf
+places on t p k [] h e u = refl
+places on t p k (o ∷ xs) h e u =
+    rw (le-ltb t p (omega arith))
+    (go (ltb k (refLen o)) refl (isQuery (codeOf o)) refl (ltb (t - p + on) (refLen o)) refl
+    (onward (λ l v. places on t (p + refLen o) (k - refLen o) xs h (omega arith) v)))
+  where
+    next : ℕ
+    next = min (p + refLen o) 4294967295
+
+    beyond : k < refLen o → upToPlace on t next xs ≡ 0
+    beyond l = up-past on t next xs 0 (⊎-elim (λ w. omega arith) (λ w. omega arith) u)
+
+    onward : (refLen o ≤ k → (t < 4294967295) ⊎ (p + refLen o + sumOf refLen xs ≤ 4294967295) → upToPlace on t (p + refLen o) xs ≡ upTo on xs (k - refLen o))
+        → refLen o ≤ k → queryLen o + upToPlace on t next xs ≡ queryLen o + upTo on xs (k - refLen o)
+    onward ih l =
+        let n : next ≡ p + refLen o = ⊎-elim (λ w. omega arith) (λ w. omega arith) u in
+        ap (λ (m : ℕ). queryLen o + m) (ap (λ (q : ℕ). upToPlace on t q xs) n ∙ ih l (⊎-elim (λ w. inl w) (λ w. inr (omega arith)) u))
+
+    go : (a : Bool) → ltb k (refLen o) ≡ a → (b : Bool) → isQuery (codeOf o) ≡ b → (c : Bool) → ltb (t - p + on) (refLen o) ≡ c
+        → (refLen o ≤ k → queryLen o + upToPlace on t next xs ≡ queryLen o + upTo on xs (k - refLen o))
+        → cond (b && c) (t - p + on) (queryLen o + upToPlace on t next xs) ≡ cond a (cond b (k + on) 0) (queryLen o + upTo on xs (k - refLen o))
+    go true f true g true i on-past = omega arith
+    go true f true g false i on-past =
+        let l = ltb-true k (refLen o) f in
+        omega (arith, ltb-false (t - p + on) (refLen o) i, both-len o g (omega arith), beyond l)
+    go true f false g c i on-past = omega (arith, gap-len o g, beyond (ltb-true k (refLen o) f))
+    go false f true g true i on-past = absurd (omega (arith, ltb-false k (refLen o) f, ltb-true (t - p + on) (refLen o) i))
+    go false f true g false i on-past = on-past (ltb-false k (refLen o) f)
+    go false f false g c i on-past = on-past (ltb-false k (refLen o) f)
+
+-- ---- an alignment from p on, and a target k positions after p
+
+module _ (t p : ℤ) (k : ℕ) (xs : List ℕ) (f : SFits w32 t) (g : SFits w32 p) (e : t ≡ p +ℤ pos k) (u : Unheld t p xs) where
+  pub bases-up-to-is : (on : ℕ) → on ≤ 1 → basesUpTo on t p xs ≡ upTo on xs k
+  bases-up-to-is on h =
+      sym (place-is on t p xs f g) ∙ places on (raised t) (raised p) k xs h there (⊎-elim (λ w. inl (before w)) (λ w. inr (within w)) u)
+    where
+      there : raised t ≡ raised p + k
+      there =
+          let a : raised t + dn (p +ℤ pos k) ≡ up (p +ℤ pos k) + 2147483648 = rw (← e) (raise-fact t f) in
+          omega (arith, raise-fact p g, plus p (pos k))
+
+      before : ltZ t (pos 2147483647) ≡ true → raised t < 4294967295
+      before w = omega (arith, is-lt t (pos 2147483647) w, raise-fact t f)
+
+      within : leZ (p +ℤ pos (sumOf refLen xs)) (pos 2147483647) ≡ true → raised p + sumOf refLen xs ≤ 4294967295
+      within w = omega (arith, is-le (p +ℤ pos (sumOf refLen xs)) (pos 2147483647) w, plus p (pos (sumOf refLen xs)), raise-fact p g)
+
+  -- THE MEANING of the overhang's count: the query bases before the target's column, and the one in it if on is 1
+  pub bases-up-to-seen : (on : ℕ) (s : Spot) → on ≤ 1 → Seen (columns xs) k s → basesUpTo on t p xs ≡ s .before + onBase on (s .over)
+  bases-up-to-seen on s h S = bases-up-to-is on h ∙ up-to-look on xs k ∙ ap (λ (z : Spot). z .before + onBase on (z .over)) (sym (look-only xs k s S))
+
+  module _ (left right : List Column) (l : refs left ≡ k) where
+    -- the query bases before the target are those of the columns on its left
+    pub before-left : (c : Column) → refOf c ≡ 1 → columns xs ≡ left ++ (c ∷ right) → basesUpTo 0 t p xs ≡ queries left
+    before-left Both r d = bases-up-to-is 0 (omega arith) ∙ up-to-means 0 xs k left right d l ∙ omega arith
+    before-left Query r d = absurd (omega arith)
+    before-left Reference r d = bases-up-to-is 0 (omega arith) ∙ up-to-gap 0 xs k left right d l
+
+    -- the query bases past the target are those of the columns on its right
+    pub past-right : (c : Column) → refOf c ≡ 1 → columns xs ≡ left ++ (c ∷ right) → basesPast t p xs ≡ queries right
+    unfolding queries
+    past-right Both r d =
+        let q = query-length xs ∙ ap queries d ∙ queries-append left (Both ∷ right) in
+        let n = bases-up-to-is 1 (omega arith) ∙ up-to-means 1 xs k left right d l in
+        omega arith
+    past-right Query r d = absurd (omega arith)
+    past-right Reference r d =
+        let q = query-length xs ∙ ap queries d ∙ queries-append left (Reference ∷ right) in
+        let n = bases-up-to-is 1 (omega arith) ∙ up-to-gap 1 xs k left right d l in
+        omega arith

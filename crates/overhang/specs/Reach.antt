@@ -1,0 +1,32 @@
+-- Document 01, module 10, the overhang's counts of query bases: as the Rust (overlap.rs), whose positions stay within an i32.
+use Prim.Native.Nat.{ℕ, _+_}
+use mathlib.Core.Bool.{Bool, cond, _&&_}
+use mathlib.Core.List.{List, [], _∷_}
+use lib.IntN.{ℤ, pos, _+ℤ_, _-ℤ_}
+use lib.Dec.{ltb}
+use lib.Signed.{ltZ}
+use Rattle.lists.specs.Lists.{facing}
+use Rattle.signed.specs.Whole.{natural, clamp32}
+use Rattle.sam.specs.Op.{codeOf, isQuery, queryLen, refLen}
+use Rattle.ops.specs.Ops.{isClip}
+
+-- the positions from p to before t, and t itself where on is 1
+abbrev pub spanTo : ℕ → ℤ → ℤ → ℕ
+spanTo on t p = natural (t -ℤ p) + on
+
+-- the query bases that an alignment from p on places before position t, and the one on t where on is 1. Past t nothing counts; of an op that
+-- reaches past t with query bases over reference bases (M = X), those up to t do; bases in a gap (I S) count where the gap is not past t
+unfoldable pub basesUpTo : ℕ → ℤ → ℤ → List ℕ → ℕ
+basesUpTo on t p [] = 0
+basesUpTo on t p (o ∷ xs) =
+    cond (ltZ t p) 0
+    (cond (isQuery (codeOf o) && ltb (spanTo on t p) (refLen o)) (spanTo on t p)
+    (queryLen o + basesUpTo on t (clamp32 (p +ℤ pos (refLen o))) xs))
+
+-- the soft clipped bases of a list as seen from one end: the query bases in its run of S and H
+unfoldable pub clippedBases : List ℕ → ℕ
+clippedBases [] = 0
+clippedBases (o ∷ xs) = cond (isClip (codeOf o)) (queryLen o + clippedBases xs) 0
+
+abbrev pub softClip : Bool → List ℕ → ℕ
+softClip start xs = clippedBases (facing start xs)

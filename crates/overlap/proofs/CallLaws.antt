@@ -1,0 +1,157 @@
+-- The ways out of each call, over plain lists: one test after another, as the definitions have them.
+use Prim.Native.Nat.{ℕ, _≤_, _<_}
+use mathlib.Core.Path.{_≡_, ap, _∙_}
+use mathlib.Core.Bool.{Bool, true, false}
+use mathlib.Core.List.{List}
+use native.Mathlib.Omega.{arith}
+use lib.IntN.{ℤ, pos}
+use lib.ListN.{length, take}
+use lib.Seq.{take-at}
+use borrow.Author.Tests.{lt-ltb, le-ltb}
+use Rattle.lists.specs.Lists.{sumOf, splice}
+use Rattle.signed.specs.Whole.{clamp32}
+use Rattle.sam.specs.Op.{refLen}
+use Rattle.sam.specs.Record.{posOf, flagsOf, matePosOf, isReverse, recordOps}
+use Rattle.answers.specs.Settled.{keeps}
+use Rattle.answers.specs.declared.Pos1.{Pos1}
+use Rattle.answers.specs.declared.Refusal.the-variants.{ShortRecord, TooManyOps, Overflow, NoRoom}
+use Rattle.answers.specs.declared.Count.{Count}
+use Rattle.answers.specs.declared.Count.the-variants as Count
+use Rattle.oplist.specs.Ops.{mostOps}
+use Rattle.ends.specs.declared.Place1.{Place1}
+use Rattle.ends.specs.Ends.{oneBased}
+use Rattle.strict_text.specs.Text.{textOps}
+use Rattle.strict_text.specs.Valid.{validMapped}
+use Rattle.strict_text.specs.Parsed.{strict, measuredText, measuredOps}
+use Rattle.strict_text.specs.declared.Measured.{Measured}
+use Rattle.strict_text.specs.declared.Measured.the-variants as Measured
+use Rattle.strict_text.proofs.PassLaws.{ops-bad, ops-some}
+use Rattle.pairs.specs.Pairs.{isFrWithMate, isPrimaryFr}
+use Rattle.overhang.specs.Overhang.{overhangOf}
+use Rattle.overlap.specs.declared.Placed.{Placed}
+use Rattle.overlap.specs.declared.Placed.the-variants as Placed
+use Rattle.overlap.specs.declared.Overhang.{Overhang}
+use Rattle.overlap.specs.declared.Overhang.the-variants as Overhang
+use Rattle.overlap.specs.Overlap.{bothPlaces, placedPair, isOver, basesAt, overhangAt, placedBy, pastMateCigar, pastMateRecord, listLeft, pastMateText}
+
+-- ---- where the two lie
+
+module _ (fr : Bool) (b : List ℕ) (m : ℤ) where
+  pub apart : fr ≡ false → Placed.Apart ≡ placedPair fr b m
+  unfolding placedPair
+  apart e = simp e
+
+  pub together : {r : Placed} {x y : Place1} → fr ≡ true → x ≡ oneBased (record { 0 = posOf b }) → y ≡ oneBased (record { 0 = m }) → r ≡ bothPlaces x y → r ≡ placedPair fr b m
+  unfolding placedPair
+  together e p q h = simp e (rw (← p, ← q) h)
+
+-- by the mate's ops; n is their saturated reference length
+pub placed-by : (b ys : List ℕ) (n : ℤ) {r : Placed} {fr : Bool} {m : ℤ} → clamp32 (pos (sumOf refLen ys)) ≡ n → fr ≡ isFrWithMate b n → m ≡ matePosOf b → r ≡ placedPair fr b m → r ≡ placedBy b ys
+unfolding placedBy
+placed-by b ys n e p q h = rw e (rw (← p, ← q) h)
+
+module _ {r : ℕ} (b ys : List ℕ) (p : Pos1) (m : Pos1) where
+  pub bases-are : {f : Bool} {xs zs : List ℕ} → f ≡ isReverse (flagsOf b) → xs ≡ recordOps b → zs ≡ ys → r ≡ overhangOf f (p .0) xs (m .0) zs → r ≡ basesAt (Placed.At p m) b ys
+  bases-are e x z h = rw (← e, ← x, ← z) h
+
+module _ (p : Placed) (b ys : List ℕ) where
+  pub over : isOver p ≡ true → Count.Refused Overflow ≡ overhangAt p b ys
+  unfolding overhangAt
+  over e = simp e
+
+  pub counted : (n : ℕ) → isOver p ≡ false → n ≡ basesAt p b ys → Count.Number n ≡ overhangAt p b ys
+  unfolding overhangAt
+  counted n e h = simp e (ap Count.Number h)
+
+-- ---- the mate's record
+
+module _ (b m : List ℕ) where
+  pub record-short : length b < 32 → Count.Refused ShortRecord ≡ pastMateRecord b m
+  unfolding pastMateRecord
+  record-short h = simp (lt-ltb (length b) 32 h)
+
+  pub mate-short : 32 ≤ length b → length m < 32 → Count.Refused ShortRecord ≡ pastMateRecord b m
+  unfolding pastMateRecord
+  mate-short h k = simp (le-ltb (length b) 32 h, lt-ltb (length m) 32 k)
+
+  pub record-is : {r : Count} {p : Placed} {ys : List ℕ} {fr : Bool} {z : ℤ} → 32 ≤ length b → 32 ≤ length m → fr ≡ isPrimaryFr b m → z ≡ posOf m → p ≡ placedPair fr b z
+      → ys ≡ recordOps m → r ≡ overhangAt p b ys → r ≡ pastMateRecord b m
+  unfolding pastMateRecord
+  record-is h k f g p y e = simp (le-ltb (length b) 32 h, le-ltb (length m) 32 k) (rw (← f, ← g, ← p, ← y) e)
+
+-- ---- the mate's ops
+
+module _ (b ys : List ℕ) where
+  pub cigar-short : length b < 32 → Count.Refused ShortRecord ≡ pastMateCigar b ys
+  unfolding pastMateCigar
+  cigar-short h = simp (lt-ltb (length b) 32 h)
+
+  module _ (h : 32 ≤ length b) where
+    pub cigar-many : mostOps < length ys → Count.Refused TooManyOps ≡ pastMateCigar b ys
+    unfolding pastMateCigar
+    cigar-many k = simp (le-ltb (length b) 32 h, lt-ltb mostOps (length ys) k)
+
+    module _ (k : length ys ≤ mostOps) where
+      pub cigar-bad : measuredOps ys ≡ Measured.Bad → Count.Number 0 ≡ pastMateCigar b ys
+      unfolding pastMateCigar measuredOps
+      cigar-bad e = simp (le-ltb (length b) 32 h, le-ltb mostOps (length ys) k, ops-bad (validMapped ys) _ _ e)
+
+      pub cigar-is : {r : Count} {p : Placed} {xs : List ℕ} (n : ℕ) (z : ℤ) → measuredOps ys ≡ Measured.Ops n z → p ≡ placedBy b ys → xs ≡ ys → r ≡ overhangAt p b xs → r ≡ pastMateCigar b ys
+      unfolding pastMateCigar measuredOps
+      cigar-is n z e p x q = simp (le-ltb (length b) 32 h, le-ltb mostOps (length ys) k, ops-some (validMapped ys) _ _ _ _ e .0) (rw (← p, ← x) q)
+
+pub span-of-ops : (ys : List ℕ) (n : ℕ) (z : ℤ) → measuredOps ys ≡ Measured.Ops n z → clamp32 (pos (sumOf refLen ys)) ≡ z
+unfolding measuredOps
+span-of-ops ys n z e = ops-some (validMapped ys) _ _ _ _ e .2
+
+-- ---- the mate's text
+
+module _ (s : List ℕ) (n : ℕ) (z : ℤ) (e : measuredText s ≡ Measured.Ops n z) where
+  pub text-taken : strict s ≡ true
+  unfolding measuredText
+  text-taken = ops-some (strict s) _ _ _ _ e .0
+
+  pub text-count : length (textOps s) ≡ n
+  unfolding measuredText
+  text-count = ops-some (strict s) _ _ _ _ e .1
+
+  pub text-span : clamp32 (pos (sumOf refLen (textOps s))) ≡ z
+  unfolding measuredText
+  text-span = ops-some (strict s) _ _ _ _ e .2
+
+module _ (b s d : List ℕ) where
+  pub text-short : length b < 32 → pastMateText b s d ≡ keeps (Overhang.Refused ShortRecord) d
+  unfolding pastMateText
+  text-short h = simp (lt-ltb (length b) 32 h)
+
+  module _ (h : 32 ≤ length b) where
+    pub text-bad : measuredText s ≡ Measured.Bad → pastMateText b s d ≡ keeps (Overhang.Bases 0 0) d
+    unfolding pastMateText measuredText
+    text-bad e = simp (le-ltb (length b) 32 h, ops-bad (strict s) _ _ e)
+
+    module _ (n : ℕ) (z : ℤ) (e : measuredText s ≡ Measured.Ops n z) where
+      pub text-many : mostOps < n → pastMateText b s d ≡ keeps (Overhang.Refused TooManyOps) d
+      unfolding pastMateText
+      text-many k = simp (le-ltb (length b) 32 h, text-taken s n z e, lt-ltb mostOps (length (textOps s)) (omega (arith, text-count s n z e)))
+
+      module _ (k : n ≤ mostOps) (p : Placed) (q : p ≡ placedBy b (textOps s)) where
+        listed : pastMateText b s d ≡ listLeft p b (textOps s) d
+        unfolding pastMateText
+        listed = simp (le-ltb (length b) 32 h, text-taken s n z e, le-ltb mostOps (length (textOps s)) (omega (arith, text-count s n z e))) (rw q)
+
+        pub text-over : isOver p ≡ true → pastMateText b s d ≡ keeps (Overhang.Refused Overflow) d
+        unfolding listLeft
+        text-over o = listed ∙ simp o
+
+        pub text-room : isOver p ≡ false → length d < n → pastMateText b s d ≡ keeps (Overhang.Refused NoRoom) d
+        unfolding listLeft
+        text-room o l = listed ∙ simp (o, lt-ltb (length d) (length (textOps s)) (omega (arith, text-count s n z e)))
+
+        pub text-is : isOver p ≡ false → n ≤ length d → pastMateText b s d ≡ record { answer = Overhang.Bases (basesAt p b (textOps s)) n; left = splice d 0 (textOps s) }
+        unfolding listLeft
+        text-is o l = listed ∙ simp (o, le-ltb (length d) (length (textOps s)) (omega (arith, text-count s n z e))) (rw (text-count s n z e))
+
+-- the written list is what the room's first places hold
+pub take-splice : (d xs : List ℕ) (n : ℕ) → length xs ≡ n → take n (splice d 0 xs) ≡ xs
+unfolding splice
+take-splice d xs n e = take-at xs _ n e

@@ -1,0 +1,58 @@
+-- One test after another, and then the overhang where the mate lies.
+use mathlib.Core.Path.{_≡_, _∙_}
+use denote.Ref.{now}
+use mir.Syntax.{w32}
+use mir.Val.{toZ, ofZ}
+use mathlib.Core.List.{[]}
+use Rattle.overlap.proofs.CallLaws.{record-short, mate-short, record-is}
+use borrow.Author.Needs.{needs}
+use Rattle.overlap.proofs.num_bases_extending_past_mate_vs_mate_raw.Statement.{statement}
+use Rattle.overlap.proofs.num_bases_extending_past_mate_vs_mate_raw.Tie as tie
+
+returns : tie.Need-returns
+returns c = record-short _ _ (c .if1 .taken)
+
+returns-2 : tie.Need-returns-2
+returns-2 c = mate-short _ _ (c .before .if1 .left) (c .if2 .taken)
+
+primary-fr-requires : tie.Need-primary-fr-requires
+primary-fr-requires c κs = search needs
+
+i32-at-requires : tie.Need-i32-at-requires
+i32-at-requires c κs = search needs
+
+placed-pair-requires : tie.Need-placed-pair-requires
+placed-pair-requires c κs = search needs
+
+slice-aggregate-overhang-at : tie.Need-slice-aggregate-overhang-at
+slice-aggregate-overhang-at c = search needs
+
+of-record-requires : tie.Need-of-record-requires
+of-record-requires c κs = search needs
+
+overhang-at-requires : tie.Need-overhang-at-requires
+overhang-at-requires c κs = search needs
+
+returns-3 : tie.Need-returns-3
+returns-3 c =
+    let k = c .before .before .before .before .before in
+    let s = k .before .before .before .before .before in
+    let i = c .before .before .before .before .i32-at .result in
+    let e : toZ w32 (ofZ w32 i) ≡ i = search needs in
+    record-is (now (s .args .rec)) (now (s .args .mate)) (k .before .before .if1 .left) (k .before .if2 .left)
+    (k .primary-fr .ensures) (e ∙ c .before .before .before .before .i32-at .ensures) (c .before .before .before .placed-pair .ensures)
+    (c .before .of-record .ensures .0 []) (c .overhang-at .ensures)
+
+pub num-bases-extending-past-mate-vs-mate-raw-spec : {M : Type 1} → statement M
+num-bases-extending-past-mate-vs-mate-raw-spec =
+    tie.close
+    (tie.spec
+    returns
+    returns-2
+    primary-fr-requires
+    i32-at-requires
+    placed-pair-requires
+    slice-aggregate-overhang-at
+    of-record-requires
+    overhang-at-requires
+    returns-3)

@@ -1,0 +1,110 @@
+-- Document 01, module 10: the calls on records. "There the strict reader's answer decides whether a list is used: refusal 5 gives overhang 0, as in the Rust; 3 and 6
+-- are passed on, in the records' order. It is lent room for the list: an answer leaves the parsed list in the first places, and after 5 the room is unchanged."
+use Prim.Native.Nat.{ℕ}
+use mathlib.Core.Bool.{Bool, true, false, cond, not}
+use mathlib.Core.List.{List, [], _∷_}
+use lib.IntN.{ℤ, pos}
+use lib.ListN.{length}
+use lib.Dec.{ltb}
+use Rattle.lists.specs.Lists.{sumOf, splice}
+use Rattle.signed.specs.Whole.{clamp32}
+use Rattle.sam.specs.Op.{refLen}
+use Rattle.sam.specs.Record.{posOf, flagsOf, matePosOf, isReverse, recordOps}
+use Rattle.answers.specs.Answers.{Told, answered, refused}
+use Rattle.answers.specs.Settled.{Outcome, keeps}
+use Rattle.answers.specs.declared.Refusal.the-variants.{ShortRecord, TooManyOps, Overflow, NoRoom}
+use Rattle.answers.specs.declared.Count.{Count}
+use Rattle.answers.specs.declared.Count.the-variants as Count
+use Rattle.answers.specs.declared.Flag.{Flag}
+use Rattle.answers.specs.declared.Flag.the-variants as Flag
+use Rattle.oplist.specs.Ops.{mostOps}
+use Rattle.ends.specs.declared.Place1.{Place1}
+use Rattle.ends.specs.declared.Place1.the-variants as Place1
+use Rattle.ends.specs.Ends.{oneBased}
+use Rattle.strict_text.specs.Text.{textOps}
+use Rattle.strict_text.specs.Valid.{validMapped}
+use Rattle.strict_text.specs.Parsed.{strict}
+use Rattle.pairs.specs.Pairs.{isOpposite, isFr, isFrWithMate, isPrimaryFr}
+use Rattle.overhang.specs.Overhang.{overhangOf}
+use Rattle.overlap.specs.declared.Placed.{Placed}
+use Rattle.overlap.specs.declared.Placed.the-variants as Placed
+use Rattle.overlap.specs.declared.Overhang.{Overhang}
+use Rattle.overlap.specs.declared.Overhang.the-variants as Overhang
+
+-- ---- the pair tests: 1
+
+unfoldable pub oppositePair : List ℕ → Flag
+oppositePair b = cond (ltb (length b) 32) (Flag.Refused ShortRecord) (Flag.Is (isOpposite b))
+
+unfoldable pub frPair : List ℕ → Flag
+frPair b = cond (ltb (length b) 32) (Flag.Refused ShortRecord) (Flag.Is (isFr b))
+
+unfoldable pub primaryFrPair : List ℕ → List ℕ → Flag
+primaryFrPair a b =
+    cond (ltb (length a) 32) (Flag.Refused ShortRecord)
+    (cond (ltb (length b) 32) (Flag.Refused ShortRecord)
+    (Flag.Is (isPrimaryFr a b)))
+
+-- ---- the overhang of a record
+
+-- of an FR pair, the read's and the mate's place counted from 1; either sum may overflow
+abbrev pub bothPlaces : Place1 → Place1 → Placed
+bothPlaces (Place1.At p) (Place1.At m) = Placed.At p m
+bothPlaces (Place1.At p) (Place1.Refused r) = Placed.Over
+bothPlaces (Place1.Refused r) m = Placed.Over
+
+-- whether the pair is FR, and the mate's place as a record has it
+unfoldable pub placedPair : Bool → List ℕ → ℤ → Placed
+placedPair fr b m = cond fr (bothPlaces (oneBased (record { 0 = posOf b })) (oneBased (record { 0 = m }))) Placed.Apart
+
+abbrev pub isOver : Placed → Bool
+isOver Placed.Apart = false
+isOver (Placed.At p m) = false
+isOver Placed.Over = true
+
+-- 0 unless the pair is FR; else the geometry of the read's ops and the mate's
+abbrev pub basesAt : Placed → List ℕ → List ℕ → ℕ
+basesAt Placed.Apart b ys = 0
+basesAt (Placed.At p m) b ys = overhangOf (isReverse (flagsOf b)) (p .0) (recordOps b) (m .0) ys
+basesAt Placed.Over b ys = 0
+
+-- 4
+unfoldable pub overhangAt : Placed → List ℕ → List ℕ → Count
+overhangAt p b ys = cond (isOver p) (Count.Refused Overflow) (Count.Number (basesAt p b ys))
+
+-- by the mate's ops, at the read's own mate position
+unfoldable pub placedBy : List ℕ → List ℕ → Placed
+placedBy b ys = placedPair (isFrWithMate b (clamp32 (pos (sumOf refLen ys)))) b (matePosOf b)
+
+-- mate ops: 1, 3; 0 for a list that is no valid mapped CIGAR; 4
+unfoldable pub pastMateCigar : List ℕ → List ℕ → Count
+pastMateCigar b ys =
+    cond (ltb (length b) 32) (Count.Refused ShortRecord)
+    (cond (ltb mostOps (length ys)) (Count.Refused TooManyOps)
+    (cond (validMapped ys) (overhangAt (placedBy b ys) b ys) (Count.Number 0)))
+
+-- the mate's record: 1, 4
+unfoldable pub pastMateRecord : List ℕ → List ℕ → Count
+pastMateRecord b m =
+    cond (ltb (length b) 32) (Count.Refused ShortRecord)
+    (cond (ltb (length m) 32) (Count.Refused ShortRecord)
+    (overhangAt (placedPair (isPrimaryFr b m) b (posOf m)) b (recordOps m)))
+
+-- mate text, with room d for its ops xs: 4, 6
+unfoldable pub listLeft : Placed → List ℕ → List ℕ → List ℕ → Outcome Overhang
+listLeft p b xs d =
+    cond (isOver p) (keeps (Overhang.Refused Overflow) d)
+    (cond (ltb (length d) (length xs)) (keeps (Overhang.Refused NoRoom) d)
+    (record { answer = Overhang.Bases (basesAt p b xs) (length xs); left = splice d 0 xs }))
+
+-- mate text: 1; overhang 0 for a text that the strict reader refuses by 5; 3
+unfoldable pub pastMateText : List ℕ → List ℕ → List ℕ → Outcome Overhang
+pastMateText b s d =
+    cond (ltb (length b) 32) (keeps (Overhang.Refused ShortRecord) d)
+    (cond (not (strict s)) (keeps (Overhang.Bases 0 0) d)
+    (cond (ltb mostOps (length (textOps s))) (keeps (Overhang.Refused TooManyOps) d)
+    (listLeft (placedBy b (textOps s)) b (textOps s) d)))
+
+abbrev pub tellOverhang : Overhang → Told
+tellOverhang (Overhang.Bases n k) = answered (pos n ∷ pos k ∷ [])
+tellOverhang (Overhang.Refused r) = refused r

@@ -1,0 +1,113 @@
+-- The tests of each pair rule, one by one, as the definitions have them; f is a record's flag, as it was read.
+use Prim.Native.Nat.{ℕ, _+_, _<_, _≤_}
+use mathlib.Core.Path.{_≡_, sym, ap}
+use mathlib.Core.Bool.{Bool, true, false, cond, not, xor}
+use mathlib.Core.List.{List}
+use native.Mathlib.Omega.{arith}
+use lib.IntN.{ℤ, pos, _+ℤ_}
+use lib.Signed.{leZ}
+use mir.Syntax.{w32}
+use mir.Val.{SFits}
+use Rattle.signed.specs.Equal.{eqℤ}
+use Rattle.signed.specs.Whole.{raised}
+use Rattle.signed.proofs.Halves.{up, dn, plus, minus, leℤ, gtℤ, raise-fact}
+use Rattle.sam.specs.Record.{refIdOf, posOf, flagsOf, mateRefIdOf, matePosOf, templateLenOf, isPaired, isUnmapped, isMateUnmapped, isReverse, isMateReverse}
+use Rattle.pairs.specs.Pairs.{bothMapped, isOpposite, startOf, lastOf, mateStartsBefore, isFr, isFrWithMate, isPrimaryFr}
+
+pub first-true : (a b : Bool) → a ≡ true → not b ≡ xor a b
+unfolding xor
+first-true a true e = rw e
+first-true a false e = rw e
+
+pub first-false : (a b : Bool) → a ≡ false → b ≡ xor a b
+unfolding xor
+first-false a true e = rw e
+first-false a false e = rw e
+
+module _ (f : ℕ) where
+  pub unmapped : isUnmapped f ≡ true → false ≡ bothMapped f
+  unfolding bothMapped
+  unmapped e = simp e
+
+  pub mapped : (r : Bool) → isUnmapped f ≡ false → r ≡ isMateUnmapped f → not r ≡ bothMapped f
+  unfolding bothMapped
+  mapped r e g = simp e (ap not g)
+
+module _ (b : List ℕ) (f : ℕ) (e : f ≡ flagsOf b) where
+  pub not-paired : isPaired f ≡ false → false ≡ isOpposite b
+  unfolding isOpposite
+  not-paired p = simp (sym e, p)
+
+  pub not-mapped : isPaired f ≡ true → bothMapped f ≡ false → false ≡ isOpposite b
+  unfolding isOpposite
+  not-mapped p q = simp (sym e, p, q)
+
+  pub apart : isPaired f ≡ true → bothMapped f ≡ true → eqℤ (refIdOf b) (mateRefIdOf b) ≡ false → false ≡ isOpposite b
+  unfolding isOpposite
+  apart p q s = simp (sym e, p, q, s)
+
+  pub strands : (r x y : Bool) → isPaired f ≡ true → bothMapped f ≡ true → eqℤ (refIdOf b) (mateRefIdOf b) ≡ true → x ≡ isReverse f → y ≡ isMateReverse f
+      → r ≡ xor x y → r ≡ isOpposite b
+  unfolding isOpposite
+  strands r x y p q s t u v = simp (sym e, p, q, s, sym t, sym u) v
+
+  module _ (r : Bool) (o : isOpposite b ≡ true) where
+    pub fr-reverse : isReverse f ≡ true → r ≡ mateStartsBefore b → r ≡ isFr b
+    unfolding isFr
+    fr-reverse p t = simp (o, sym e, p) t
+
+    pub fr-forward : isReverse f ≡ false → r ≡ leZ (pos 1) (templateLenOf b) → r ≡ isFr b
+    unfolding isFr
+    fr-forward p t = simp (o, sym e, p) t
+
+    pub with-reverse : (n : ℤ) → isReverse f ≡ true → r ≡ mateStartsBefore b → r ≡ isFrWithMate b n
+    unfolding isFrWithMate
+    with-reverse n p t = simp (o, sym e, p) t
+
+    pub with-forward : (n : ℤ) → isReverse f ≡ false → r ≡ leZ (startOf (posOf b)) (lastOf (matePosOf b) n) → r ≡ isFrWithMate b n
+    unfolding isFrWithMate
+    with-forward n p t = simp (o, sym e, p) t
+
+pub not-fr : (b : List ℕ) → isOpposite b ≡ false → false ≡ isFr b
+unfolding isFr
+not-fr b o = simp o
+
+pub not-fr-with : (b : List ℕ) (n : ℤ) → isOpposite b ≡ false → false ≡ isFrWithMate b n
+unfolding isFrWithMate
+not-fr-with b n o = simp o
+
+module _ (a b : List ℕ) (f g : ℕ) (e : f ≡ flagsOf a) (h : g ≡ flagsOf b) where
+  pub first-unmapped : bothMapped f ≡ false → false ≡ isPrimaryFr a b
+  unfolding isPrimaryFr
+  first-unmapped p = simp (sym e, p)
+
+  module _ (p : bothMapped f ≡ true) where
+    pub second-unmapped : bothMapped g ≡ false → false ≡ isPrimaryFr a b
+    unfolding isPrimaryFr
+    second-unmapped q = simp (sym e, sym h, p, q)
+
+    module _ (q : bothMapped g ≡ true) where
+      pub two-apart : eqℤ (refIdOf a) (refIdOf b) ≡ false → false ≡ isPrimaryFr a b
+      unfolding isPrimaryFr
+      two-apart s = simp (sym e, sym h, p, q, s)
+
+      module _ (s : eqℤ (refIdOf a) (refIdOf b) ≡ true) where
+        module _ (x y : Bool) (t : x ≡ isReverse f) (u : y ≡ isReverse g) where
+          pub one-strand : xor x y ≡ false → false ≡ isPrimaryFr a b
+          unfolding isPrimaryFr
+          one-strand v = simp (sym e, sym h, p, q, s, sym t, sym u, v)
+
+          pub decided : (r : Bool) → xor x y ≡ true → r ≡ isFr (cond x a b) → r ≡ isPrimaryFr a b
+          unfolding isPrimaryFr
+          decided r v w = simp (sym e, sym h, p, q, s, sym t, sym u, v) w
+
+-- an order of positions, over their raised numbers
+module _ (s p n : ℤ) (i : SFits w32 s) (j : SFits w32 p) (k : SFits w32 n) where
+  sums : (up (lastOf p n) + dn p + dn n + 0 ≡ dn (lastOf p n) + up p + up n)
+  sums = let a = plus p (pos 1) in let b = plus (p +ℤ pos 1) n in let c = minus (p +ℤ pos 1 +ℤ n) (pos 1) in omega arith
+
+  pub starts-by : raised s + 2147483648 < raised p + raised n → leZ (startOf s) (lastOf p n) ≡ true
+  starts-by h = leℤ (startOf s) (lastOf p n) (omega (arith, sums, plus s (pos 1), raise-fact s i, raise-fact p j, raise-fact n k))
+
+  pub starts-past : raised p + raised n ≤ raised s + 2147483648 → leZ (startOf s) (lastOf p n) ≡ false
+  starts-past h = gtℤ (startOf s) (lastOf p n) (omega (arith, sums, plus s (pos 1), raise-fact s i, raise-fact p j, raise-fact n k))
