@@ -1,4 +1,4 @@
-// Links the static library that `rt staticlib exports` writes at the top of the repository.
+// Links the two static libraries that `rt staticlib` writes at the top of the repository.
 use std::path::Path;
 
 fn main() {
@@ -7,11 +7,13 @@ fn main() {
     }
     let here = std::env::var("CARGO_MANIFEST_DIR").unwrap();
     let folder = std::env::var("SELVEDGEKITE_LIB").unwrap_or(format!("{here}/../../target/staticlib"));
-    let library = Path::new(&folder).join("libexports.a");
-    if !library.exists() {
-        panic!("{} is missing: run `rt staticlib exports` at the top of the repository", library.display());
-    }
     println!("cargo:rustc-link-search=native={folder}");
-    println!("cargo:rustc-link-lib=static=exports");
-    println!("cargo:rerun-if-changed={}", library.display());
+    for name in ["exports", "exports_reads"] {
+        let library = Path::new(&folder).join(format!("lib{name}.a"));
+        if !library.exists() {
+            panic!("{} is missing: run `rt staticlib {name}` at the top of the repository", library.display());
+        }
+        println!("cargo:rustc-link-lib=static={name}");
+        println!("cargo:rerun-if-changed={}", library.display());
+    }
 }

@@ -8,7 +8,7 @@ use Rattle.answers.specs.declared.Nat.{Nat}
 use Rattle.answers.specs.declared.Nat.the-variants.{Number, Refused}
 use Rattle.answers.specs.Settled.{Outcome}
 use Rattle.bin.specs.Bin.{recordBin, withBin, setBin}
-use Rattle.exports.proofs.ExportLaws.{Last6, Six, full, done, refused-first}
+use Rattle.given.proofs.ExportLaws.{Last6, Six, full, done, refused-first}
 
 pub bin-last6 : (b : List ℕ) → Last6 tellNat 1 (λ (d : List ℕ). setBin b) b
 unfolding setBin

@@ -13,7 +13,7 @@ use Rattle.answers.specs.Settled.{Outcome}
 use Rattle.answers.specs.declared.Count.{Count}
 use Rattle.answers.specs.declared.Count.the-variants.{Number, Refused}
 use Rattle.ops.specs.Ops.{getOps}
-use Rattle.exports.proofs.ExportLaws.{Last6, refused-first, room-last}
+use Rattle.given.proofs.ExportLaws.{Last6, refused-first, room-last}
 
 pub ops-last6 : (b d : List ℕ) → Last6 tellCount 1 (getOps b) d
 unfolding getOps

@@ -1,16 +1,8 @@
-<<<<<<< HEAD
 -- A sum over a list goes part by part, so it is the same from either end; and the other end of the other end is this one.
 use Prim.Native.Nat.{ℕ, _+_}
 use mathlib.Core.Path.{_≡_, refl}
 use mathlib.Core.Bool.{Bool, true, false}
 use mathlib.Core.List.{List, [], _∷_, _++_, reverse, reverse-cons, reverse-reverse}
-=======
--- A sum over a list goes part by part, so it is the same from either end.
-use Prim.Native.Nat.{ℕ, _+_}
-use mathlib.Core.Path.{_≡_, refl}
-use mathlib.Core.Bool.{Bool, true, false}
-use mathlib.Core.List.{List, [], _∷_, _++_, reverse, reverse-cons}
->>>>>>> a3756fa9ada092a21d980bd58b23aba7772c9e10
 use native.Mathlib.Omega.{arith}
 use Rattle.lists.specs.Lists.{facing, sumOf}
 
@@ -33,10 +25,7 @@ module _ (f : ℕ → ℕ) where
   pub sum-facing : (b : Bool) (xs : List ℕ) → sumOf f (facing b xs) ≡ sumOf f xs
   sum-facing true xs = refl
   sum-facing false xs = sum-reverse xs
-<<<<<<< HEAD
 
 pub facing-facing : (b : Bool) (xs : List ℕ) → facing b (facing b xs) ≡ xs
 facing-facing true xs = refl
 facing-facing false xs = reverse-reverse xs
-=======
->>>>>>> a3756fa9ada092a21d980bd58b23aba7772c9e10

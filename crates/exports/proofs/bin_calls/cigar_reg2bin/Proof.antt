@@ -3,7 +3,7 @@ use mathlib.Core.Path.{sym, ap}
 use borrow.Author.Needs.{needs}
 use mir.Facts.{toZ-ofZ}
 use Rattle.answers.specs.Answers.{tellNat}
-use Rattle.exports.proofs.ExportLaws.{told-as}
+use Rattle.given.proofs.ExportLaws.{told-as}
 use Rattle.exports.proofs.bin_calls.cigar_reg2bin.Statement.{statement}
 use Rattle.exports.proofs.bin_calls.cigar_reg2bin.Tie as tie
 

@@ -5,7 +5,7 @@ use mathlib.Core.List.{List}
 use borrow.Author.Needs.{needs}
 use Rattle.answers.specs.Answers.{tellNat}
 use Rattle.bin.specs.Bin.{setBin}
-use Rattle.exports.proofs.ExportLaws.{short-filled, long-filled}
+use Rattle.given.proofs.ExportLaws.{short-filled, long-filled}
 use Rattle.exports.proofs.BinLaws.{bin-last6, bin-answer}
 use Rattle.exports.proofs.bin_calls.cigar_set_bin_from_raw_bam.Statement.{statement}
 use Rattle.exports.proofs.bin_calls.cigar_set_bin_from_raw_bam.Tie as tie

@@ -3,7 +3,7 @@ use mathlib.Core.Path.{refl, sym, ap, _∙_}
 use borrow.Author.Needs.{needs}
 use lib.IntN.{pos}
 use Rattle.fields.specs.Fields.{tellArea}
-use Rattle.exports.proofs.ExportLaws.{two-told, why-told, told-as}
+use Rattle.given.proofs.ExportLaws.{two-told, why-told, told-as}
 use Rattle.exports.proofs.field_calls.cigar_cigar_raw_bytes.Statement.{statement}
 use Rattle.exports.proofs.field_calls.cigar_cigar_raw_bytes.Tie as tie
 

@@ -6,7 +6,7 @@ use mir.Syntax.{w32}
 use mir.Val.{toZ, ofZ}
 use Rattle.signed.specs.Whole.{twos64}
 use Rattle.lengths.specs.Lengths.{tellLengths}
-use Rattle.exports.proofs.ExportLaws.{two-told, why-told, told-as}
+use Rattle.given.proofs.ExportLaws.{two-told, why-told, told-as}
 use Rattle.exports.proofs.length_calls.cigar_cigar_lengths.Statement.{statement}
 use Rattle.exports.proofs.length_calls.cigar_cigar_lengths.Tie as tie
 

@@ -6,7 +6,7 @@ use lib.IntN.{ℤ}
 use mir.Syntax.{w32}
 use mir.Val.{toZ, ofZ}
 use Rattle.answers.specs.Answers.{answered}
-use Rattle.exports.proofs.ExportLaws.{told-as}
+use Rattle.given.proofs.ExportLaws.{told-as}
 use Rattle.exports.proofs.length_calls.cigar_reference_length_from_raw_bam.Statement.{
   statement,
 }

@@ -3,7 +3,7 @@ use mathlib.Core.Path.{refl, sym, ap, _∙_}
 use borrow.Author.Needs.{needs}
 use lib.IntN.{pos}
 use Rattle.ops.specs.Ops.{letterOfKind}
-use Rattle.exports.proofs.ExportLaws.{two-told, told-as}
+use Rattle.given.proofs.ExportLaws.{two-told, told-as}
 use Rattle.exports.specs.Ops.{charOf}
 use Rattle.exports.proofs.op_calls.cigar_as_char.Statement.{statement}
 use Rattle.exports.proofs.op_calls.cigar_as_char.Tie as tie

@@ -3,7 +3,7 @@ use mathlib.Core.Path.{refl, sym, ap, _∙_}
 use borrow.Author.Needs.{needs}
 use lib.IntN.{pos}
 use Rattle.ops.specs.Ops.{tellKind, codeOfKind}
-use Rattle.exports.proofs.ExportLaws.{two-told, told-as}
+use Rattle.given.proofs.ExportLaws.{two-told, told-as}
 use Rattle.exports.proofs.op_calls.cigar_from_op_type.Statement.{statement}
 use Rattle.exports.proofs.op_calls.cigar_from_op_type.Tie as tie
 

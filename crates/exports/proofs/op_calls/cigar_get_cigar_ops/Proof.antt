@@ -3,7 +3,7 @@ use mathlib.Core.Path.{_∙_}
 use borrow.Author.Needs.{needs}
 use Rattle.answers.specs.Answers.{tellCount}
 use Rattle.ops.specs.Ops.{getOps}
-use Rattle.exports.proofs.ExportLaws.{short-filled, long-filled}
+use Rattle.given.proofs.ExportLaws.{short-filled, long-filled}
 use Rattle.exports.proofs.OpLaws.{ops-last6}
 use Rattle.exports.proofs.op_calls.cigar_get_cigar_ops.Statement.{statement}
 use Rattle.exports.proofs.op_calls.cigar_get_cigar_ops.Tie as tie

@@ -6,7 +6,7 @@ use mathlib.Core.List.{[], _∷_}
 use borrow.Author.Needs.{needs}
 use Rattle.answers.specs.Answers.{answered, flagValue}
 use Rattle.sam.specs.Op.{codeOf, isQuery}
-use Rattle.exports.proofs.ExportLaws.{told-as}
+use Rattle.given.proofs.ExportLaws.{told-as}
 use Rattle.exports.proofs.op_calls.cigar_op_consumes_query.Statement.{statement}
 use Rattle.exports.proofs.op_calls.cigar_op_consumes_query.Tie as tie
 

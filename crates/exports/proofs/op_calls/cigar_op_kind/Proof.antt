@@ -5,7 +5,7 @@ use borrow.Author.Needs.{needs}
 use lib.IntN.{pos}
 use Rattle.sam.specs.Op.{codeOf}
 use Rattle.ops.specs.Ops.{codeOfKind, kindOf}
-use Rattle.exports.proofs.ExportLaws.{one-told}
+use Rattle.given.proofs.ExportLaws.{one-told}
 use Rattle.exports.proofs.op_calls.cigar_op_kind.Statement.{statement}
 use Rattle.exports.proofs.op_calls.cigar_op_kind.Tie as tie
 

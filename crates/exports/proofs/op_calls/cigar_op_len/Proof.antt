@@ -3,7 +3,7 @@ use mathlib.Core.Path.{_≡_, ap, _∙_}
 use borrow.Author.Needs.{needs}
 use lib.IntN.{pos}
 use Rattle.sam.specs.Op.{lenOf}
-use Rattle.exports.proofs.ExportLaws.{one-told}
+use Rattle.given.proofs.ExportLaws.{one-told}
 use Rattle.exports.proofs.op_calls.cigar_op_len.Statement.{statement}
 use Rattle.exports.proofs.op_calls.cigar_op_len.Tie as tie
 

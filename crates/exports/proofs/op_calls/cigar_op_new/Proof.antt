@@ -6,7 +6,7 @@ use lib.IntN.{pos}
 use Rattle.ops.specs.Ops.{tellOp}
 use Rattle.ops.specs.declared.KindFound.{KindFound}
 use Rattle.exports.specs.Ops.{opAnswer}
-use Rattle.exports.proofs.ExportLaws.{two-told, told-as}
+use Rattle.given.proofs.ExportLaws.{two-told, told-as}
 use Rattle.exports.proofs.op_calls.cigar_op_new.Statement.{statement}
 use Rattle.exports.proofs.op_calls.cigar_op_new.Tie as tie
 

@@ -3,7 +3,7 @@ use mathlib.Core.Path.{refl, ap}
 use borrow.Author.Needs.{needs}
 use lib.IntN.{pos}
 use Rattle.ops.specs.Ops.{tellOp}
-use Rattle.exports.proofs.ExportLaws.{two-told, why-told, told-as}
+use Rattle.given.proofs.ExportLaws.{two-told, why-told, told-as}
 use Rattle.exports.proofs.op_calls.give_op.Statement.{statement}
 use Rattle.exports.proofs.op_calls.give_op.Tie as tie
 

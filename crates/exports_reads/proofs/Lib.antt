@@ -1,0 +1,3 @@
+pub mod ClipLaws
+pub mod OverlapLaws
+pub mod TextLaws

@@ -1,0 +1,7 @@
+// The static library, second part: text, ends, lookup, clipping, pairs and overhang, as include/cigar.h declares them.
+mod clip_calls;
+mod end_calls;
+mod lookup_calls;
+mod mate_calls;
+mod overlap_calls;
+mod text_calls;
