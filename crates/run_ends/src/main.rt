@@ -1,7 +1,6 @@
 // Runs document 01's examples and the edges of modules 7 and 8. A line of the first part has a record's ops, and what the calls answer: the unclipped
 // 5' position of the record, the same from its `pos` forward and in reverse, start and end. A line of the second part is one lookup.
 use answers::Pos0;
-use answers::Refusal;
 use ends::Found1;
 use ends::Place0;
 use ends::Place1;
@@ -15,49 +14,28 @@ const S: u32 = 4;
 
 const H: u32 = 5;
 
-const UNMAPPED: u32 = 4;
-
-const REVERSE: u32 = 16;
-
 // The largest length of an op.
 const MOST: u32 = 268435455;
 
-fn print_signed(n: i32) {
-    let u = signed::raise(n);
-    if u < 2147483648 {
-        io::write_all(1, b"-");
-        io::print_decimal(1, 2147483648 - u);
-    } else {
-        io::print_decimal(1, u - 2147483648);
-    }
-}
-
-fn print_refused(why: Refusal) {
-    io::write_all(1, b"refused ");
-    io::print_decimal(1, answers::number(why) as u64);
-}
-
 fn print_place0(p: Place0) {
     match p {
-        Place0::At(at) => print_signed(at.0),
-        Place0::Refused(why) => print_refused(why),
+        Place0::At(at) => shown::integer(at.0),
+        Place0::Refused(why) => shown::refused(why),
     }
 }
 
 fn print_place1(p: Place1) {
     match p {
-        Place1::At(at) => print_signed(at.0),
-        Place1::Refused(why) => print_refused(why),
+        Place1::At(at) => shown::integer(at.0),
+        Place1::Refused(why) => shown::refused(why),
     }
 }
 
 fn print_found1(p: Found1) {
     match p {
-        Found1::At(at) => print_signed(at.0),
-        Found1::Nothing => {
-            io::write_all(1, b"none");
-        }
-        Found1::Refused(why) => print_refused(why),
+        Found1::At(at) => shown::integer(at.0),
+        Found1::Nothing => shown::text(b"none"),
+        Found1::Refused(why) => shown::refused(why),
     }
 }
 
@@ -100,18 +78,18 @@ fn with_run(rec: [u8; 80], i: usize, code: u32) -> [u8; 80] {
 }
 
 fn show(name: &[u8], rec: &[u8], pos: i32) {
-    io::write_all(1, name);
-    io::write_all(1, b": ");
+    shown::text(name);
+    shown::text(b": ");
     print_place1(ends::unclipped_5prime_from_raw_bam(rec));
-    io::write_all(1, b"; forward ");
+    shown::text(b"; forward ");
     print_place0(ends::unclipped_5prime_raw(rec, Pos0(pos), false));
-    io::write_all(1, b", reverse ");
+    shown::text(b", reverse ");
     print_place0(ends::unclipped_5prime_raw(rec, Pos0(pos), true));
-    io::write_all(1, b"; start ");
+    shown::text(b"; start ");
     print_found1(ends::alignment_start_from_raw(rec));
-    io::write_all(1, b", end ");
+    shown::text(b", end ");
     print_found1(ends::alignment_end_from_raw(rec));
-    io::write_all(1, b"\n");
+    shown::end();
 }
 
 // 5S20M2D5M
@@ -122,13 +100,13 @@ fn example(flags: u32) -> [u8; 80] {
 
 fn examples() {
     show(b"5S20M2D5M at 99", &example(0), 99);
-    show(b"5S20M2D5M at 99, reverse", &example(REVERSE), 99);
-    let r = with_op(with_op(record(99, REVERSE, 5), 0, 3, H), 1, 5, S);
+    show(b"5S20M2D5M at 99, reverse", &example(fields::REVERSE), 99);
+    let r = with_op(with_op(record(99, fields::REVERSE, 5), 0, 3, H), 1, 5, S);
     let s = with_op(with_op(with_op(r, 2, 10, M), 3, 4, S), 4, 2, H);
     show(b"3H5S10M4S2H at 99, reverse", &s, 99);
     show(
         b"5S at 99, reverse",
-        &with_op(record(99, REVERSE, 1), 0, 5, S),
+        &with_op(record(99, fields::REVERSE, 1), 0, 5, S),
         99,
     );
 }
@@ -136,7 +114,7 @@ fn examples() {
 fn without_a_place() {
     show(
         b"10M at 99, unmapped",
-        &with_op(record(99, UNMAPPED, 1), 0, 10, M),
+        &with_op(record(99, fields::UNMAPPED, 1), 0, 10, M),
         99,
     );
     show(b"no ops at 99", &record(99, 0, 0), 99);
@@ -148,7 +126,7 @@ fn without_a_place() {
 fn ends_of_the_range() {
     show(
         b"1M at 2147483646, reverse",
-        &with_op(record(2147483646, REVERSE, 1), 0, 1, M),
+        &with_op(record(2147483646, fields::REVERSE, 1), 0, 1, M),
         2147483646,
     );
     show(
@@ -164,20 +142,20 @@ fn ends_of_the_range() {
     );
     show(
         b"5S at -2147483648, reverse",
-        &with_op(record(2147483648, REVERSE, 1), 0, 5, S),
+        &with_op(record(2147483648, fields::REVERSE, 1), 0, 5, S),
         -2147483648,
     );
 }
 
 // Clips of 2^31 bases between two reference ops don't count, and overflow all the same; before any reference op they don't.
 fn long_sums() {
-    let between = with_run(with_op(record(0, REVERSE, 11), 0, 1, M), 1, S);
+    let between = with_run(with_op(record(0, fields::REVERSE, 11), 0, 1, M), 1, S);
     show(
         b"1M, S of 2^31 in all, 1M at 0, reverse",
         &with_op(between, 10, 1, M),
         0,
     );
-    let before = with_run(record(0, REVERSE, 10), 0, S);
+    let before = with_run(record(0, fields::REVERSE, 10), 0, S);
     show(
         b"S of 2^31 in all, 1M at 0, reverse",
         &with_op(before, 9, 1, M),
@@ -185,31 +163,27 @@ fn long_sums() {
     );
     show(
         b"M of 2^31 in all at 0, reverse",
-        &with_run(record(0, REVERSE, 9), 0, M),
+        &with_run(record(0, fields::REVERSE, 9), 0, M),
         0,
     );
 }
 
 fn look(name: &[u8], ops: &[u32], start: u64, pos: u64, asked: bool) {
-    io::write_all(1, name);
-    io::write_all(1, b" from ");
-    io::print_decimal(1, start);
-    io::write_all(1, b" at ");
-    io::print_decimal(1, pos);
+    shown::text(name);
+    shown::text(b" from ");
+    shown::natural(start);
+    shown::text(b" at ");
+    shown::natural(pos);
     if asked {
-        io::write_all(1, b", asked");
+        shown::text(b", asked");
     }
-    io::write_all(1, b": ");
+    shown::text(b": ");
     match lookup::read_pos_at_ref_pos_raw(ops, start, pos, asked) {
-        Found::At(n) => {
-            io::print_decimal(1, n);
-        }
-        Found::Nothing => {
-            io::write_all(1, b"none");
-        }
-        Found::Refused(why) => print_refused(why),
+        Found::At(n) => shown::natural(n),
+        Found::Nothing => shown::text(b"none"),
+        Found::Refused(why) => shown::refused(why),
     }
-    io::write_all(1, b"\n");
+    shown::end();
 }
 
 // P9, and the ends of that list.
