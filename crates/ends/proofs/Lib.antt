@@ -1,2 +1,4 @@
 pub mod TailLaws
+pub mod RunMost
 pub mod CaseLaws
+pub mod Meaning

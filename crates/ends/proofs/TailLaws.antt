@@ -18,7 +18,7 @@ use Rattle.ends.specs.Tails.{refOp, clipsToNext, greatestRun, Met, met}
 met-eq : {a b c a' b' c' : ℕ} → a ≡ a' → b ≡ b' → c ≡ c' → _≡_ {A = Met} (record { refs = a; clips = b; most = c }) (record { refs = a'; clips = b'; most = c' })
 met-eq e f g = cc
 
-sum-pick : (f : ℕ → ℕ) (t : Bool) (xs ys : List ℕ) → sumOf f (cond t xs ys) ≡ cond t (sumOf f xs) (sumOf f ys)
+pub sum-pick : (f : ℕ → ℕ) (t : Bool) (xs ys : List ℕ) → sumOf f (cond t xs ys) ≡ cond t (sumOf f xs) (sumOf f ys)
 sum-pick f true xs ys = refl
 sum-pick f false xs ys = refl
 
@@ -26,11 +26,11 @@ sum-pick f false xs ys = refl
 
 module _ (o : ℕ) (xs : List ℕ) where
   module _ (e : refOp o ≡ true) where
-    next-ref : clipsToNext (o ∷ xs) ≡ 0
+    pub next-ref : clipsToNext (o ∷ xs) ≡ 0
     unfolding clipsToNext leading sumOf
     next-ref = simp e
 
-    run-ref : greatestRun (o ∷ xs) ≡ max (clipsToNext xs) (greatestRun xs)
+    pub run-ref : greatestRun (o ∷ xs) ≡ max (clipsToNext xs) (greatestRun xs)
     unfolding greatestRun
     run-ref = simp e
 
@@ -43,11 +43,11 @@ module _ (o : ℕ) (xs : List ℕ) where
     len-ref = simp e
 
   module _ (e : refOp o ≡ false) where
-    next-other : clipsToNext (o ∷ xs) ≡ clipLen o + clipsToNext xs
+    pub next-other : clipsToNext (o ∷ xs) ≡ clipLen o + clipsToNext xs
     unfolding clipsToNext leading sumOf
     next-other = simp e
 
-    run-other : greatestRun (o ∷ xs) ≡ max 0 (greatestRun xs)
+    pub run-other : greatestRun (o ∷ xs) ≡ max 0 (greatestRun xs)
     unfolding greatestRun
     run-other = simp e
 
@@ -126,16 +126,20 @@ module _ (w : Tail) (o : ℕ) (xs : List ℕ) (h : w .clips ≤ w .most) where
 
 -- ---- the walk's start and end
 
+pub no-clips : (xs : List ℕ) → holds refOp xs ≡ false → trailingClips xs ≡ 0
+unfolding trailingClips sumOf
+no-clips xs e = ap (sumOf clipLen) (after-none refOp xs e)
+
 abbrev pub fresh : Tail
 fresh = record { refs = 0; clips = 0; most = 0; saw = false }
 
 pub met-all : (xs : List ℕ) → met fresh xs ≡ record { refs = sumOf refLen xs; clips = trailingClips xs; most = greatestRun xs }
-unfolding met trailingClips sumOf
+unfolding met
 met-all xs = met-eq (omega arith) (go (holds refOp xs) refl) (omega arith)
   where
     go : (t : Bool) → holds refOp xs ≡ t → cond t (trailingClips xs) 0 ≡ trailingClips xs
     go true e = refl
-    go false e = sym (ap (sumOf clipLen) (after-none refOp xs e))
+    go false e = sym (no-clips xs e)
 
 pub met-none : (w : Tail) → w .clips ≤ w .most → met w [] ≡ record { refs = w .refs; clips = w .clips; most = w .most }
 unfolding met holds sumOf clipsToNext leading greatestRun

@@ -1,7 +1,9 @@
 // The static library: every call over numbers and slices, as include/cigar.h declares it.
 mod bin_calls;
+mod end_calls;
 mod field_calls;
 mod length_calls;
+mod lookup_calls;
 mod mate_calls;
 mod op_calls;
 mod text_calls;

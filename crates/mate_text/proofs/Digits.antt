@@ -56,9 +56,12 @@ pub digits-snoc : (ds : List ℕ) (b : ℕ) → Digits ds → Digit b → Digits
 digits-snoc [] b k d = (d, tt)
 digits-snoc (e ∷ ds) b k d = (k .0, digits-snoc ds b (k .1) d)
 
-push-held : (n b : ℕ) → isDigit b ≡ true → pushOf (min n 18446744073709551615) b ≡ min (n * 10 + (b - 48)) 18446744073709551615
+pub push-digit : (x b : ℕ) → isDigit b ≡ true → pushOf x b ≡ min (x * 10 + (b - 48)) 18446744073709551615
 unfolding pushOf
-push-held n b e = rw e (omega arith)
+push-digit x b e = rw e
+
+push-held : (n b : ℕ) → isDigit b ≡ true → pushOf (min n 18446744073709551615) b ≡ min (n * 10 + (b - 48)) 18446744073709551615
+push-held n b e = push-digit (min n 18446744073709551615) b e ∙ omega arith
 
 run-held : (ds : List ℕ) (n x : ℕ) → Digits ds → x ≡ min n 18446744073709551615 → runOf x ds ≡ min (value n ds) 18446744073709551615
 unfolding value

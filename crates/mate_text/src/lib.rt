@@ -45,22 +45,24 @@ fn wide(b: u8) -> u64
     b as u64
 }
 
-// The digits so far, then one more byte; as they were where the byte is no digit.
+// The digits so far, then one more byte; as they were where the byte is no digit. Held at 2^64 - 1, which one test rules out for a number that is not huge.
 fn pushed(x: u64, b: u8) -> u64
     ensures { λ r. ⌜ r ≡ pushOf x b ⌝ }
 {
-    if is_digit(b) {
-        if 1844674407370955161 < x {
-            return 18446744073709551615;
-        }
-        let y = x * 10;
-        let d = wide(b) - 48;
-        if 18446744073709551615 - d < y {
-            return 18446744073709551615;
-        }
-        return y + d;
+    if !is_digit(b) {
+        return x;
     }
-    x
+    let d = wide(b) - 48;
+    if x < 1844674407370955161 {
+        return x * 10 + d;
+    }
+    if 1844674407370955161 < x {
+        return 18446744073709551615;
+    }
+    if 5 < d {
+        return 18446744073709551615;
+    }
+    18446744073709551610 + d
 }
 
 // What a number counts: 0 above 2^31 - 1.

@@ -11,7 +11,7 @@ use mir.Val.{toZ, ofZ}
 use Rattle.signed.specs.Whole.{natural, checked}
 use Rattle.sam.specs.Record.{posOf}
 use Rattle.lengths.specs.Lengths.{refLengthOrZero}
-use Rattle.ends.specs.Sums.{_⊕_}
+use Rattle.ends.specs.Sums.{both}
 use Rattle.ends.specs.Ends.{toPlace1, toFound1, alignmentEnd}
 use Rattle.ends.proofs.CaseLaws.{end-none, end-bare, end-at}
 use borrow.Author.Needs.{needs}
@@ -65,7 +65,7 @@ to-found1-requires : tie.Need-to-found1-requires
 to-found1-requires c κs = search needs
 
 returns-4 : tie.Need-returns-4
-unfolding _⊕_
+unfolding both
 returns-4 c =
     let s = c .before .before .before in
     let l = s .before .before in

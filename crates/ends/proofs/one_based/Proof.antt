@@ -2,7 +2,7 @@
 use mir.Syntax.{w32}
 use mir.Val.{toZ, ofZ}
 use mathlib.Core.Path.{_≡_, ap, _∙_}
-use Rattle.ends.specs.Sums.{_⊕_}
+use Rattle.ends.specs.Sums.{both}
 use Rattle.ends.specs.Ends.{toPlace1, oneBased}
 use borrow.Author.Needs.{needs}
 use Rattle.ends.proofs.one_based.Statement.{statement}
@@ -15,7 +15,7 @@ to-place1-requires : tie.Need-to-place1-requires
 to-place1-requires c κs = search needs
 
 returns : tie.Need-returns
-unfolding oneBased _⊕_
+unfolding oneBased both
 returns c =
     let p = c .before .before .before .args .p in
     let e : toZ w32 (ofZ w32 (p .0)) ≡ p .0 = search needs in

@@ -1,5 +1,9 @@
 -- Each arm is one law of the walk; the bounds follow from an op's length below 2^28.
-use mathlib.Core.Path.{sym, _∙_}
+use mathlib.Core.Path.{_≡_, sym, _∙_}
+use mathlib.Core.Bool.{true}
+use mathlib.Core.List.{List, _∷_}
+use Prim.Native.Nat.{ℕ, _+_, max}
+use Rattle.ends.specs.Tails.{met}
 use native.Mathlib.Omega.{arith}
 use borrow.Author.Tests.{not-true, not-false}
 use Rattle.ends.proofs.TailLaws.{meets-ref, meets-other, meets-early, meets-clip, no-clip, clip-len}
@@ -50,29 +54,30 @@ length-of-requires-2 c κs = search needs
 add-clips : tie.Need-add-clips
 add-clips c = search needs
 
+-- a clip that counts, with the greater of the two sums
+module _ (c : tie.After-struct-known4) where
+  abbrev is-clip : tie.After-is-clip
+  is-clip = c .before .before .before .before .before .before
+
+  abbrev start : tie.Start
+  start = is-clip .before .before .before
+
+  longer : (m : ℕ) → m ≡ max (start .args .w .most) (start .args .w .clips + c .before .before .length-of2 .result) → (xs : List ℕ)
+      → met (record { refs = start .args .w .refs; clips = start .args .w .clips + c .before .before .length-of2 .result; most = m; saw = true }) xs ≡ met (start .args .w) (start .args .op ∷ xs)
+  longer m e xs =
+      let l = c .before .before in
+      let a = start .args in
+      meets-clip (a .w) (a .op) xs (start .pre .2) _ m
+      (l .length-of2 .ensures .0 ∙ sym (clip-len (a .op) (sym (is-clip .is-clip .ensures) ∙ not-false _ (l .before .before .before .if2 .left))))
+      (sym (is-clip .before .before .consumes-ref .ensures) ∙ is-clip .before .if1 .left)
+      (not-false _ (l .before .if3 .left))
+      e
+
 returns-4 : tie.Need-returns-4
-returns-4 c =
-    let l = c .before .before .before in
-    let m = l .before .before .before .before .before in
-    let k = m .before in
-    let a = k .before .args in (
-      λ xs. meets-clip (a .w) (a .op) xs (k .before .pre .2) _ _
-          (l .length-of2 .ensures .0 ∙ sym (clip-len (a .op) (sym (l .before .before .before .before .is-clip .ensures) ∙ not-false _ (l .before .before .before .if2 .left))))
-          (sym (k .consumes-ref .ensures) ∙ m .if1 .left) (not-false _ (l .before .if3 .left)) (omega arith),
-      (omega arith, omega arith, omega arith),
-    )
+returns-4 c = (longer (c .before) _ (omega arith), (omega arith, omega arith, omega arith))
 
 returns-5 : tie.Need-returns-5
-returns-5 c =
-    let l = c .before .before .before in
-    let m = l .before .before .before .before .before in
-    let k = m .before in
-    let a = k .before .args in (
-      λ xs. meets-clip (a .w) (a .op) xs (k .before .pre .2) _ _
-          (l .length-of2 .ensures .0 ∙ sym (clip-len (a .op) (sym (l .before .before .before .before .is-clip .ensures) ∙ not-false _ (l .before .before .before .if2 .left))))
-          (sym (k .consumes-ref .ensures) ∙ m .if1 .left) (not-false _ (l .before .if3 .left)) (omega arith),
-      (omega arith, omega arith, omega arith),
-    )
+returns-5 c = (longer (c .before) _ (omega arith), (omega arith, omega arith, omega arith))
 
 pub meet-spec : {M : Type 1} → statement M
 meet-spec =

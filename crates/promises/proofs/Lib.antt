@@ -1,0 +1,3 @@
+pub mod Settles
+pub mod RowLaws
+pub mod LeafRows

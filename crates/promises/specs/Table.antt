@@ -1,0 +1,31 @@
+-- Document 01, "Numbers and their bounds": a refusal is "given exactly when" its row holds, and of several the first in the call's order.
+use Prim.Native.Nat.{ℕ}
+use mathlib.Core.Path.{_≡_}
+use mathlib.Core.Bool.{Bool, false, cond}
+use mathlib.Core.List.{List, [], _∷_}
+use lib.Dec.{eqb}
+use Rattle.answers.specs.Answers.{Told}
+use Rattle.answers.specs.Settled.{Outcome}
+
+-- a row: a number, and the condition on the input under which it is due
+pub record Row : Type 0 where
+  pub number : ℕ
+  pub due : Bool
+
+infixl 90 _when_
+abbrev pub _when_ : ℕ → Bool → Row
+_when_ n t = record { number = n; due = t }
+
+-- the first row that holds; 0, an answer, where none does
+abbrev pub first : List Row → ℕ
+first [] = 0
+first (r ∷ rows) = cond (r .due) (r .number) (first rows)
+
+-- a call that is lent nothing gives the number of the first row that holds
+pub record Gives (t : Told) (rows : List Row) : Type 0 where
+  pub number : t .number ≡ first rows
+
+-- and one that is lent memory d leaves it as it was, where it gives one
+pub record GivesKept {A : Type 0} (tell : A → Told) (want : Outcome A) (d : List ℕ) (rows : List Row) : Type 0 where
+  pub number : tell (want .answer) .number ≡ first rows
+  pub kept : (eqb (first rows) 0 ≡ false) → want .left ≡ d

@@ -1,0 +1,1 @@
+// What is promised: theorems over the definitions of the other crates. No function stands here.

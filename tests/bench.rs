@@ -1,0 +1,133 @@
+// Times each public call of the port beside the original's, on the same inputs in one process. A function is called through a pointer that the
+// compiler can't see through, so that neither side is inlined into the loop. Buffers that the port is lent are made once and not cleared.
+#[allow(dead_code)]
+#[path = "../bindings/rust/src/lib.rs"]
+mod port;
+
+use original::{bin, cigar, fields::RawRecordView, overlap};
+use std::hint::black_box;
+use std::time::Instant;
+
+const INPUTS: usize = 64;
+
+struct Random(u64);
+
+impl Random {
+    fn below(&mut self, n: u64) -> u64 {
+        self.0 = self.0.wrapping_mul(6364136223846793005).wrapping_add(1442695040888963407);
+        (self.0 >> 33) % n
+    }
+}
+
+/// A valid mapped list: M and, between them, I, D or N; from five ops on with clips at both ends.
+fn list(random: &mut Random, n: usize) -> Vec<u32> {
+    let mut ops = Vec::new();
+    for i in 0..n {
+        let clip = n >= 5 && (i == 0 || i + 1 == n);
+        let code = if clip { 4 } else if i % 2 == 1 { 1 + random.below(3) as u32 } else { 0 };
+        ops.push(((1 + random.below(150) as u32) << 4) | code);
+    }
+    ops
+}
+
+fn record(random: &mut Random, ops: &[u32], reverse: bool, mate: i32) -> Vec<u8> {
+    let mut r = vec![0u8; 32];
+    r[4..8].copy_from_slice(&(1000 + random.below(100000) as i32).to_le_bytes());
+    r[8] = 9;
+    r[12..14].copy_from_slice(&(ops.len() as u16).to_le_bytes());
+    r[14..16].copy_from_slice(&(if reverse { 0x11u16 } else { 0x21 }).to_le_bytes());
+    r[24..28].copy_from_slice(&mate.to_le_bytes());
+    r[28..32].copy_from_slice(&300i32.to_le_bytes());
+    r.extend_from_slice(b"read/123\0");
+    r.extend(ops.iter().flat_map(|o| o.to_le_bytes()));
+    r
+}
+
+/// The best of nine runs, in nanoseconds a call.
+fn time(calls: usize, mut run: impl FnMut(usize)) -> f64 {
+    let mut best = f64::MAX;
+    for _ in 0..9 {
+        let start = Instant::now();
+        for i in 0..calls {
+            run(i % INPUTS);
+        }
+        best = best.min(start.elapsed().as_nanos() as f64 / calls as f64);
+    }
+    best
+}
+
+fn row(name: &str, n: usize, note: &str, original: impl FnMut(usize), port: impl FnMut(usize)) {
+    let calls = (2_000_000 / (n + 20)).max(200);
+    let (rust, own) = (time(calls, original), time(calls, port));
+    println!("| `{name}` | {n} | {rust:.1} | {own:.1} | {:.2} | {note} |", own / rust);
+}
+
+macro_rules! pair {
+    ($name:expr, $n:expr, $note:expr, $original:expr => $t:ty, $port:expr => $u:ty, |$i:ident, $f:ident| $call:expr, |$j:ident, $g:ident| $own:expr) => {{
+        let $f: $t = black_box($original);
+        let $g: $u = black_box($port);
+        row($name, $n, $note, |$i| { black_box($call); }, |$j| { black_box($own).ok(); });
+    }};
+}
+
+fn lists(n: usize, random: &mut Random) {
+    let l: Vec<Vec<u32>> = (0..INPUTS).map(|_| list(random, n)).collect();
+    let mut out = vec![0u32; n + 2];
+    pair!("reference_length_from_cigar", n, "", cigar::reference_length_from_cigar => fn(&[u32]) -> i32, port::reference_length_from_cigar => fn(&[u32]) -> Result<i32, port::Refusal>, |i, f| f(&l[i]), |i, g| g(&l[i]));
+    pair!("query_length_from_cigar", n, "", cigar::query_length_from_cigar => fn(&[u32]) -> usize, port::query_length_from_cigar => fn(&[u32]) -> Result<usize, port::Refusal>, |i, f| f(&l[i]), |i, g| g(&l[i]));
+    pair!("saturating_reference_length", n, "", overlap::saturating_reference_length => fn(&[u32]) -> i32, port::saturating_reference_length => fn(&[u32]) -> Result<i32, port::Refusal>, |i, f| f(&l[i]), |i, g| g(&l[i]));
+    pair!("is_valid_mapped_cigar", n, "", overlap::reach::is_valid_mapped_cigar => fn(&[u32]) -> bool, port::is_valid_mapped_cigar => fn(&[u32]) -> Result<bool, port::Refusal>, |i, f| f(&l[i]), |i, g| g(&l[i]));
+    let far = 1000 + 40 * n;
+    pair!("read_pos_at_ref_pos_raw", n, "", cigar::read_pos_at_ref_pos_raw => fn(&[u32], usize, usize, bool) -> Option<usize>, port::read_pos_at_ref_pos_raw => fn(&[u32], usize, usize, bool) -> Result<Option<usize>, port::Refusal>, |i, f| f(&l[i], 1000, far, false), |i, g| g(&l[i], 1000, far, false));
+    for start in [true, false] {
+        let name = if start { "clip_cigar_ops_raw, start" } else { "clip_cigar_ops_raw, end" };
+        pair!(name, n, "the Rust allocates", cigar::clip_cigar_ops_raw => fn(&[u32], usize, bool) -> (Vec<u32>, usize), port::clip_cigar_ops_raw => fn(&[u32], usize, bool, &mut [u32]) -> Result<(usize, usize), port::Refusal>, |i, f| f(&l[i], 160, start), |i, g| g(&l[i], 160, start, &mut out));
+    }
+    pair!("bases_extending_past_mate_ops", n, "", overlap::bases_extending_past_mate_ops => fn(bool, i32, &[u32], i32, &[u32]) -> usize, port::bases_extending_past_mate_ops => fn(bool, i32, &[u32], i32, &[u32]) -> Result<usize, port::Refusal>, |i, f| f(false, 1000, &l[i], 1010, &l[(i + 1) % INPUTS]), |i, g| g(false, 1000, &l[i], 1010, &l[(i + 1) % INPUTS]));
+}
+
+fn records(n: usize, random: &mut Random) {
+    let l: Vec<Vec<u32>> = (0..INPUTS).map(|_| list(random, n)).collect();
+    let r: Vec<Vec<u8>> = l.iter().map(|x| record(random, x, false, 2000)).collect();
+    let b: Vec<Vec<u8>> = l.iter().map(|x| record(random, x, true, 500)).collect();
+    let (mut out, mut text) = (vec![0u32; n + 2], vec![0u8; 12 * n]);
+    let mut string = Vec::new();
+    pair!("get_cigar_ops", n, "the Rust allocates", cigar::get_cigar_ops => fn(&[u8]) -> Vec<u32>, port::get_cigar_ops => fn(&[u8], &mut [u32]) -> Result<usize, port::Refusal>, |i, f| f(&r[i]), |i, g| g(&r[i], &mut out));
+    pair!("reference_length_from_raw_bam_checked", n, "", cigar::reference_length_from_raw_bam_checked => fn(&[u8]) -> Option<i32>, port::reference_length_from_raw_bam_checked => fn(&[u8]) -> Result<i32, port::Refusal>, |i, f| f(&r[i]), |i, g| g(&r[i]));
+    pair!("query_length", n, "", |x: &[u8]| RawRecordView::new(x).query_length() => fn(&[u8]) -> usize, port::query_length => fn(&[u8]) -> Result<usize, port::Refusal>, |i, f| f(&r[i]), |i, g| g(&r[i]));
+    pair!("cigar_lengths", n, "", |x: &[u8]| RawRecordView::new(x).cigar_lengths() => fn(&[u8]) -> (i32, usize), port::cigar_lengths => fn(&[u8]) -> Result<(i32, usize), port::Refusal>, |i, f| f(&r[i]), |i, g| g(&r[i]));
+    pair!("cigar_to_bytes_into", n, "the Rust's buffer is kept", cigar::cigar_to_bytes_into => fn(&mut Vec<u8>, &[u8]), port::cigar_to_bytes_into => fn(&[u8], &mut [u8]) -> Result<usize, port::Refusal>, |i, f| f(&mut string, &r[i]), |i, g| g(&r[i], &mut text));
+    pair!("cigar_to_string_from_raw", n, "the Rust allocates", cigar::cigar_to_string_from_raw => fn(&[u8]) -> String, port::cigar_to_bytes_into => fn(&[u8], &mut [u8]) -> Result<usize, port::Refusal>, |i, f| f(&r[i]), |i, g| g(&r[i], &mut text));
+    pair!("unclipped_5prime_from_raw_bam, forward", n, "", cigar::unclipped_5prime_from_raw_bam => fn(&[u8]) -> i32, port::unclipped_5prime_from_raw_bam => fn(&[u8]) -> Result<i32, port::Refusal>, |i, f| f(&r[i]), |i, g| g(&r[i]));
+    pair!("unclipped_5prime_from_raw_bam, reverse", n, "", cigar::unclipped_5prime_from_raw_bam => fn(&[u8]) -> i32, port::unclipped_5prime_from_raw_bam => fn(&[u8]) -> Result<i32, port::Refusal>, |i, f| f(&b[i]), |i, g| g(&b[i]));
+    pair!("alignment_end_from_raw", n, "", cigar::alignment_end_from_raw => fn(&[u8]) -> Option<usize>, port::alignment_end_from_raw => fn(&[u8]) -> Result<Option<usize>, port::Refusal>, |i, f| f(&r[i]), |i, g| g(&r[i]));
+    pair!("bin_from_raw_bam", n, "", bin::bin_from_raw_bam => fn(&[u8]) -> u16, port::bin_from_raw_bam => fn(&[u8]) -> Result<u16, port::Refusal>, |i, f| f(&r[i]), |i, g| g(&r[i]));
+    pair!("is_primary_fr_pair_raw", n, "", overlap::is_primary_fr_pair_raw => fn(&[u8], &[u8]) -> bool, port::is_primary_fr_pair_raw => fn(&[u8], &[u8]) -> Result<bool, port::Refusal>, |i, f| f(&r[i], &b[i]), |i, g| g(&r[i], &b[i]));
+    pair!("num_bases_extending_past_mate_cigar_raw", n, "the Rust allocates", overlap::num_bases_extending_past_mate_cigar_raw => fn(&[u8], &[u32]) -> usize, port::num_bases_extending_past_mate_cigar_raw => fn(&[u8], &[u32]) -> Result<usize, port::Refusal>, |i, f| f(&r[i], &l[i]), |i, g| g(&r[i], &l[i]));
+    pair!("num_bases_extending_past_mate_vs_mate_raw", n, "the Rust allocates", overlap::num_bases_extending_past_mate_vs_mate_raw => fn(&[u8], &[u8]) -> usize, port::num_bases_extending_past_mate_vs_mate_raw => fn(&[u8], &[u8]) -> Result<usize, port::Refusal>, |i, f| f(&r[i], &b[i]), |i, g| g(&r[i], &b[i]));
+}
+
+fn texts(n: usize, random: &mut Random) {
+    let t: Vec<String> = (0..INPUTS)
+        .map(|_| list(random, n).iter().map(|o| format!("{}{}", o >> 4, port::CigarOp::from_raw(*o).kind().as_char())).collect())
+        .collect();
+    let mut out = vec![0u32; n + 2];
+    pair!("parse_cigar_string_ops", n, "the Rust allocates", overlap::parse_cigar_string_ops => fn(&str) -> Option<Vec<u32>>, port::parse_cigar_string_ops => fn(&[u8], &mut [u32]) -> Result<usize, port::Refusal>, |i, f| f(&t[i]), |i, g| g(t[i].as_bytes(), &mut out));
+    for reverse in [false, true] {
+        let (f, g) = (black_box(cigar::mate_unclipped_5prime as fn(i32, bool, &[u8]) -> i32), black_box(port::mate_unclipped_5prime as fn(i32, bool, &[u8]) -> i32));
+        let name = if reverse { "mate_unclipped_5prime, reverse" } else { "mate_unclipped_5prime, forward" };
+        row(name, n, "", |i| { black_box(f(1000, reverse, t[i].as_bytes())); }, |i| { black_box(g(1000, reverse, t[i].as_bytes())); });
+    }
+}
+
+fn main() {
+    println!("| Call | ops | Rust, ns | port, ns | ratio | |\n|---|---|---|---|---|---|");
+    let random = &mut Random(7);
+    for n in [1, 3, 10, 100, 10_000] {
+        lists(n, random);
+        records(n, random);
+        texts(n, random);
+    }
+    let (f, g) = (black_box(bin::reg2bin as fn(i32, i32) -> u16), black_box(port::reg2bin as fn(i32, i32) -> Result<u16, port::Refusal>));
+    row("reg2bin", 1, "", |i| { black_box(f(i as i32 * 1000, i as i32 * 3000 + 7)); }, |i| { black_box(g(i as i32 * 1000, i as i32 * 3000 + 7)).ok(); });
+}
