@@ -5,9 +5,8 @@ use mathlib.Core.Bool.{Bool, true, false, cond, _||_}
 use mathlib.Core.List.{List, [], _∷_, _++_, append-assoc}
 use native.Mathlib.Omega.{arith}
 use lib.Dec.{ltb}
-use lib.ListN.{getD}
 use borrow.Author.Tests.{lt-ltb, le-ltb, ltb-true, ltb-false}
-use Rattle.sam.specs.Op.{lenOf, codeOf, opOf, letters}
+use Rattle.sam.specs.Op.{lenOf, codeOf, opOf}
 use Rattle.sam.specs.Text.{Digit, Digits, value, Spells, Spells.end, Spells.op}
 use Rattle.ops.specs.Ops.{letterOf}
 use Rattle.print.specs.Text.{dec, decimal, opText, textOf, anyBad}

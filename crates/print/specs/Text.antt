@@ -1,6 +1,6 @@
 -- Document 01, module 4: "Decimal without leading zeros, then the letter; length 0 prints as 0. No ops, or an overrun area, gives empty text."
 use Prim.Native.Nat.{ℕ, zero, suc, _+_, _/_, _%_}
-use mathlib.Core.Bool.{Bool, true, false, cond, _||_}
+use mathlib.Core.Bool.{Bool, false, cond, _||_}
 use mathlib.Core.List.{List, [], _∷_, _++_}
 use lib.ListN.{length}
 use lib.Dec.{ltb}

@@ -1,5 +1,5 @@
 -- The places of the pass are those of the clips: its last place accepts just what `is_valid_mapped_cigar` takes.
-use Prim.Native.Nat.{ℕ, _/_, _%_, _≤_, _<_}
+use Prim.Native.Nat.{ℕ, _≤_, _<_}
 use mathlib.Core.Path.{_≡_, refl, sym, ap, _∙_}
 use mathlib.Core.Bool.{Bool, true, false, cond, not, _&&_, _||_, and-true, and-false}
 use mathlib.Core.List.{List, [], _∷_, _++_}
@@ -13,7 +13,7 @@ use Rattle.strict_text.specs.Pass.{codeClass, classOf, stepOf, acceptOf}
 use Rattle.strict_text.specs.declared.Class.{Class}
 use Rattle.strict_text.specs.declared.Class.the-variants.{Reference, Other, Soft, Hard, Unknown}
 use Rattle.strict_text.specs.declared.Place.{Place}
-use Rattle.strict_text.specs.declared.Place.the-variants.{Start, AfterHard, AfterSoft, Inner, Good, EndSoft, EndHard, Wrong}
+use Rattle.strict_text.specs.declared.Place.the-variants.{Start, AfterHard, Inner, Good, EndSoft, EndHard, Wrong}
 use Rattle.strict_text.proofs.TextLaws.{false-true, both}
 
 -- ---- the rules, without the ops on the left
@@ -161,7 +161,6 @@ wrong-run (o ∷ xs) = wrong-run xs
 step-unknown : (p : Place) → stepOf p Unknown ≡ Wrong
 step-unknown Start = refl
 step-unknown AfterHard = refl
-step-unknown AfterSoft = refl
 step-unknown Inner = refl
 step-unknown Good = refl
 step-unknown EndSoft = refl
@@ -187,7 +186,6 @@ odd-run (o ∷ xs) p e = go (ltb 0 (lenOf o)) (ltb (codeOf o) 9) refl refl e (od
 record States (xs : List ℕ) : Type 0 where
   start : acceptOf (run Start xs) ≡ (placed true true xs && anyRef xs)
   afterHard : acceptOf (run AfterHard xs) ≡ (placed false true xs && anyRef xs)
-  afterSoft : acceptOf (run AfterSoft xs) ≡ (placed false false xs && anyRef xs)
   inner : acceptOf (run Inner xs) ≡ (placed false false xs && anyRef xs)
   good : acceptOf (run Good xs) ≡ placed false false xs
   endSoft : acceptOf (run EndSoft xs) ≡ (allHard xs && placed false false xs)
@@ -210,7 +208,6 @@ module _ (o : ℕ) (xs : List ℕ) (r : States xs) where
   cons Reference k er es eh u = record {
     start = simp (k, er, es, eh, r .good, and-true);
     afterHard = simp (k, er, es, eh, r .good, and-true);
-    afterSoft = simp (k, er, es, eh, r .good, and-true);
     inner = simp (k, er, es, eh, r .good, and-true);
     good = simp (k, er, es, eh, r .good, and-true);
     endSoft = simp (k, er, es, eh, r .wrong);
@@ -224,7 +221,6 @@ module _ (o : ℕ) (xs : List ℕ) (r : States xs) where
   cons Other k er es eh u = record {
     start = simp (k, er, es, eh, r .inner);
     afterHard = simp (k, er, es, eh, r .inner);
-    afterSoft = simp (k, er, es, eh, r .inner);
     inner = simp (k, er, es, eh, r .inner);
     good = simp (k, es, eh, r .good);
     endSoft = simp (k, eh, r .wrong);
@@ -236,9 +232,8 @@ module _ (o : ℕ) (xs : List ℕ) (r : States xs) where
     emptyHard = simp eh;
   }
   cons Soft k er es eh u = record {
-    start = simp (k, er, es, eh, r .afterSoft);
-    afterHard = simp (k, er, es, eh, r .afterSoft);
-    afterSoft = simp (k, er, es, eh, r .wrong, and-skip (allHard xs) (placed false false xs) (anyRef xs) (r .noRef));
+    start = simp (k, er, es, eh, r .inner);
+    afterHard = simp (k, er, es, eh, r .inner);
     inner = simp (k, er, es, eh, r .wrong, and-skip (allHard xs) (placed false false xs) (anyRef xs) (r .noRef));
     good = simp (k, es, eh, r .endSoft);
     endSoft = simp (k, eh, r .wrong);
@@ -252,7 +247,6 @@ module _ (o : ℕ) (xs : List ℕ) (r : States xs) where
   cons Hard k er es eh u = record {
     start = simp (k, er, es, eh, r .afterHard);
     afterHard = simp (k, er, es, eh, r .wrong, and-true, and-skip (isEmpty xs) (placed false true xs) (anyRef xs) (r .emptyRef));
-    afterSoft = simp (k, er, es, eh, r .wrong, and-true, and-skip (isEmpty xs) (placed false false xs) (anyRef xs) (r .emptyRef));
     inner = simp (k, er, es, eh, r .wrong, and-true, and-skip (isEmpty xs) (placed false false xs) (anyRef xs) (r .emptyRef));
     good = simp (k, es, eh, r .endHard, and-true, r .emptyPlaced);
     endSoft = simp (k, es, eh, r .endHard, and-true, r .emptyPlaced, r .emptyHard);
@@ -267,7 +261,7 @@ module _ (o : ℕ) (xs : List ℕ) (r : States xs) where
 
 states : (xs : List ℕ) → plain xs ≡ true → States xs
 unfolding run placed anyRef allHard isEmpty plain
-states [] e = record { start = refl; afterHard = refl; afterSoft = refl; inner = refl; good = refl; endSoft = refl; endHard = refl; wrong = refl; noRef = refl; emptyRef = refl; emptyPlaced = refl; emptyHard = refl }
+states [] e = record { start = refl; afterHard = refl; inner = refl; good = refl; endSoft = refl; endHard = refl; wrong = refl; noRef = refl; emptyRef = refl; emptyPlaced = refl; emptyHard = refl }
 states (o ∷ xs) e =
     let h = both (ltb 0 (lenOf o) && ltb (codeOf o) 9) (plain xs) e in
     let k = both (ltb 0 (lenOf o)) (ltb (codeOf o) 9) (h .0) in

@@ -1,19 +1,19 @@
 -- The reader's byte by byte account of a text is the specification's grammar, and what it takes is what the specification says.
 use Prim.Native.Nat.{ℕ, suc, _+_, _-_, _*_, _≤_, _<_}
 use mathlib.Core.Path.{_≡_, refl, sym, ap, _∙_, subst}
-use mathlib.Core.Bool.{Bool, true, false, cond, not, _&&_, _||_}
+use mathlib.Core.Bool.{Bool, true, false, cond, not, _||_}
 use mathlib.Core.List.{List, [], _∷_, _++_}
 use native.Mathlib.Omega.{arith}
 use lib.ListN.{length, getD}
-use lib.Dec.{ltb, leb, eqb}
+use lib.Dec.{ltb, eqb}
 use borrow.Author.Tests.{le-leb, ltb-false, eqb-true, eqb-false, not-true}
 use Rattle.lists.proofs.Tables.{below-at}
-use Rattle.sam.specs.Op.{lenOf, codeOf, opOf, letters}
+use Rattle.sam.specs.Op.{lenOf, opOf, letters}
 use Rattle.sam.specs.Text.{Digit, Digits, value, Spells, Spells.end, Spells.op}
 use Rattle.strict_text.specs.Text.{isDigit, place, letterCode, Next, Next.Number, Next.Letter, Next.Bad, nextOf, onNext, rowFrom, isRow, opsFrom, textOps}
 use Rattle.strict_text.specs.Valid.{validMapped}
 use Rattle.strict_text.specs.Parsed.{strict}
-use Rattle.strict_text.specs.Meaning.{Each, Mapped, MappedText}
+use Rattle.strict_text.specs.Meaning.{Each, MappedText}
 use Rattle.strict_text.proofs.TextLaws.{false-true, both, digit-bounds, next-digit, next-letter}
 use Rattle.strict_text.proofs.ValidLaws.{valid-mapped, mapped-valid}
 

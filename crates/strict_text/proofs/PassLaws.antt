@@ -1,5 +1,5 @@
 -- The pass answers by the rules: it counts the ops, sums their reference bases up to 2^31 - 1, and its last place says whether they are valid.
-use Prim.Native.Nat.{ℕ, _+_, _*_, _/_, _%_, _≤_, _<_, min}
+use Prim.Native.Nat.{ℕ, _+_, _≤_, _<_, min}
 use mathlib.Core.Path.{_≡_, refl, sym, ap, _∙_}
 use mathlib.Core.Bool.{Bool, true, false, cond, _&&_}
 use mathlib.Core.List.{List, [], _∷_}
@@ -8,7 +8,7 @@ use native.Mathlib.Nat.{min-eq-left, min-eq-right}
 use lib.IntN.{ℤ, pos}
 use lib.ListN.{length, drop}
 use lib.Dec.{leb, ltb}
-use borrow.Author.Tests.{leb-true, leb-false, lt-ltb, le-ltb, ltb-true, ltb-false}
+use borrow.Author.Tests.{leb-true, leb-false, ltb-true, ltb-false}
 use Rattle.lists.specs.Lists.{sumOf}
 use Rattle.signed.specs.Whole.{clamp32}
 use Rattle.signed.proofs.Ranges.{clamp-in, clamp-above}
@@ -20,7 +20,7 @@ use Rattle.strict_text.specs.Pass.{OpAt, NoneAt, codeClass, classOf, ste
 use Rattle.strict_text.specs.declared.Class.{Class}
 use Rattle.strict_text.specs.declared.Class.the-variants.{Reference, Other, Soft, Hard, Unknown}
 use Rattle.strict_text.specs.declared.Place.{Place}
-use Rattle.strict_text.specs.declared.Place.the-variants.{Start, AfterHard, AfterSoft, Inner, Good, EndSoft, EndHard, Wrong}
+use Rattle.strict_text.specs.declared.Place.the-variants.{Start, AfterHard, Inner, Good, EndSoft, EndHard, Wrong}
 use Rattle.strict_text.specs.declared.Seen.{Seen}
 use Rattle.strict_text.specs.declared.Took.{Took}
 use Rattle.strict_text.specs.declared.Took.the-variants.{More, Stop}
@@ -71,7 +71,6 @@ passed p n refs xs = cond (acceptOf (run p xs)) (Measured.Ops (n + length xs) (p
 wrong-accept : (q : Place) (xs : List ℕ) → isWrong q ≡ true → acceptOf (run q xs) ≡ false
 wrong-accept Start xs e = absurd (false-true e)
 wrong-accept AfterHard xs e = absurd (false-true e)
-wrong-accept AfterSoft xs e = absurd (false-true e)
 wrong-accept Inner xs e = absurd (false-true e)
 wrong-accept Good xs e = absurd (false-true e)
 wrong-accept EndSoft xs e = absurd (false-true e)

@@ -2,21 +2,21 @@
 -- leading zeros, since decimal grows by the digit that is read.
 use Prim.Native.Nat.{ℕ, _+_, _-_, _*_, _≤_, _<_}
 use mathlib.Core.Path.{_≡_, refl, sym, ap, _∙_, subst}
-use mathlib.Core.Bool.{Bool, true, false, cond, not, _&&_, _||_}
-use mathlib.Core.List.{List, [], _∷_, _++_, append-assoc}
+use mathlib.Core.Bool.{Bool, true, false, cond}
+use mathlib.Core.List.{List, [], _∷_, _++_, append-assoc, append-nil}
 use native.Mathlib.Omega.{arith}
-use lib.Dec.{ltb, eqb}
+use lib.Dec.{eqb}
 use lib.ListN.{getD}
-use borrow.Author.Tests.{le-ltb, eq-eqb, eqb-true, eqb-false}
+use borrow.Author.Tests.{le-ltb, eqb-true, eqb-false}
 use Rattle.sam.specs.Op.{lenOf, codeOf, opOf, letters}
-use Rattle.sam.specs.Text.{Digit, Digits, value, Spells, Spells.end, Spells.op}
+use Rattle.sam.specs.Text.{Digits, value, Spells, Spells.end, Spells.op}
 use Rattle.ops.specs.Ops.{letterOf}
 use Rattle.print.specs.Text.{decimal, opText, textOf, anyBad}
 use Rattle.print.proofs.GrammarLaws.{print-spells, decimal-one, decimal-more}
 use Rattle.strict_text.specs.Text.{isDigit, textOps}
 use Rattle.strict_text.specs.Valid.{validMapped}
 use Rattle.strict_text.specs.Parsed.{strict}
-use Rattle.strict_text.specs.Meaning.{Each, Mapped, MappedText, withoutZeros}
+use Rattle.strict_text.specs.Meaning.{Each, withoutZeros}
 use Rattle.strict_text.proofs.ValidLaws.{valid-mapped}
 use Rattle.strict_text.proofs.GrammarLaws.{letter-digit, is-digit, accepts, accepted}
 
@@ -37,10 +37,6 @@ read-printed xs v f =
 decimal-run : (ds : List ℕ) (m : ℕ) → 0 < m → Digits ds → decimal (value m ds) ≡ decimal m ++ ds
 unfolding value
 decimal-run [] m h d = sym (append-nil (decimal m))
-  where
-    append-nil : (l : List ℕ) → l ++ [] ≡ l
-    append-nil [] = refl
-    append-nil (x ∷ l) = ap (λ (k : List ℕ). x ∷ k) (append-nil l)
 decimal-run (b ∷ ds) m h d =
     decimal-run ds (m * 10 + (b - 48)) (omega arith) (d .1)
     ∙ ap (λ (l : List ℕ). l ++ ds) (decimal-more m b h (d .0))

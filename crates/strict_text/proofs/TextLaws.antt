@@ -1,16 +1,16 @@
 -- A byte of a text takes the row and its ops one byte on, by what `nextOf` says of it.
 use Prim.Native.Nat.{ℕ, _+_, _-_, _*_, _≤_, _<_}
-use mathlib.Core.Path.{_≡_, refl, sym, ap, _∙_}
-use mathlib.Core.Bool.{Bool, true, false, cond, not, _&&_, _||_, or-true}
+use mathlib.Core.Path.{_≡_, refl, _∙_}
+use mathlib.Core.Bool.{Bool, true, false, not, _&&_, or-true}
 use mathlib.Core.List.{List, [], _∷_}
 use native.Mathlib.Omega.{arith}
 use lib.ListN.{length, getD, drop}
-use lib.Dec.{ltb, leb, eqb}
+use lib.Dec.{ltb, leb}
 use borrow.Author.Tests.{lt-ltb, le-ltb, leb-true, eq-eqb, ne-eqb}
 use Rattle.lists.proofs.Walks.{step, done}
 use Rattle.sam.specs.Op.{opOf}
 use Rattle.strict_text.specs.Pass.{OpAt, NoneAt}
-use Rattle.strict_text.specs.Text.{isDigit, letterCode, Next, Next.Number, Next.Letter, Next.Bad, nextOf, onNext, rowFrom, opsFrom}
+use Rattle.strict_text.specs.Text.{isDigit, letterCode, Next, Next.Number, Next.Letter, Next.Bad, nextOf, rowFrom, opsFrom}
 
 pub false-true : false ≡ true → ⊥
 false-true e = let z : _≡_ {A = ℕ} 0 1 = cc in omega arith

@@ -1,5 +1,5 @@
 -- The reader's one pass, as its inner functions go; no public contract cites it. Document 01's rules are `Text` and `Valid`, and a law of proofs/ says that the pass answers them.
-use Prim.Native.Nat.{ℕ, _+_, _%_, _≤_, _<_, min}
+use Prim.Native.Nat.{ℕ, _+_, _≤_, _<_, min}
 use mathlib.Core.Path.{_≡_}
 use mathlib.Core.Bool.{Bool, true, false, cond}
 use mathlib.Core.List.{List, [], _∷_}
@@ -13,7 +13,7 @@ use Rattle.strict_text.specs.declared.Token.the-variants as Token
 use Rattle.strict_text.specs.declared.Class.{Class}
 use Rattle.strict_text.specs.declared.Class.the-variants.{Reference, Other, Soft, Hard, Unknown}
 use Rattle.strict_text.specs.declared.Place.{Place}
-use Rattle.strict_text.specs.declared.Place.the-variants.{Start, AfterHard, AfterSoft, Inner, Good, EndSoft, EndHard, Wrong}
+use Rattle.strict_text.specs.declared.Place.the-variants.{Start, AfterHard, Inner, Good, EndSoft, EndHard, Wrong}
 use Rattle.strict_text.specs.declared.Seen.{Seen}
 use Rattle.strict_text.specs.declared.Took.{Took}
 use Rattle.strict_text.specs.declared.Took.the-variants.{More, Stop}
@@ -48,19 +48,14 @@ classOf o = cond (ltb o 16) Unknown (codeClass (codeOf o))
 abbrev pub stepOf : Place → Class → Place
 stepOf Start Reference = Good
 stepOf Start Other = Inner
-stepOf Start Soft = AfterSoft
+stepOf Start Soft = Inner
 stepOf Start Hard = AfterHard
 stepOf Start Unknown = Wrong
 stepOf AfterHard Reference = Good
 stepOf AfterHard Other = Inner
-stepOf AfterHard Soft = AfterSoft
+stepOf AfterHard Soft = Inner
 stepOf AfterHard Hard = Wrong
 stepOf AfterHard Unknown = Wrong
-stepOf AfterSoft Reference = Good
-stepOf AfterSoft Other = Inner
-stepOf AfterSoft Soft = Wrong
-stepOf AfterSoft Hard = Wrong
-stepOf AfterSoft Unknown = Wrong
 stepOf Inner Reference = Good
 stepOf Inner Other = Inner
 stepOf Inner Soft = Wrong
@@ -82,7 +77,6 @@ stepOf Wrong k = Wrong
 abbrev pub acceptOf : Place → Bool
 acceptOf Start = false
 acceptOf AfterHard = false
-acceptOf AfterSoft = false
 acceptOf Inner = false
 acceptOf Good = true
 acceptOf EndSoft = true
@@ -92,7 +86,6 @@ acceptOf Wrong = false
 abbrev pub isWrong : Place → Bool
 isWrong Start = false
 isWrong AfterHard = false
-isWrong AfterSoft = false
 isWrong Inner = false
 isWrong Good = false
 isWrong EndSoft = false

@@ -34,11 +34,11 @@ pub enum Class {
     Unknown,
 }
 
-// Where the ops so far stand in H? S? inner S? H?; `Good`: an inner op is a reference op. `Wrong`: they are no valid mapped CIGAR, whatever follows.
+// Where the ops so far stand in H? S? inner S? H?: at the start, after H, past the leading clips without a reference op (`Inner`) or with one
+// (`Good`), after the S or the H at the end. `Wrong`: they are no valid mapped CIGAR, whatever follows.
 pub enum Place {
     Start,
     AfterHard,
-    AfterSoft,
     Inner,
     Good,
     EndSoft,
@@ -152,21 +152,14 @@ fn step(p: Place, k: Class) -> Place
         Place::Start => match k {
             Class::Reference => Place::Good,
             Class::Other => Place::Inner,
-            Class::Soft => Place::AfterSoft,
+            Class::Soft => Place::Inner,
             Class::Hard => Place::AfterHard,
             Class::Unknown => Place::Wrong,
         },
         Place::AfterHard => match k {
             Class::Reference => Place::Good,
             Class::Other => Place::Inner,
-            Class::Soft => Place::AfterSoft,
-            Class::Hard => Place::Wrong,
-            Class::Unknown => Place::Wrong,
-        },
-        Place::AfterSoft => match k {
-            Class::Reference => Place::Good,
-            Class::Other => Place::Inner,
-            Class::Soft => Place::Wrong,
+            Class::Soft => Place::Inner,
             Class::Hard => Place::Wrong,
             Class::Unknown => Place::Wrong,
         },
@@ -205,7 +198,6 @@ fn accept(p: Place) -> bool
         Place::EndHard => true,
         Place::Start => false,
         Place::AfterHard => false,
-        Place::AfterSoft => false,
         Place::Inner => false,
         Place::Wrong => false,
     }
@@ -217,7 +209,6 @@ fn is_wrong(p: Place) -> bool
     match p {
         Place::Start => false,
         Place::AfterHard => false,
-        Place::AfterSoft => false,
         Place::Inner => false,
         Place::Good => false,
         Place::EndSoft => false,

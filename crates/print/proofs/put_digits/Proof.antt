@@ -1,6 +1,6 @@
 -- The digits that are left and the number that is left are stored as all digits of the number.
 use native.Mathlib.Omega.{arith}
-use mathlib.Core.Path.{_≡_, refl, sym, ap, _∙_}
+use mathlib.Core.Path.{_≡_, refl, ap, _∙_}
 use Prim.Native.Nat.{ℕ, suc, _-_, _≤_}
 use lib.ListN.{length, length-set}
 use lib.Seq.{sets}

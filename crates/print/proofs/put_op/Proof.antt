@@ -1,5 +1,4 @@
 -- The digits are stored, then the letter behind them.
-use mathlib.Core.Path.{_≡_, refl, sym, ap, _∙_, subst}
 use native.Mathlib.Omega.{arith}
 use borrow.Author.Needs.{needs}
 use Rattle.print.proofs.DigitLaws.{opText-length, op-stores}

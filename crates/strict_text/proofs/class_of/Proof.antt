@@ -1,6 +1,5 @@
 -- A length of 0 is an op below 16.
 use borrow.Author.Needs.{needs}
-use mathlib.Core.Path.{_∙_, sym}
 use borrow.Author.Tests.{lt-ltb, le-ltb}
 use Rattle.strict_text.specs.Pass.{classOf}
 use Rattle.strict_text.proofs.class_of.Statement.{statement}

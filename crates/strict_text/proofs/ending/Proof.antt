@@ -1,8 +1,7 @@
 -- An i32 holds the reference bases, which are at most 2^31 - 1.
 use borrow.Author.Needs.{needs}
 use native.Mathlib.Omega.{arith}
-use mathlib.Core.Path.{_≡_, refl, sym, ap, _∙_, subst}
-use lib.IntN.{pos}
+use mathlib.Core.Path.{refl, sym, ap, _∙_}
 use borrow.Author.Tests.{lt-ltb}
 use Rattle.signed.specs.Whole.{twos32}
 use Rattle.strict_text.specs.declared.Measured.the-variants as Measured

@@ -1,10 +1,7 @@
 -- The walk decides.
 use borrow.Author.Needs.{needs}
-use native.Mathlib.Omega.{arith}
-use mathlib.Core.Path.{_≡_, refl, sym, ap, _∙_, subst}
+use mathlib.Core.Path.{sym, ap, _∙_}
 use borrow.Author.Tests.{lt-ltb, le-ltb}
-use mathlib.Core.Bool.{true, false}
-use Rattle.answers.specs.declared.Flag.the-variants as Flag
 use Rattle.strict_text.specs.Valid.{validMapped}
 use Rattle.strict_text.specs.Parsed.{validity, measuredOps}
 use Rattle.strict_text.proofs.PassLaws.{ops-bad, ops-some}

@@ -1,9 +1,9 @@
 -- What is left of the walk at i is the whole walk.
-use Prim.Native.Nat.{ℕ, _+_, _-_, _≤_, _<_}
-use mathlib.Core.Path.{_≡_, refl, sym, ap, _∙_, subst}
+use Prim.Native.Nat.{_+_, _-_, _≤_}
+use mathlib.Core.Path.{_≡_, refl, sym, ap, _∙_}
 use native.Mathlib.Omega.{arith}
 use borrow.Author.Needs.{needs}
-use lib.ListN.{length, drop}
+use lib.ListN.{drop}
 use Rattle.lists.proofs.Walks.{step, done}
 use Rattle.oplist.specs.Ops.{opsOf}
 use Rattle.sam.specs.Op.{lenOf}

@@ -1,7 +1,6 @@
 -- The place moves, the op is counted, and its reference bases are added.
 use borrow.Author.Needs.{needs}
-use mathlib.Core.Path.{_≡_, refl, sym, ap, _∙_, subst}
-use mathlib.Core.Bool.{true, false}
+use mathlib.Core.Path.{_≡_, sym, ap, _∙_}
 use Rattle.strict_text.specs.Pass.{stepOf, isWrong}
 use Rattle.strict_text.proofs.take_op.Statement.{statement}
 use Rattle.strict_text.proofs.take_op.Tie as tie

@@ -1,10 +1,10 @@
 -- What is left to store at i is all that is to be stored.
-use Prim.Native.Nat.{ℕ, _+_, _-_, _*_, _≤_, _<_}
+use Prim.Native.Nat.{ℕ, _-_, _≤_}
 use mathlib.Core.Path.{_≡_, refl, sym, ap, _∙_, subst}
 use native.Mathlib.Omega.{arith}
 use borrow.Author.Needs.{needs}
 use mathlib.Core.Bool.{false}
-use lib.ListN.{length, take, drop, set, length-set}
+use lib.ListN.{length, take, drop, length-set}
 use lib.Seq.{sets}
 use Rattle.lists.specs.Lists.{splice}
 use Rattle.strict_text.specs.Text.{textOps}
