@@ -1,5 +1,5 @@
 -- Which case of the answer a call's tests lead to, and what a plan makes of it.
-use mathlib.Core.Path.{_≡_, refl, sym, ap, _∙_}
+use mathlib.Core.Path.{_≡_, refl, ap, _∙_}
 use mathlib.Core.Bool.{Bool, true, false}
 use mathlib.Core.List.{List, [], _∷_, _++_, reverse}
 use Prim.Native.Nat.{ℕ, _+_, _-_, _≤_, _<_}
@@ -14,7 +14,7 @@ use Rattle.answers.specs.Settled.{Settled, keeps}
 use Rattle.answers.specs.declared.Refusal.the-variants.{TooLong, NoRoom}
 use Rattle.answers.proofs.Unique.{settled, outcome}
 use Rattle.clip.specs.Clipping.{Cut, clip}
-use Rattle.clip.specs.Plan.{PlanIs, cutOf}
+use Rattle.clip.specs.Plan.{PlanIs}
 use Rattle.clip.specs.Answer.{clippedOps, clippedCount, clippedInto, written}
 use Rattle.clip.specs.declared.Clipped.{Clipped}
 use Rattle.clip.specs.declared.Clipped.the-variants.{Done, Refused}

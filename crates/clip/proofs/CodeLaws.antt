@@ -1,12 +1,10 @@
 -- What the tables of codes say of each other: a test that antt computes over the 16 codes, carried to each.
-use mathlib.Core.Path.{_≡_, refl, sym, ap, _∙_, subst}
-use mathlib.Core.Bool.{Bool, true, false, cond, not, Bool·beq}
-use Prim.Native.Nat.{ℕ, _+_, _*_, _/_, _%_, _≤_, _<_}
+use mathlib.Core.Path.{_≡_, refl, ap}
+use mathlib.Core.Bool.{Bool, true, false, cond}
+use Prim.Native.Nat.{ℕ, _≤_, _<_}
 use native.Mathlib.Omega.{arith}
-use lib.Dec.{eqb}
-use borrow.Author.Tests.{eqb-true, ne-eqb}
-use Rattle.lists.proofs.Tables.{below, below-at, below-same}
-use Rattle.sam.specs.Op.{lenOf, codeOf, opOf, isRef, isQuery, refLen, queryLen}
+use Rattle.lists.proofs.Tables.{below-same}
+use Rattle.sam.specs.Op.{lenOf, codeOf}
 use Rattle.ops.specs.Ops.{isRead, readLen, isClip}
 use Rattle.clip.specs.Clipping.{isHard, isSoft}
 use Rattle.clip.specs.Plan.{inMask}

@@ -1,18 +1,18 @@
 -- How each definition of the rule steps where a loop's turn, its early return and its end stand.
 use mathlib.Core.Path.{_≡_, refl, sym, ap, _∙_}
 use mathlib.Core.Bool.{Bool, true, false, cond}
-use mathlib.Core.List.{List, [], _∷_, _++_}
+use mathlib.Core.List.{List, [], _∷_}
 use Prim.Native.Nat.{ℕ, _+_, _-_, _≤_, _<_, min}
 use native.Mathlib.Nat.{add-assoc}
 use native.Mathlib.Numerals.{one-add}
 use native.Mathlib.Omega.{arith}
-use lib.ListN.{length, take, drop}
+use lib.ListN.{length, drop}
 use lib.Dec.{eqb, leb}
 use borrow.Author.Tests.{le-leb, lt-leb, leb-true, leb-false, eq-eqb, ne-eqb, eqb-true, eqb-false}
 use Rattle.lists.specs.Lists.{sumOf}
 use Rattle.sam.specs.Op.{lenOf, codeOf, opOf, refLen}
 use Rattle.ops.specs.Ops.{readLen, isClip}
-use Rattle.clip.specs.Clipping.{isHard, isSoft, runLen, afterRun, Taken, more, goes, ends, taking, Cut, softOf, hardOf, upgraded, cutInto, hardLen, softLen, inside, clipLen, clip}
+use Rattle.clip.specs.Clipping.{isHard, isSoft, runLen, afterRun, Taken, more, goes, ends, taking, Cut, softOf, upgraded, cutInto, hardLen, softLen, inside, clipLen, clip}
 use Rattle.clip.specs.Plan.{inMask, takenOf, cutOf, RunIs, TakingIs}
 use Rattle.clip.proofs.CodeLaws.{in-clips, in-hard, in-soft, read-le, read-D}
 

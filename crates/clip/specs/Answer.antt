@@ -11,7 +11,7 @@ use Rattle.sam.specs.Record.{recordOps}
 use Rattle.answers.specs.Answers.{Told, answered, refused}
 use Rattle.answers.specs.Settled.{Outcome, keeps}
 use Rattle.answers.specs.declared.Refusal.the-variants.{ShortRecord, TooManyOps, TooLong, NoRoom}
-use Rattle.clip.specs.Clipping.{Cut, clip}
+use Rattle.clip.specs.Clipping.{clip}
 use Rattle.clip.specs.declared.Clipped.{Clipped}
 use Rattle.clip.specs.declared.Clipped.the-variants.{Done, Refused}
 

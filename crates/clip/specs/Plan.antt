@@ -1,5 +1,5 @@
 -- What the planning functions hand on, as it stands to the rule of document 01, "Clipping" (`Clipping.antt`): places and numbers for lists.
-use Prim.Native.Nat.{ℕ, _+_, _*_, _/_, _%_, _^_, _≤_}
+use Prim.Native.Nat.{ℕ, _/_, _%_, _^_, _≤_}
 use mathlib.Core.Path.{_≡_}
 use mathlib.Core.Bool.{Bool}
 use mathlib.Core.List.{List, [], _∷_, _++_}

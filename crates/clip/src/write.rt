@@ -1,6 +1,6 @@
 // Writing a clipped list to the output, as its plan says: one function for each end.
 ghost use mathlib.Core.Path.{_≡_};
-ghost use mathlib.Core.List.{List, [], _∷_, _++_, reverse};
+ghost use mathlib.Core.List.{[], _∷_, _++_, reverse};
 ghost use Prim.Native.Nat.{_+_, _-_, _≤_};
 ghost use lib.ListN.{length, take, drop};
 ghost use Rattle.lists.specs.Lists.{splice};

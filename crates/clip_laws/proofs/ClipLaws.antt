@@ -15,7 +15,7 @@ use Rattle.clip.specs.Clipping.{Taken, more, taking, Cut, hardOf, softOf, upgra
 use Rattle.clip.proofs.RuleLaws.{cut-eq, take-nil, goes-enough, clip-none}
 use Rattle.clip_laws.specs.Demand3.{keptLen, All, isInner, EndsInsertion}
 use Rattle.clip_laws.proofs.TakeLaws.{Way, whole, none, over, cuts, way, take-whole, take-none, take-over, take-cut, two-goes, same-take}
-use Rattle.clip_laws.proofs.ShapeLaws.{Headed, Runs, Fair, fair, runs-clipped, kept-split, hard-head, kept-hard, kept-soft}
+use Rattle.clip_laws.proofs.ShapeLaws.{Headed, Runs, fair, runs-clipped, kept-split, hard-head, kept-hard, kept-soft}
 
 -- ---- the rule, by the runs
 

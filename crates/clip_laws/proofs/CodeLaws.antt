@@ -1,14 +1,14 @@
 -- What the tables of codes say of each other: a test that antt computes over the 16 codes, carried to each.
 use mathlib.Core.Path.{_≡_, refl, sym, ap, _∙_, subst}
 use mathlib.Core.Bool.{Bool, true, false, cond, not, Bool·beq}
-use Prim.Native.Nat.{ℕ, _+_, _*_, _/_, _%_, _≤_, _<_}
+use Prim.Native.Nat.{ℕ, _<_}
 use native.Mathlib.Omega.{arith}
 use lib.Dec.{eqb}
 use borrow.Author.Tests.{ne-eqb}
 use Rattle.lists.proofs.Tables.{below, below-at}
 use Rattle.sam.specs.Op.{lenOf, codeOf, opOf, isRef, isQuery, refLen, queryLen}
-use Rattle.ops.specs.Ops.{isRead, readLen, isClip}
-use Rattle.clip.specs.Clipping.{isHard, isSoft, hardOf}
+use Rattle.ops.specs.Ops.{isRead, readLen}
+use Rattle.clip.specs.Clipping.{isHard, hardOf}
 use Rattle.clip.proofs.CodeLaws.{code-small}
 use Rattle.clip_laws.specs.Demand3.{isInner, keptLen}
 

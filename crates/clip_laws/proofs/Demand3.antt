@@ -11,15 +11,14 @@ use Rattle.lists.specs.Lists.{facing, sumOf}
 use Rattle.lists.proofs.ListLaws.{length-facing}
 use Rattle.lists.proofs.Sums.{sum-cons, sum-append, sum-facing, facing-facing}
 use Rattle.sam.specs.Op.{lenOf, codeOf, refLen}
-use Rattle.sam.specs.Record.{recordOps}
 use Rattle.ops.specs.Ops.{readLen}
-use Rattle.clip.specs.Clipping.{Taken, taking, Cut, hardOf, softOf, hardLen, clipLen, clip}
-use Rattle.clip.specs.Answer.{clippedOps, clippedCount, clippedInto, clippedUpTo, clippedRecord, written}
+use Rattle.clip.specs.Clipping.{taking, Cut, hardOf, softOf, clip}
+use Rattle.clip.specs.Answer.{clippedOps, clippedCount, clippedUpTo, clippedRecord}
 use Rattle.clip.proofs.AnswerLaws.{accepted}
-use Rattle.clip_laws.specs.Demand3.{isInner, keptLen, All, Shaped, Takes, most, Answers, ClipsOnce, survives, EndsInsertion, ClipsTwice}
+use Rattle.clip_laws.specs.Demand3.{isInner, keptLen, Shaped, Takes, most, Answers, ClipsOnce, survives, EndsInsertion, ClipsTwice}
 use Rattle.clip_laws.proofs.CodeLaws.{hard-len, hard-code}
-use Rattle.clip_laws.proofs.ShapeLaws.{Headed, Runs, left-headed, left-length, left-total, soft-length, soft-total, shaped-facing, shaped-inner, tail-clips, shaped-runs}
-use Rattle.clip_laws.proofs.ClipLaws.{Once, once, twice, on-none, on-soft, on-inner}
+use Rattle.clip_laws.proofs.ShapeLaws.{Headed, left-headed, left-length, left-total, soft-length, soft-total, shaped-facing, shaped-inner, tail-clips, shaped-runs}
+use Rattle.clip_laws.proofs.ClipLaws.{once, twice, on-none, on-soft, on-inner}
 use Rattle.clip_laws.proofs.Drops.{clip-drops, drops-length}
 
 -- ---- what survives, from either end

@@ -2,7 +2,7 @@
 use mathlib.Core.Path.{_≡_, refl, sym, ap, _∙_}
 use mathlib.Core.Bool.{Bool, true, false, cond}
 use mathlib.Core.List.{List, [], _∷_, _++_, append-assoc}
-use Prim.Native.Nat.{ℕ, _+_, _-_, _≤_, _<_, min}
+use Prim.Native.Nat.{ℕ, _+_, _-_, min}
 use native.Mathlib.Omega.{arith}
 use lib.ListN.{length}
 use lib.Dec.{eqb, leb}
@@ -14,7 +14,7 @@ use Rattle.sam.specs.Columns.{Column, spell, columns, refs}
 use Rattle.sam.proofs.ColumnLaws.{columns-cons, spell-add, spell-none, refs-append, refs-spell}
 use Rattle.sam.proofs.LengthLaws.{reference-length}
 use Rattle.ops.specs.Ops.{readLen}
-use Rattle.clip.specs.Clipping.{isHard, isSoft, runLen, afterRun, Taken, taking, Cut, hardOf, softOf, upgraded, cutInto, hardLen, softLen, inside, clipLen, clip}
+use Rattle.clip.specs.Clipping.{isHard, runLen, afterRun, taking, Cut, hardOf, softOf, upgraded, cutInto, hardLen, softLen, inside, clipLen, clip}
 use Rattle.clip.specs.Answer.{clippedOps}
 use Rattle.clip.proofs.CodeLaws.{read-le}
 use Rattle.clip.proofs.RuleLaws.{take-nil}

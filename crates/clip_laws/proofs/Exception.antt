@@ -1,8 +1,8 @@
 -- Demand 3's exception is needed: 5M3I2D6M meets every other premise, 8 is the end of the insertion that 6 falls inside, and 6 then 8 is not 8. antt computes both.
 use mathlib.Core.Path.{_≡_, refl, ap}
-use mathlib.Core.Bool.{true, false}
+use mathlib.Core.Bool.{true}
 use mathlib.Core.List.{List, [], _∷_}
-use Prim.Native.Nat.{ℕ, _+_, _<_, _≤_}
+use Prim.Native.Nat.{ℕ, _≤_}
 use native.Mathlib.Omega.{arith}
 use lib.Dec.{lit<, lit≤}
 use lib.ListN.{length}
@@ -10,7 +10,7 @@ use Rattle.lists.specs.Lists.{sumOf}
 use Rattle.sam.specs.Op.{opOf, isRef, refLen}
 use Rattle.ops.specs.Ops.{isRead, readLen, isClip}
 use Rattle.clip.specs.Clipping.{runLen, afterRun, goes, ends, taking, softOf, upgraded, cutInto, hardLen, softLen, inside, clipLen, clip}
-use Rattle.clip.specs.Answer.{clippedOps, clippedCount}
+use Rattle.clip.specs.Answer.{clippedOps}
 use Rattle.clip_laws.specs.Demand3.{isInner, Takes, most, survives, EndsInsertion, ClipsTwice}
 use Rattle.clip_laws.specs.Marked.{inserted}
 

@@ -7,14 +7,15 @@ use Prim.Native.Nat.{ℕ, _+_, _-_, min}
 use native.Mathlib.Omega.{arith}
 use lib.ListN.{length}
 use lib.Dec.{eqb, leb}
-use borrow.Author.Tests.{eqb-true, eqb-false}
+use borrow.Author.Tests.{eqb-false}
 use Rattle.lists.specs.Lists.{facing}
 use Rattle.sam.specs.Op.{lenOf, codeOf, opOf}
 use Rattle.sam.specs.Placement.{AllHard, WellPlaced}
 use Rattle.ops.specs.Ops.{readLen}
-use Rattle.clip.specs.Clipping.{isHard, isSoft, afterRun, Taken, taking, Cut, hardOf, softOf, upgraded, cutInto, hardLen, softLen, inside, clipLen, clip}
+use Rattle.clip.specs.Clipping.{isHard, isSoft, afterRun, taking, Cut, hardOf, softOf, upgraded, cutInto, hardLen, softLen, inside, clipLen, clip}
 use Rattle.clip.specs.Answer.{clippedOps}
 use Rattle.clip.proofs.RuleLaws.{take-nil}
+use Rattle.clip_laws.specs.Placed.{KeepsPlaced}
 use Rattle.clip_laws.proofs.CodeLaws.{op-code, hard-code, soft-code}
 use Rattle.clip_laws.proofs.TakeLaws.{Way, whole, none, over, cuts, way, take-whole, take-none, take-over, take-cut}
 
@@ -203,7 +204,6 @@ placed-clip xs a W = go (eqb a 0) (eqb (length xs) 0) (leb a (clipLen xs))
         let t = taking (inside xs) (a - clipLen xs) in
         front-placed (hardLen xs + softLen xs + t .bases) 0 (t .left) (left-placed (inside xs) (a - clipLen xs) (inside-placed xs W))
 
--- clipping a list whose clips are placed as the specification asks leaves them so placed, for every amount
-pub clip-well-placed : (xs : List ℕ) (a : ℕ) (start : Bool) → WellPlaced xs → WellPlaced (clippedOps xs a start)
+pub clip-well-placed : (xs : List ℕ) (a : ℕ) (start : Bool) → KeepsPlaced xs a start
 unfolding clippedOps
 clip-well-placed xs a start W = placed-facing start (clip (facing start xs) a .ops) (placed-clip (facing start xs) a (placed-facing start xs W))

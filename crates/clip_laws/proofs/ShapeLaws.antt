@@ -1,6 +1,6 @@
 -- Sums over runs and takings, what survives a taking, and the runs that a shaped list begins with, from either end.
 use mathlib.Core.Path.{_≡_, refl, sym, ap, _∙_}
-use mathlib.Core.Bool.{Bool, true, false, cond, _||_}
+use mathlib.Core.Bool.{Bool, true, false, cond}
 use mathlib.Core.List.{List, [], _∷_, _++_, reverse, reverse-cons, reverse-append, append-assoc}
 use Prim.Native.Nat.{ℕ, suc, _+_, _-_, _≤_, _<_}
 use native.Mathlib.Omega.{arith}
@@ -9,14 +9,13 @@ use lib.Dec.{eqb}
 use borrow.Author.Tests.{eq-eqb, eqb-true}
 use Rattle.lists.specs.Lists.{facing, sumOf}
 use Rattle.lists.proofs.Sums.{sum-cons, sum-facing}
-use Rattle.lists.proofs.Tables.{below}
 use Rattle.sam.specs.Op.{lenOf, codeOf, opOf}
 use Rattle.ops.specs.Ops.{isRead, readLen, isClip}
 use Rattle.clip.specs.Clipping.{isHard, isSoft, runLen, afterRun, Taken, goes, taking, hardOf, softOf, hardLen, softLen, inside, clipLen}
 use Rattle.clip.proofs.CodeLaws.{read-le}
 use Rattle.clip.proofs.RuleLaws.{len-in, rest-in, len-out, rest-out, take-nil, goes-enough}
 use Rattle.clip_laws.specs.Demand3.{isInner, keptLen, All, Shaped, survives}
-use Rattle.clip_laws.proofs.CodeLaws.{false-is-true, imp, by-codes, never, read-all, read-is, read-I, cut-read, op-len, op-code, hard-len, hard-code, soft-len, soft-code, kept-H, kept-S, kept-read}
+use Rattle.clip_laws.proofs.CodeLaws.{false-is-true, by-codes, never, read-all, read-is, read-I, cut-read, op-len, op-code, hard-len, hard-code, soft-len, soft-code, kept-H, kept-S, kept-read}
 use Rattle.clip_laws.proofs.TakeLaws.{Way, whole, none, over, cuts, way, take-whole, take-none, take-over, take-cut}
 
 -- ---- the query and hard bases of the two runs

@@ -9,7 +9,6 @@ use borrow.Author.Tests.{le-leb, lt-leb, leb-true, leb-false, eq-eqb, ne-eqb, eq
 use Rattle.sam.specs.Op.{lenOf, codeOf, opOf, refLen}
 use Rattle.ops.specs.Ops.{isRead, readLen}
 use Rattle.clip.specs.Clipping.{Taken, more, goes, ends, taking}
-use Rattle.clip.proofs.CodeLaws.{read-le}
 use Rattle.clip.proofs.RuleLaws.{taken-eq, more-more, more-none, take-nil, goes-enough, goes-short}
 use Rattle.clip_laws.proofs.CodeLaws.{read-all, read-is, ref-is, read-I, ref-I, cut-read, cut-refs, cut-ref, op-len, op-code}
 

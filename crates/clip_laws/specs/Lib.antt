@@ -1,3 +1,4 @@
 pub mod Demand3
 pub mod Drops
 pub mod Marked
+pub mod Placed

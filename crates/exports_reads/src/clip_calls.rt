@@ -1,5 +1,4 @@
 // Clipping.
-ghost use mathlib.Core.Path.{_≡_};
 ghost use Rattle.answers.specs.Settled.{Settled};
 ghost use Rattle.clip.specs.Answer.{clipped, clippedRecord, tellClipped};
 ghost use Rattle.given.specs.Exported.{exported, Filled};

@@ -1,6 +1,6 @@
 -- Each refusal is its test's; the plan's ops, as written from the chosen end, are the clipped list.
 use Prim.Native.Nat.{_+_, _-_}
-use mathlib.Core.Path.{ap, sym, _∙_}
+use mathlib.Core.Path.{ap}
 use native.Mathlib.Omega.{arith}
 use borrow.Author.Needs.{needs}
 use Rattle.answers.proofs.Unique.{settled}

@@ -1,6 +1,5 @@
 -- The walk stays within the list.
 use Prim.Native.Nat.{_-_, _≤_}
-use native.Mathlib.Omega.{arith}
 use lib.ListN.{length}
 use borrow.Author.Needs.{needs}
 use Rattle.run_clip.proofs.record_of.Statement.{statement}

@@ -2,7 +2,7 @@
 use Prim.Native.Nat.{_+_, _*_, _-_, _≤_}
 use mathlib.Core.Path.{_≡_, sym, ap, _∙_}
 use native.Mathlib.Omega.{arith}
-use lib.ListN.{length, drop}
+use lib.ListN.{drop}
 use borrow.Author.Needs.{needs}
 use borrow.Author.Tests.{not-true, not-false}
 use Rattle.lists.specs.Lists.{facing}
@@ -10,7 +10,7 @@ use Rattle.lists.proofs.ListLaws.{length-facing}
 use Rattle.lists.proofs.Walks.{step, done}
 use Rattle.oplist.specs.Ops.{opsOf}
 use Rattle.clip.specs.Clipping.{runLen, afterRun}
-use Rattle.clip.specs.Plan.{inMask, RunIs}
+use Rattle.clip.specs.Plan.{inMask}
 use Rattle.clip.proofs.RuleLaws.{len-in, rest-in, len-out, rest-out, len-nil, rest-nil}
 use Rattle.clip.proofs.plan.run_from.Statement.{statement}
 use Rattle.clip.proofs.plan.run_from.Tie as tie

@@ -1,6 +1,6 @@
 -- Each way out is one case of `ends`; past the tests fewer bases are wanted than the op has.
 use Prim.Native.Nat.{ℕ, _+_, _<_}
-use mathlib.Core.Path.{_≡_, refl, ap, _∙_}
+use mathlib.Core.Path.{ap, _∙_}
 use native.Mathlib.Omega.{arith}
 use borrow.Author.Needs.{needs}
 use Rattle.clip.specs.Plan.{takenOf}

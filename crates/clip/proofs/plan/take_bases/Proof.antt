@@ -1,8 +1,8 @@
 -- What was taken and what will be taken of the rest make what is taken of the whole.
-use Prim.Native.Nat.{_+_, _*_, _-_, _≤_}
+use Prim.Native.Nat.{_*_, _-_, _≤_}
 use mathlib.Core.Path.{_≡_, sym, ap, _∙_}
 use native.Mathlib.Omega.{arith}
-use lib.ListN.{length, drop}
+use lib.ListN.{drop}
 use borrow.Author.Needs.{needs}
 use borrow.Author.Tests.{not-true, not-false}
 use Rattle.lists.specs.Lists.{facing}
@@ -10,7 +10,6 @@ use Rattle.lists.proofs.ListLaws.{length-facing}
 use Rattle.lists.proofs.Walks.{step, done}
 use Rattle.oplist.specs.Ops.{opsOf}
 use Rattle.clip.specs.Clipping.{taking, more}
-use Rattle.clip.specs.Plan.{TakingIs}
 use Rattle.clip.proofs.RuleLaws.{more-none, goes-enough, goes-stop, taking-turn, take-nil, taken-eq}
 use Rattle.clip.proofs.plan.take_bases.Statement.{statement}
 use Rattle.clip.proofs.plan.take_bases.Tie as tie
