@@ -183,6 +183,13 @@ fn record(flags: u32, pos: u32, mate: u32, length: u32, a: u32, b: u32) -> [u8; 
     put32(r, 37, b)
 }
 
+// The same, with one op more than it holds.
+fn overrun(rec: [u8; 41]) -> [u8; 41] {
+    let mut r = rec;
+    r[12] = 3;
+    r
+}
+
 fn pair(name: &[u8], rec: &[u8]) {
     shown::text(name);
     shown::text(b": opposite strands ");
@@ -192,51 +199,33 @@ fn pair(name: &[u8], rec: &[u8]) {
     shown::end();
 }
 
+// A forward record, paired and not.
+fn forward(name: &[u8], flags: u32, length: u32) {
+    let rec = record(flags, 99, 199, length, op(20, M), op(5, S));
+    pair(name, &rec);
+}
+
 fn forward_pairs() {
-    pair(
-        b"forward, template length 1",
-        &record(FORWARD, 99, 199, 1, op(20, M), op(5, S)),
-    );
-    pair(
-        b"forward, template length 0",
-        &record(FORWARD, 99, 199, 0, op(20, M), op(5, S)),
-    );
-    pair(
-        b"unmapped",
-        &record(FORWARD + 4, 99, 199, 1, op(20, M), op(5, S)),
-    );
-    pair(
-        b"mate unmapped",
-        &record(FORWARD + 8, 99, 199, 1, op(20, M), op(5, S)),
-    );
-    pair(
-        b"not paired",
-        &record(FORWARD - 1, 99, 199, 1, op(20, M), op(5, S)),
-    );
-    pair(
-        b"both reverse",
-        &record(49, 99, 199, 1, op(20, M), op(5, S)),
-    );
+    forward(b"forward, template length 1", FORWARD, 1);
+    forward(b"forward, template length 0", FORWARD, 0);
+    forward(b"unmapped", FORWARD + 4, 1);
+    forward(b"mate unmapped", FORWARD + 8, 1);
+    forward(b"not paired", FORWARD - 1, 1);
+    forward(b"both reverse", FORWARD + 16, 1);
     pair(b"31 bytes", &[0u8; 31]);
 }
 
 fn reverse_pairs() {
-    pair(
-        b"reverse 100 to 119, mate from 119",
-        &record(REVERSE, 99, 118, 0, op(20, M), op(5, S)),
-    );
-    pair(
-        b"reverse 100 to 119, mate from 120",
-        &record(REVERSE, 99, 119, 0, op(20, M), op(5, S)),
-    );
-    pair(
-        b"reverse at 2147483648, mate there",
-        &record(REVERSE, TOP_BITS, TOP_BITS, 0, op(1, M), op(5, S)),
-    );
-    pair(
-        b"reverse without reference bases, mate there",
-        &record(REVERSE, 99, 99, 0, op(20, S), op(5, S)),
-    );
+    let tie = record(REVERSE, 99, 118, 0, op(20, M), op(5, S));
+    pair(b"reverse 100 to 119, mate from 119", &tie);
+    let past = record(REVERSE, 99, 119, 0, op(20, M), op(5, S));
+    pair(b"reverse 100 to 119, mate from 120", &past);
+    let top = record(REVERSE, TOP_BITS, TOP_BITS, 0, op(1, M), op(5, S));
+    pair(b"reverse at 2147483648, mate there", &top);
+    let none = record(REVERSE, 99, 99, 0, op(20, S), op(5, S));
+    pair(b"reverse without reference bases, mate there", &none);
+    let cut = overrun(record(REVERSE, 99, 98, 0, op(20, M), op(5, S)));
+    pair(b"reverse, own ops past the record", &cut);
 }
 
 fn both(name: &[u8], a: &[u8], b: &[u8]) {
@@ -252,26 +241,28 @@ fn both(name: &[u8], a: &[u8], b: &[u8]) {
     shown::end();
 }
 
+// A record 20M and its mate 10M5S.
+fn two(name: &[u8], flags: u32, pos: u32, mate_flags: u32, mate_pos: u32) {
+    let own = record(flags, pos, mate_pos, 0, op(20, M), op(0, M));
+    let mate = record(mate_flags, mate_pos, pos, 0, op(10, M), op(5, S));
+    both(name, &own, &mate);
+}
+
 fn two_records() {
+    two(
+        b"forward 20M and reverse 10M5S, both at 100",
+        FORWARD,
+        99,
+        REVERSE,
+        99,
+    );
+    two(b"the forward one not paired", FORWARD - 1, 99, REVERSE, 99);
+    two(b"the reverse one not paired", FORWARD, 99, REVERSE - 1, 99);
+    two(b"reverse at 2147483648", FORWARD, 0, REVERSE, TOP_BITS);
     let own = record(FORWARD, 99, 99, 0, op(20, M), op(0, M));
-    let mate = record(REVERSE, 99, 99, 0, op(10, M), op(5, S));
-    both(b"forward 20M and reverse 10M5S, both at 100", &own, &mate);
-    both(
-        b"the forward one not paired",
-        &record(FORWARD - 1, 99, 99, 0, op(20, M), op(0, M)),
-        &mate,
-    );
-    both(
-        b"the reverse one not paired",
-        &own,
-        &record(REVERSE - 1, 99, 99, 0, op(10, M), op(5, S)),
-    );
-    both(
-        b"reverse at 2147483648",
-        &record(FORWARD, 0, TOP_BITS, 0, op(20, M), op(0, M)),
-        &record(REVERSE, TOP_BITS, 0, 0, op(10, M), op(5, S)),
-    );
     both(b"one of 31 bytes", &own, &[0u8; 31]);
+    let cut = overrun(record(REVERSE, 99, 98, 0, op(10, M), op(5, S)));
+    both(b"mate ops past its record", &own, &cut);
 }
 
 // ---- the mate's ops, as a list and as text
@@ -283,23 +274,43 @@ fn cigar(name: &[u8], rec: &[u8], mate: &[u32]) {
     shown::end();
 }
 
+// A record 20M at 100, its mate where it is said.
+fn against(name: &[u8], flags: u32, mate_pos: u32, mate: &[u32]) {
+    let own = record(flags, 99, mate_pos, 0, op(20, M), op(0, M));
+    cigar(name, &own, mate);
+}
+
 fn mate_lists() {
-    let own = record(FORWARD, 99, 99, 0, op(20, M), op(0, M));
-    let top = record(FORWARD, 99, TOP_BITS, 0, op(20, M), op(0, M));
     let mate = [op(10, M), op(5, S)];
-    let bad = [op(5, S), op(5, S), op(10, M)];
-    cigar(b"record 20M at 100, mate ops 10M5S at 100", &own, &mate);
-    cigar(b"mate ops 5S5S10M", &own, &bad);
-    cigar(b"no mate ops", &own, &[]);
-    cigar(b"mate at 2147483648", &top, &mate);
-    cigar(b"mate at 2147483648, mate ops 5S5S10M", &top, &bad);
-    cigar(
-        b"no FR pair, mate at 2147483648",
-        &record(1, 99, TOP_BITS, 0, op(20, M), op(0, M)),
+    against(
+        b"record 20M at 100, mate ops 10M5S at 100",
+        FORWARD,
+        99,
         &mate,
     );
+    against(b"mate at 2147483648", FORWARD, TOP_BITS, &mate);
+    against(
+        b"no FR pair, mate at 2147483648",
+        FORWARD - 32,
+        TOP_BITS,
+        &mate,
+    );
+    let own = overrun(record(FORWARD, 99, 99, 0, op(20, M), op(0, M)));
+    cigar(b"own ops past the record, mate ops 10M5S", &own, &mate);
+}
+
+fn bad_mate_lists() {
+    let bad = [op(5, S), op(5, S), op(10, M)];
+    against(b"mate ops 5S5S10M", FORWARD, 99, &bad);
+    against(
+        b"mate at 2147483648, mate ops 5S5S10M",
+        FORWARD,
+        TOP_BITS,
+        &bad,
+    );
+    against(b"no mate ops", FORWARD, 99, &[]);
     let many = [op(1, M); 65536];
-    cigar(b"65,536 mate ops", &own, &many);
+    against(b"65,536 mate ops", FORWARD, 99, &many);
     cigar(b"31 bytes, and 65,536 mate ops", &[0u8; 31], &many);
 }
 
@@ -310,7 +321,14 @@ fn text(name: &[u8], rec: &[u8], words: &[u8], room: usize)
     let mut out = [op(7, M); 3];
     shown::text(name);
     shown::text(b": ");
-    match overlap::num_bases_extending_past_mate_text_raw(rec, words, &mut out[..room]) {
+    answer(overlap::num_bases_extending_past_mate_text_raw(rec, words, &mut out[..room]));
+    shown::text(b", room ");
+    shown::list(&out);
+    shown::end();
+}
+
+fn answer(got: Overhang) {
+    match got {
         Overhang::Bases(bases, written) => {
             shown::natural(bases);
             shown::text(b" past, ");
@@ -319,74 +337,65 @@ fn text(name: &[u8], rec: &[u8], words: &[u8], room: usize)
         }
         Overhang::Refused(why) => shown::refused(why),
     }
-    shown::text(b", room ");
-    shown::list(&out);
-    shown::end();
+}
+
+// A record 20M at 100, its mate where it is said.
+fn read(name: &[u8], flags: u32, mate_pos: u32, words: &[u8], room: usize)
+    requires { ⌜ room ≤ 3 ⌝ }
+{
+    let own = record(flags, 99, mate_pos, 0, op(20, M), op(0, M));
+    text(name, &own, words, room);
 }
 
 fn mate_texts() {
-    let own = record(FORWARD, 99, 99, 0, op(20, M), op(0, M));
-    let top = record(FORWARD, 99, TOP_BITS, 0, op(20, M), op(0, M));
-    text(b"10M5S", &own, b"10M5S", 3);
-    text(b"10M5S, room for 2", &own, b"10M5S", 2);
-    text(b"10M5S, room for 1", &own, b"10M5S", 1);
-    text(b"10M5", &own, b"10M5", 3);
-    text(b"*", &own, b"*", 3);
-    text(b"10M5S, mate at 2147483648", &top, b"10M5S", 3);
-    text(b"10M5S, mate at 2147483648, room for 1", &top, b"10M5S", 1);
-    text(b"10M5, mate at 2147483648", &top, b"10M5", 3);
-    text(
-        b"10M5S, no FR pair",
-        &record(1, 99, TOP_BITS, 0, op(20, M), op(0, M)),
-        b"10M5S",
-        3,
-    );
-    text(
-        b"10M5S, no FR pair, room for 1",
-        &record(1, 99, TOP_BITS, 0, op(20, M), op(0, M)),
-        b"10M5S",
-        1,
-    );
+    read(b"10M5S", FORWARD, 99, b"10M5S", 3);
+    read(b"10M5S, room for 2", FORWARD, 99, b"10M5S", 2);
+    read(b"10M5S, room for 1", FORWARD, 99, b"10M5S", 1);
+    read(b"10M5", FORWARD, 99, b"10M5", 3);
+    read(b"*", FORWARD, 99, b"*", 3);
     text(b"10M5, 31 bytes", &[0u8; 31], b"10M5", 3);
 }
 
-// Text of 65,536 ops `1M`; where the mate lies at 2147483648, 3 comes before 4.
-fn long_text() {
-    let mut words = [b'M'; 131072];
-    let mut i: usize = 0;
-    while i < 65536 {
-        words[2 * i] = b'1';
-        i += 1;
-    }
-    text(
-        b"65,536 times 1M",
-        &record(FORWARD, 99, 99, 0, op(20, M), op(0, M)),
-        &words,
-        3,
+fn more_texts() {
+    read(b"10M5S, mate at 2147483648", FORWARD, TOP_BITS, b"10M5S", 3);
+    read(
+        b"10M5S, mate at 2147483648, room for 1",
+        FORWARD,
+        TOP_BITS,
+        b"10M5S",
+        1,
     );
-    text(
-        b"65,536 times 1M, mate at 2147483648",
-        &record(FORWARD, 99, TOP_BITS, 0, op(20, M), op(0, M)),
-        &words,
-        3,
+    read(b"10M5, mate at 2147483648", FORWARD, TOP_BITS, b"10M5", 3);
+    read(b"10M5S, no FR pair", FORWARD - 32, TOP_BITS, b"10M5S", 3);
+    read(
+        b"10M5S, no FR pair, room for 1",
+        FORWARD - 32,
+        TOP_BITS,
+        b"10M5S",
+        1,
     );
 }
 
-// A record whose ops end past it.
-fn overrun() {
-    let mut r = record(FORWARD, 99, 99, 0, op(20, M), op(0, M));
-    r[12] = 3;
-    cigar(
-        b"own ops past the record, mate ops 10M5S",
-        &r,
-        &[op(10, M), op(5, S)],
-    );
-    let cut = record(REVERSE, 99, 98, 0, op(10, M), op(5, S));
-    pair(b"reverse, own ops past the record", &cut[..40]);
-    both(
-        b"mate ops past its record",
-        &record(FORWARD, 99, 99, 0, op(20, M), op(0, M)),
-        &cut[..40],
+// 65,536 ops `1M`.
+fn many_ones() -> [u8; 131072] {
+    let mut words = [b'M'; 131072];
+    let mut i: usize = 0;
+    while i < 131072 {
+        words[i] = b'1';
+        i += 2;
+    }
+    words
+}
+
+fn long_texts() {
+    let words = many_ones();
+    read(b"65,536 times 1M", FORWARD, 99, &words, 3);
+    read(
+        b"65,536 times 1M, mate at 2147483648",
+        FORWARD,
+        TOP_BITS,
+        &words,
+        3,
     );
 }
 
@@ -398,7 +407,8 @@ fn main() {
     reverse_pairs();
     two_records();
     mate_lists();
+    bad_mate_lists();
     mate_texts();
-    long_text();
-    overrun();
+    more_texts();
+    long_texts();
 }
