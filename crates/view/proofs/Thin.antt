@@ -1,8 +1,9 @@
 -- A method that hands the view's slice on to a function meets the function's contract, read at that slice: what the view owns is what its slice owns, so the function's pre and post are the method's.
+--     Answer               a type that is answered: its place in a signature, its MIR type, and that what it owns fits that type.        enum       of an enum
 --     ofView, ofSlice      the signatures of the method and of the function: the same but for the first parameter
 --     atView, atSlice      their contracts, from what the function promises.        Called     the function's, as a triple
---     gives                what a method has at entry is what the function asks.        knows      what the function leaves says that its answer can be stored
---     meets                the contract, from a walk at the parameters' machine values
+--     gives                what a method has at entry is what the function asks.        knows      what the function leaves says that its answer fits its local
+--     meets                the contract, from a walk at the parameters' machine values.        enters     from the MIR to the routine, with the function's theorem cited
 --     thinFn, thin         a method with no other parameter: its MIR, and that it meets its contract
 -- Assumes nothing.
 use mathlib.Core.Path.{_≡_, refl}
@@ -28,6 +29,10 @@ use sound.WpLaws.{FmC, fmOf}
 use denote.RattleType.{Denots, Valss, owns, flat}
 use denote.Laws.{Is, Are, Ises, Spells, Tellss, valss, shows}
 use denote.Builtin.{u8}
+use denote.Enum.Declared.{Declared as Variants, row, shape}
+use denote.Enum.Enum.{Few}
+use denote.Enum.Laws as EL
+use denote.Memory.{lone}
 use denote.Signature.{Signature, Slot, plain, shrSliceOf, namedLft, typeAt, typesAt}
 use denote.Slice.{sliceVal, sliceTy}
 use denote.Steps.{peeks, heard, said}
@@ -49,85 +54,104 @@ use Rattle.view.proofs.RawRecordView.Laws as T′
 abbrev pub Fits : Ty → Val → Type 0
 Fits τ v = Holds (hasTy τ v) × WT v
 
+pub record Answer (n : ℕ) : Type 2 where
+  pub slot : Slot n
+  pub ty : Ty
+  pub fits : (κs : Lfts n) (r : typeAt slot κs .Denot) (u : Val) → Is (typeAt slot κs) r (u ∷ []) → Fits ty u
+
+abbrev pub enum : {M : Type 1} (𝓤 : URA M) (H : Heap 𝓤) (𝓜 : Model 𝓤 H) (𝓖 : GhostRules 𝓤 H) {n : ℕ} (D : Variants) → EL.Laws D → Few (shape D) → Answer n
+enum 𝓤 H 𝓜 𝓖 D L few = record { slot = plain (λ _. row D); ty = lone (row D .mir); fits = λ κs r u is. EL.lawful D L 𝓤 H (𝓖 .A) (givenOf 𝓤 H 𝓜 𝓖) few .typed r (u ∷ []) is .0 }
+
 -- the view's machine value, and its slice's
 abbrev pub mach : RawRecordView → Val
 mach d = T′.lowered d
 
-abbrev held : RawRecordView → Val
+abbrev pub held : RawRecordView → Val
 held d = sliceVal (d .0 .ptr) (length (d .0 .now))
 
 -- the view is at the first of 1 + m lifetimes; Ps are the other parameters
-module _ (m : ℕ) (Ps : List (Slot (suc m))) (R : Slot (suc m)) where
+module _ (m : ℕ) (Ps : List (Slot (suc m))) (Q : Answer (suc m)) where
   abbrev pub ofView : Signature
-  ofView = record { lifetimes = suc m; outlives = []; params = plain (λ κs. T.the-row (namedLft (suc m) 0 tt κs)) ∷ Ps; result = R }
+  ofView = record { lifetimes = suc m; outlives = []; params = plain (λ κs. T.the-row (namedLft (suc m) 0 tt κs)) ∷ Ps; result = Q .slot }
 
   abbrev pub ofSlice : Signature
-  ofSlice = record { lifetimes = suc m; outlives = []; params = shrSliceOf (0 ∷ []) tt (plain (λ _. u8)) ∷ Ps; result = R }
+  ofSlice = record { lifetimes = suc m; outlives = []; params = shrSliceOf (0 ∷ []) tt (plain (λ _. u8)) ∷ Ps; result = Q .slot }
 
   abbrev pub Promise : {M : Type 1} → URA M → Type 2
-  Promise 𝓤 = (κs : Lfts (suc m)) → Args ofSlice κs → typeAt R κs .Denot → SProp 𝓤
+  Promise 𝓤 = (κs : Lfts (suc m)) → Args ofSlice κs → typeAt (Q .slot) κs .Denot → SProp 𝓤
 
-  module _ {M : Type 1} (𝓤 : URA M) (E : Promise 𝓤) where
+  module _ {M : Type 1} (𝓤 : URA M) (H : Heap 𝓤) (A : Atoms 𝓤) (E : Promise 𝓤) where
     abbrev pub atSlice : Spec 𝓤 ofSlice
     atSlice κs a = record { ghost = Unit {0}; requires = λ _. emp 𝓤; ensures = λ _ r. E κs a r }
 
     abbrev pub atView : Spec 𝓤 ofView
     atView κs a = record { ghost = Unit {0}; requires = λ _. emp 𝓤; ensures = λ _ r. E κs (a .0 .0, a .1) r }
 
-    module _ (H : Heap 𝓤) (A : Atoms 𝓤) where
-      abbrev pub Called : Contract 𝓤
-      Called = tripleOf 𝓤 H A ofSlice atSlice
+    abbrev pub Called : Contract 𝓤
+    Called = tripleOf 𝓤 H A ofSlice atSlice
 
-      module _ (W : Given 𝓤 H A) (τ : Ty) (typed : (κs : Lfts (suc m)) (r : typeAt R κs .Denot) (u : Val) → Is (typeAt R κs) r (u ∷ []) → Fits τ u)
-          (κs : Lfts (suc m)) (qs : Shares (suc m)) (d : RawRecordView) (a : Denots (typesAt Ps κs)) (vss : Valss (typesAt Ps κs)) where
-        -- what the function's triple binds outside
-        abbrev pub to : Called .Ghost
-        to = ((κs, qs, tt, (d .0, a), (held d ∷ [], vss)), tt)
+    module _ (κs : Lfts (suc m)) (qs : Shares (suc m)) (d : RawRecordView) (a : Denots (typesAt Ps κs)) (vss : Valss (typesAt Ps κs)) where
+      -- what the function's triple binds outside
+      abbrev pub to : Called .Ghost
+      to = ((κs, qs, tt, (d .0, a), (held d ∷ [], vss)), tt)
 
-        -- the struct's type and laws, and its one field's value
-        abbrev D : Declared
-        D = T.the-type (namedLft (suc m) 0 tt κs)
+      -- the struct's type and laws, and its one field's value
+      abbrev D : Declared
+      D = T.the-type (namedLft (suc m) 0 tt κs)
 
-        abbrev L : LL.Laws D
-        L = T′.the-laws (namedLft (suc m) 0 tt κs)
+      abbrev L : LL.Laws D
+      L = T′.the-laws (namedLft (suc m) 0 tt κs)
 
-        abbrev vd : Values (D .parts)
-        vd = (d .0, tt)
+      abbrev vd : Values (D .parts)
+      vd = (d .0, tt)
 
-        pub gives : ent 𝓤 (onEntry 𝓤 H A ofView κs qs (d, a) (mach d ∷ [], vss)) (Called .pre to)
-        gives =
-            qed W (raw (alive 𝓤 H A ofView κs qs) ∷ ‵ (owns (typesAt (ofView .params) κs) (d, a) (mach d ∷ [], vss)) ∷ []) ∵ move ! (1 ∷ []) $ fsplit ! $
-            use1 W (given (mach d ∷ [] ≡ mach d ∷ []) (‵ (all-own (D .parts) L vd))) (own-open 𝓤 H A W D L vd (mach d)) $ learn ! (λ _. fsplit ! $
-            -- [what the slice owns; nothing; what the other parameters own; the tokens]
-            move ! (1 ∷ []) $ drop ! $ fjoin ! $ move ! (1 ∷ 0 ∷ []) $ join ! $ frame ! $ done !)
+      pub gives : Given 𝓤 H A → ent 𝓤 (onEntry 𝓤 H A ofView κs qs (d, a) (mach d ∷ [], vss)) (Called .pre to)
+      gives W =
+          qed W (raw (alive 𝓤 H A ofView κs qs) ∷ ‵ (owns (typesAt (ofView .params) κs) (d, a) (mach d ∷ [], vss)) ∷ []) ∵ move ! (1 ∷ []) $ fsplit ! $
+          use1 W (given (mach d ∷ [] ≡ mach d ∷ []) (‵ (all-own (D .parts) L vd))) (own-open 𝓤 H A W D L vd (mach d)) $ learn ! (λ _. fsplit ! $
+          -- [what the slice owns; nothing; what the other parameters own; the tokens]
+          move ! (1 ∷ []) $ drop ! $ fjoin ! $ move ! (1 ∷ 0 ∷ []) $ join ! $ frame ! $ done !)
 
-        -- what the function leaves, at an answer
-        abbrev Left : Val → typeAt R κs .Denot → SProp 𝓤
-        Left u r = sep 𝓤 (Back 𝓤 H A ofSlice (to .0) u r) (E κs (d .0, a) r)
+      -- what the function leaves, at an answer
+      abbrev Left : Val → typeAt (Q .slot) κs .Denot → SProp 𝓤
+      Left u r = sep 𝓤 (Back 𝓤 H A ofSlice (to .0) u r) (E κs (d .0, a) r)
 
-        pub knows : (u : Val) → ent 𝓤 (Called .post to u) (H .⇛ (sep 𝓤 (Called .post to u) (fact 𝓤 (Fits τ u))))
-        knows u =
-            qed W (later (some (λ (r : typeAt R κs .Denot). (raw (alive 𝓤 H A ofSlice κs qs) ⊛ ‵ (typeAt R κs .own r (u ∷ []))) ⊛ raw (E κs (d .0, a) r))) ∷ []) ∵
-            updating ! $ await ! tt $ pick ! (λ r. split ! $ split ! $ move ! (1 ∷ []) $ peeks ! (typeAt R κs) (Is (typeAt R κs)) (shows 𝓤 H A (typeAt R κs)) r (u ∷ []) (λ is.
-            at-once ! $ says ! (typed κs r u is) $ updating ! $ at-once ! $ show ! (Left u) r $ move ! (1 ∷ 0 ∷ []) $ join ! $ frame ! $ done !))
+      pub knows : Given 𝓤 H A → (u : Val) → ent 𝓤 (Called .post to u) (H .⇛ (sep 𝓤 (Called .post to u) (fact 𝓤 (Fits (Q .ty) u))))
+      knows W u =
+          qed W (later (some (λ (r : typeAt (Q .slot) κs .Denot). (raw (alive 𝓤 H A ofSlice κs qs) ⊛ ‵ (typeAt (Q .slot) κs .own r (u ∷ []))) ⊛ raw (E κs (d .0, a) r))) ∷ []) ∵
+          updating ! $ await ! tt $ pick ! (λ r. split ! $ split ! $ move ! (1 ∷ []) $ peeks ! (typeAt (Q .slot) κs) (Is (typeAt (Q .slot) κs)) (shows 𝓤 H A (typeAt (Q .slot) κs)) r (u ∷ []) (λ is.
+          at-once ! $ says ! (Q .fits κs r u is) $ updating ! $ at-once ! $ show ! (Left u) r $ move ! (1 ∷ 0 ∷ []) $ join ! $ frame ! $ done !))
 
-      -- the walk starts where the parameters' machine values are written out and their relations in hand
-      module _ (W : Given 𝓤 H A) (run : Fun 𝓤) (sp : (κs : Lfts (suc m)) → Spells (typesAt Ps κs)) (tl : (κs : Lfts (suc m)) → Tellss (typesAt Ps κs) (Ises (typesAt Ps κs)) (sp κs)) where
-        abbrev pub Walk : Type 1
-        Walk = (κs : Lfts (suc m)) (qs : Shares (suc m)) (d : RawRecordView) (a : Denots (typesAt Ps κs)) → Fits (T′.mir (named 0)) (mach d) → Are (typesAt Ps κs) (Ises (typesAt Ps κs)) a (valss (typesAt Ps κs) (sp κs) a)
-            → ent 𝓤 (onEntry 𝓤 H A ofView κs qs (d, a) (mach d ∷ [], valss (typesAt Ps κs) (sp κs) a)) (run (mach d ∷ flat (typesAt Ps κs) (valss (typesAt Ps κs) (sp κs) a)) (tripleOf 𝓤 H A ofSlice atSlice .post ((κs, qs, tt, (d .0, a), (held d ∷ [], valss (typesAt Ps κs) (sp κs) a)), tt)))
+    -- the other parameters' machine values, and that what they own tells them
+    module _ (sp : (κs : Lfts (suc m)) → Spells (typesAt Ps κs)) (tl : (κs : Lfts (suc m)) → Tellss (typesAt Ps κs) (Ises (typesAt Ps κs)) (sp κs)) where
+      abbrev pub Walk : Fun 𝓤 → Type 1
+      Walk run = (κs : Lfts (suc m)) (qs : Shares (suc m)) (d : RawRecordView) (a : Denots (typesAt Ps κs)) → Fits (T′.mir (named 0)) (mach d) → Are (typesAt Ps κs) (Ises (typesAt Ps κs)) a (valss (typesAt Ps κs) (sp κs) a)
+          → ent 𝓤 (onEntry 𝓤 H A ofView κs qs (d, a) (mach d ∷ [], valss (typesAt Ps κs) (sp κs) a)) (run (mach d ∷ flat (typesAt Ps κs) (valss (typesAt Ps κs) (sp κs) a)) (Called .post (to κs qs d a (valss (typesAt Ps κs) (sp κs) a))))
 
-        pub meets : Walk → Meets 𝓤 H A ofView run atView
-        meets walk y =
-            let κs : Lfts (suc m) = y .0 .0 in
-            let D : Declared = T.the-type (namedLft (suc m) 0 tt κs) in
-            let L : LL.Laws D = T′.the-laws (namedLft (suc m) 0 tt κs) in
-            via 𝓤 (onEntry 𝓤 H A ofView κs (y .0 .1) (y .0 .3) (y .0 .4)) (fst∗ 𝓤 _ (emp 𝓤))
-            (said 𝓤 H A ofView κs (y .0 .1) (LL.vals D L, sp κs) (LL.tells D L, tl κs) (y .0 .3) (λ us. run (flat (typesAt (ofView .params) κs) us) (tripleOf 𝓤 H A ofView atView .post y)) (y .0 .4)
-            (λ are. walk κs (y .0 .1) (y .0 .3 .0) (y .0 .3 .1) (LL.lawful D L 𝓤 H A W .typed (y .0 .3 .0) _ (are .0) .0) (are .1)))
+      pub meets : Given 𝓤 H A → (run : Fun 𝓤) → Walk run → Meets 𝓤 H A ofView run atView
+      meets W run walk y =
+          let κs : Lfts (suc m) = y .0 .0 in
+          let D : Declared = T.the-type (namedLft (suc m) 0 tt κs) in
+          let L : LL.Laws D = T′.the-laws (namedLft (suc m) 0 tt κs) in
+          via 𝓤 (onEntry 𝓤 H A ofView κs (y .0 .1) (y .0 .3) (y .0 .4)) (fst∗ 𝓤 _ (emp 𝓤))
+          (said 𝓤 H A ofView κs (y .0 .1) (LL.vals D L, sp κs) (LL.tells D L, tl κs) (y .0 .3) (λ us. run (flat (typesAt (ofView .params) κs) us) (tripleOf 𝓤 H A ofView atView .post y)) (y .0 .4)
+          (λ are. walk κs (y .0 .1) (y .0 .3 .0) (y .0 .3 .1) (LL.lawful D L 𝓤 H A W .typed (y .0 .3 .0) _ (are .0) .0) (are .1)))
+
+  module _ {M : Type 1} (𝓤 : URA M) (H : Heap 𝓤) (𝓜 : Model 𝓤 H) (𝓖 : GhostRules 𝓤 H) (𝓡 : Running 𝓤 H 𝓜) (E : Promise 𝓤) where
+    -- the MIR of a method meets the contract wherever the function that it calls meets its own
+    abbrev pub Passes : Fn → Name → Type 2
+    Passes e f = (C : Calls 𝓤 H) (Λ : Loops 𝓤 H) → FmC 𝓤 H (givenOf 𝓤 H 𝓜 𝓖 .laws) C → Triple 𝓤 (C f) (Called 𝓤 H (𝓖 .A) E) → Meets 𝓤 H (𝓖 .A) ofView (WpFn 𝓤 H C Λ e) (atView 𝓤 H (𝓖 .A) E)
+
+    pub enters : (e : Fn) (γ : Env) (key f : Name) (routine : Routine) → Passes e f → γ f ≡ routine → Closed 𝓤 H (tables 𝓤 H 𝓜 𝓡 γ .C) (tables 𝓤 H 𝓜 𝓡 γ .Λ) key e
+        → Meets 𝓤 H (𝓖 .A) ofSlice (𝓡 .run routine) (atSlice 𝓤 H (𝓖 .A) E) → Meets 𝓤 H (𝓖 .A) ofView (𝓡 .run (γ key)) (atView 𝓤 H (𝓖 .A) E)
+    unfolding tablesOf
+    enters e γ key f routine passes calls closed met =
+        entered 𝓤 H (tripleOf 𝓤 H (𝓖 .A) ofView (atView 𝓤 H (𝓖 .A) E)) (tables 𝓤 H 𝓜 𝓡 γ .C) (tables 𝓤 H 𝓜 𝓡 γ .Λ) key e closed
+        (passes (tables 𝓤 H 𝓜 𝓡 γ .C) (tables 𝓤 H 𝓜 𝓡 γ .Λ) (fmOf 𝓤 H (givenOf 𝓤 H 𝓜 𝓖 .laws) (tablesOf 𝓤 H 𝓜 (tables 𝓤 H 𝓜 𝓡 γ))) (cited 𝓤 H (Called 𝓤 H (𝓖 .A) E) 𝓜 𝓡 γ f routine calls met))
 
 -- ---- a method with no other parameter
-abbrev sliceLocal : Ty
+-- the local that the slice is copied into for the call
+abbrev pub sliceLocal : Ty
 sliceLocal = sliceTy (tyRef erased imm (tyInt w8))
 
 abbrev pub thinFn : Ty → Name → Fn
@@ -139,34 +163,28 @@ thinFn τ f = record {
   body = seq (assign (place 2 []) (rvOpd (copy (place 1 (field 0 ∷ []))))) (seq (call f (copy (place 2 []) ∷ []) (place 0 [])) return);
 }
 
-module _ {M : Type 1} (𝓤 : URA M) (H : Heap 𝓤) (A : Atoms 𝓤) (W : Given 𝓤 H A) (R : Slot 1) (τ : Ty) (typed : (κs : Lfts 1) (r : typeAt R κs .Denot) (u : Val) → Is (typeAt R κs) r (u ∷ []) → Fits τ u) (E : Promise 0 [] R 𝓤)
-    (f : Name) (C : Calls 𝓤 H) (Λ : Loops 𝓤 H) (fm : FmC 𝓤 H (W .laws) C) (known : Triple 𝓤 (C f) (Called 0 [] R 𝓤 E H A)) where
+module _ {M : Type 1} (𝓤 : URA M) (H : Heap 𝓤) (𝓜 : Model 𝓤 H) (𝓖 : GhostRules 𝓤 H) (𝓡 : Running 𝓤 H 𝓜) (Q : Answer 1) (E : Promise 0 [] Q 𝓤) where
+  abbrev W : Given 𝓤 H (𝓖 .A)
+  W = givenOf 𝓤 H 𝓜 𝓖
+
   abbrev Asked : Contract 𝓤
-  Asked = Called 0 [] R 𝓤 E H A
+  Asked = Called 0 [] Q 𝓤 H (𝓖 .A) E
 
-  walk : Walk 0 [] R 𝓤 E H A W (WpFn 𝓤 H C Λ (thinFn τ f)) (λ _. tt) (λ _. tt)
-  walk κs qs d a wt are =
-      let y : Asked .Ghost = to 0 [] R 𝓤 E H A W τ typed κs qs d tt tt in
-      qed W (raw (onEntry 𝓤 H A (ofView 0 [] R) κs qs (d, tt) (mach d ∷ [], tt)) ∷ []) ∵ enter ! C Λ (thinFn τ f) (mach d ∷ []) _ $
-      alloc1 ! (λ l₀. alloc1 ! (λ l₁. alloc1 ! (λ l₂. alloc0 ! $ params1 ! $ pass1 ! (init ! 2 refl wt) $ pass0 ! $
-      assigns ! (of-opd ! (load ! (from ! (fld ! refl (stop !))) (look-in ! 2 (sub ! 0 refl (whole !))))) (from ! (stop !)) (init ! 0 refl (tt, wt .1 .0)) $
-      -- [_2; …; _1; …; room for _0; …; what there is at entry]
-      move ! (6 ∷ []) $ use1 W (raw (Asked .pre y)) (gives 0 [] R 𝓤 E H A W τ typed κs qs d tt tt) $
-      calls-at ! fm Asked known y (and-then ! (load ! (from ! (stop !)) (look ! 1 refl)) (no-more !)) (λ u.
-      use1 W (later (raw (Asked .post y u) ⊛ raw (fact 𝓤 (Fits τ u)))) (knows 0 [] R 𝓤 E H A W τ typed κs qs d tt tt u) $ await ! tt $ split ! $ move ! (1 ∷ []) $ heard ! (Fits τ u) (λ ty.
-      land ! (from ! (stop !)) (init ! 5 refl ty) $
-      returns ! (look ! 5 refl) $ forget ! 1 refl $ forget ! 3 refl $ forget ! 5 refl $
-      move ! (5 ∷ 6 ∷ []) $ free1 ! $ move ! (3 ∷ 4 ∷ []) $ free1 ! $ move ! (1 ∷ 2 ∷ []) $ free1 ! $ free0 ! $ by ! (id⊢ 𝓤 _))))))
+  module _ (f : Name) (C : Calls 𝓤 H) (Λ : Loops 𝓤 H) (fm : FmC 𝓤 H (W .laws) C) (known : Triple 𝓤 (C f) Asked) where
+    walk : Walk 0 [] Q 𝓤 H (𝓖 .A) E (λ _. tt) (λ _. tt) (WpFn 𝓤 H C Λ (thinFn (Q .ty) f))
+    walk κs qs d a wt are =
+        let y : Asked .Ghost = to 0 [] Q 𝓤 H (𝓖 .A) E κs qs d tt tt in
+        qed W (raw (onEntry 𝓤 H (𝓖 .A) (ofView 0 [] Q) κs qs (d, tt) (mach d ∷ [], tt)) ∷ []) ∵ enter ! C Λ (thinFn (Q .ty) f) (mach d ∷ []) _ $
+        alloc1 ! (λ l₀. alloc1 ! (λ l₁. alloc1 ! (λ l₂. alloc0 ! $ params1 ! $ pass1 ! (init ! 2 refl wt) $ pass0 ! $
+        assigns ! (of-opd ! (load ! (from ! (fld ! refl (stop !))) (look-in ! 2 (sub ! 0 refl (whole !))))) (from ! (stop !)) (init ! 0 refl (tt, wt .1 .0)) $
+        -- [_2; …; _1; …; room for _0; …; what there is at entry]
+        move ! (6 ∷ []) $ use1 W (raw (Asked .pre y)) (gives 0 [] Q 𝓤 H (𝓖 .A) E κs qs d tt tt W) $
+        calls-at ! fm Asked known y (and-then ! (load ! (from ! (stop !)) (look ! 1 refl)) (no-more !)) (λ u.
+        use1 W (later (raw (Asked .post y u) ⊛ raw (fact 𝓤 (Fits (Q .ty) u)))) (knows 0 [] Q 𝓤 H (𝓖 .A) E κs qs d tt tt W u) $ await ! tt $ split ! $ move ! (1 ∷ []) $ heard ! (Fits (Q .ty) u) (λ ty.
+        land ! (from ! (stop !)) (init ! 5 refl ty) $
+        returns ! (look ! 5 refl) $ forget ! 1 refl $ forget ! 3 refl $ forget ! 5 refl $
+        move ! (5 ∷ 6 ∷ []) $ free1 ! $ move ! (3 ∷ 4 ∷ []) $ free1 ! $ move ! (1 ∷ 2 ∷ []) $ free1 ! $ free0 ! $ by ! (id⊢ 𝓤 _))))))
 
-  pub thin-meets : Meets 𝓤 H A (ofView 0 [] R) (WpFn 𝓤 H C Λ (thinFn τ f)) (atView 0 [] R 𝓤 E)
-  thin-meets = meets 0 [] R 𝓤 E H A W (WpFn 𝓤 H C Λ (thinFn τ f)) (λ _. tt) (λ _. tt) walk
-
-module _ {M : Type 1} (𝓤 : URA M) (H : Heap 𝓤) (𝓜 : Model 𝓤 H) (𝓖 : GhostRules 𝓤 H) (𝓡 : Running 𝓤 H 𝓜) where
-  pub thin : (R : Slot 1) (τ : Ty) → ((κs : Lfts 1) (r : typeAt R κs .Denot) (u : Val) → Is (typeAt R κs) r (u ∷ []) → Fits τ u) → (E : Promise 0 [] R 𝓤)
-      → (γ : Env) (key f : Name) (routine : Routine) → γ f ≡ routine → Closed 𝓤 H (tables 𝓤 H 𝓜 𝓡 γ .C) (tables 𝓤 H 𝓜 𝓡 γ .Λ) key (thinFn τ f)
-      → Meets 𝓤 H (𝓖 .A) (ofSlice 0 [] R) (𝓡 .run routine) (atSlice 0 [] R 𝓤 E) → Meets 𝓤 H (𝓖 .A) (ofView 0 [] R) (𝓡 .run (γ key)) (atView 0 [] R 𝓤 E)
-  unfolding tablesOf
-  thin R τ typed E γ key f routine calls closed met =
-      entered 𝓤 H (tripleOf 𝓤 H (𝓖 .A) (ofView 0 [] R) (atView 0 [] R 𝓤 E)) (tables 𝓤 H 𝓜 𝓡 γ .C) (tables 𝓤 H 𝓜 𝓡 γ .Λ) key (thinFn τ f) closed
-      (thin-meets 𝓤 H (𝓖 .A) (givenOf 𝓤 H 𝓜 𝓖) R τ typed E f (tables 𝓤 H 𝓜 𝓡 γ .C) (tables 𝓤 H 𝓜 𝓡 γ .Λ) (fmOf 𝓤 H (givenOf 𝓤 H 𝓜 𝓖 .laws) (tablesOf 𝓤 H 𝓜 (tables 𝓤 H 𝓜 𝓡 γ)))
-      (cited 𝓤 H (Called 0 [] R 𝓤 E H (𝓖 .A)) 𝓜 𝓡 γ f routine calls met))
+  pub thin : (γ : Env) (key f : Name) (routine : Routine) → γ f ≡ routine → Closed 𝓤 H (tables 𝓤 H 𝓜 𝓡 γ .C) (tables 𝓤 H 𝓜 𝓡 γ .Λ) key (thinFn (Q .ty) f)
+      → Meets 𝓤 H (𝓖 .A) (ofSlice 0 [] Q) (𝓡 .run routine) (atSlice 0 [] Q 𝓤 H (𝓖 .A) E) → Meets 𝓤 H (𝓖 .A) (ofView 0 [] Q) (𝓡 .run (γ key)) (atView 0 [] Q 𝓤 H (𝓖 .A) E)
+  thin γ key f routine = enters 0 [] Q 𝓤 H 𝓜 𝓖 𝓡 E (thinFn (Q .ty) f) γ key f routine (λ C Λ fm known. meets 0 [] Q 𝓤 H (𝓖 .A) E (λ _. tt) (λ _. tt) W (WpFn 𝓤 H C Λ (thinFn (Q .ty) f)) (walk f C Λ fm known))
