@@ -114,7 +114,7 @@ module _ (m : ℕ) (Ps : List (Slot (suc m))) (Q : Answer (suc m)) where
           move ! (1 ∷ []) $ drop ! $ fjoin ! $ move ! (1 ∷ 0 ∷ []) $ join ! $ frame ! $ done !)
 
       -- what the function leaves, at an answer
-      abbrev Left : Val → typeAt (Q .slot) κs .Denot → SProp 𝓤
+      abbrev pub Left : Val → typeAt (Q .slot) κs .Denot → SProp 𝓤
       Left u r = sep 𝓤 (Back 𝓤 H A ofSlice (to .0) u r) (E κs (d .0, a) r)
 
       pub knows : Given 𝓤 H A → (u : Val) → ent 𝓤 (Called .post to u) (H .⇛ (sep 𝓤 (Called .post to u) (fact 𝓤 (Fits (Q .ty) u))))
