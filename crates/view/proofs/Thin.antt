@@ -1,5 +1,5 @@
 -- A method that hands the view's slice on to a function meets the function's contract, read at that slice: what the view owns is what its slice owns, so the function's pre and post are the method's.
---     Answer               a type that is answered: its place in a signature, its MIR type, and that what it owns fits that type.        enum       of an enum
+--     Answer               a type that is answered: its place in a signature, its MIR type, and that what it owns fits that type.        enum, part     of an enum, and of a part of the slice
 --     ofView, ofSlice      the signatures of the method and of the function: the same but for the first parameter
 --     atView, atSlice      their contracts, from what the function promises.        Called     the function's, as a triple
 --     gives                what a method has at entry is what the function asks.        knows      what the function leaves says that its answer fits its local
@@ -35,7 +35,7 @@ use denote.Enum.Enum.{Few}
 use denote.Enum.Laws as EL
 use denote.Memory.{lone}
 use denote.Signature.{Signature, Slot, plain, shrSliceOf, namedLft, typeAt, typesAt}
-use denote.Slice.{sliceVal, sliceTy}
+use denote.Slice.{sliceVal, sliceTy, shr-slice-lawful}
 use denote.Steps.{peeks, heard, said}
 use denote.Struct.Declared.{Declared}
 use denote.Struct.Laws as LL
@@ -62,6 +62,9 @@ pub record Answer (n : ℕ) : Type 2 where
 
 abbrev pub enum : {M : Type 1} (𝓤 : URA M) (H : Heap 𝓤) (𝓜 : Model 𝓤 H) (𝓖 : GhostRules 𝓤 H) {n : ℕ} (D : Variants) → EL.Laws D → Few (shape D) → Answer n
 enum 𝓤 H 𝓜 𝓖 D L few = record { slot = plain (λ _. row D); ty = lone (row D .mir); fits = λ κs r u is. EL.lawful D L 𝓤 H (𝓖 .A) (givenOf 𝓤 H 𝓜 𝓖) few .typed r (u ∷ []) is .0 }
+
+abbrev pub part : {M : Type 1} (𝓤 : URA M) (H : Heap 𝓤) (𝓜 : Model 𝓤 H) (𝓖 : GhostRules 𝓤 H) → Answer 1
+part 𝓤 H 𝓜 𝓖 = record { slot = shrSliceOf (0 ∷ []) tt (plain (λ _. u8)); ty = sliceTy (tyRef (named 0) imm (tyInt w8)); fits = λ κs r u is. shr-slice-lawful 𝓤 H (𝓖 .A) (givenOf 𝓤 H 𝓜 𝓖) (named 0) (κs .0) u8 .typed r (u ∷ []) is .0 }
 
 -- the view's machine value, and its slice's
 abbrev pub mach : RawRecordView → Val
