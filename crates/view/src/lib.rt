@@ -1,0 +1,155 @@
+// Document 01, module 1: `RawRecordView` keeps the caller's record, of any length. A method is the call over that record, and refuses as it does.
+ghost use mathlib.Core.Path.{_≡_};
+ghost use Rattle.answers.specs.Settled.{Settled};
+ghost use Rattle.sam.specs.Record.{refIdOf, posOf, nameLenOf, storedBinOf, opCountOf, flagsOf, seqLenOf, mateRefIdOf, matePosOf, templateLenOf};
+ghost use Rattle.fields.specs.Fields.{intField, natField, cigarArea, cigarPart};
+ghost use Rattle.lengths.specs.Lengths.{refLengthOrZero, recordQueryLength, bothLengths};
+ghost use Rattle.ends.specs.Ends.{unclippedOf, asRust, alignmentStart, alignmentEnd};
+ghost use Rattle.print.specs.Text.{printed};
+ghost use Rattle.clip.specs.Answer.{clippedRecord};
+use answers::Count;
+use answers::Int;
+use answers::Nat;
+use clip::Clipped;
+use ends::Found1;
+use ends::Place1;
+use fields::Area;
+use lengths::Lengths;
+
+pub struct RawRecordView<'a>(pub &'a [u8]);
+
+impl<'a> RawRecordView<'a> {
+    pub fn new(bam: &'a [u8]) -> RawRecordView<'a>
+        ensures { λ r. ⌜ r .0 ≡ bam .entry ⌝ }
+    {
+        RawRecordView(bam)
+    }
+
+    pub fn as_bytes(self) -> &'a [u8]
+        ensures { λ r. ⌜ r ≡ self .entry .0 ⌝ }
+    {
+        self.0
+    }
+
+    pub fn ref_id(self) -> Int
+        ensures { λ r. ⌜ r ≡ intField refIdOf (now (self .entry .0)) ⌝ }
+    {
+        fields::ref_id(self.0)
+    }
+
+    pub fn pos(self) -> Int
+        ensures { λ r. ⌜ r ≡ intField posOf (now (self .entry .0)) ⌝ }
+    {
+        fields::pos(self.0)
+    }
+
+    pub fn l_read_name(self) -> Nat
+        ensures { λ r. ⌜ r ≡ natField nameLenOf (now (self .entry .0)) ⌝ }
+    {
+        fields::l_read_name(self.0)
+    }
+
+    pub fn bin(self) -> Nat
+        ensures { λ r. ⌜ r ≡ natField storedBinOf (now (self .entry .0)) ⌝ }
+    {
+        fields::bin(self.0)
+    }
+
+    pub fn n_cigar_op(self) -> Nat
+        ensures { λ r. ⌜ r ≡ natField opCountOf (now (self .entry .0)) ⌝ }
+    {
+        fields::n_cigar_op(self.0)
+    }
+
+    pub fn flags(self) -> Nat
+        ensures { λ r. ⌜ r ≡ natField flagsOf (now (self .entry .0)) ⌝ }
+    {
+        fields::flags(self.0)
+    }
+
+    pub fn l_seq(self) -> Nat
+        ensures { λ r. ⌜ r ≡ natField seqLenOf (now (self .entry .0)) ⌝ }
+    {
+        fields::l_seq(self.0)
+    }
+
+    pub fn mate_ref_id(self) -> Int
+        ensures { λ r. ⌜ r ≡ intField mateRefIdOf (now (self .entry .0)) ⌝ }
+    {
+        fields::mate_ref_id(self.0)
+    }
+
+    pub fn mate_pos(self) -> Int
+        ensures { λ r. ⌜ r ≡ intField matePosOf (now (self .entry .0)) ⌝ }
+    {
+        fields::mate_pos(self.0)
+    }
+
+    pub fn template_length(self) -> Int
+        ensures { λ r. ⌜ r ≡ intField templateLenOf (now (self .entry .0)) ⌝ }
+    {
+        fields::template_length(self.0)
+    }
+
+    // The part of the record that holds its ops: an empty part where they overrun it, and beside refusal 1, which `cigar_area` tells.
+    pub fn cigar_raw_bytes(self) -> &'a [u8]
+        ensures { λ r. ⌜ now r ≡ cigarPart (now (self .entry .0)) ⌝ }
+    {
+        fields::cigar_raw_bytes(self.0)
+    }
+
+    // Where that part lies. Refusal 1.
+    pub fn cigar_area(self) -> Area
+        ensures { λ r. ⌜ r ≡ cigarArea (now (self .entry .0)) ⌝ }
+    {
+        fields::cigar_area(self.0)
+    }
+
+    pub fn reference_length(self) -> i32
+        ensures { λ r. ⌜ r ≡ refLengthOrZero (now (self .entry .0)) ⌝ }
+    {
+        lengths::reference_length_from_raw_bam(self.0)
+    }
+
+    pub fn query_length(self) -> Count
+        ensures { λ r. ⌜ r ≡ recordQueryLength (now (self .entry .0)) ⌝ }
+    {
+        lengths::query_length(self.0)
+    }
+
+    pub fn cigar_lengths(self) -> Lengths
+        ensures { λ r. ⌜ r ≡ bothLengths (now (self .entry .0)) ⌝ }
+    {
+        lengths::cigar_lengths(self.0)
+    }
+
+    pub fn alignment_start_1based(self) -> Found1
+        ensures { λ r. ⌜ r ≡ alignmentStart (now (self .entry .0)) ⌝ }
+    {
+        ends::alignment_start_from_raw(self.0)
+    }
+
+    pub fn alignment_end_1based(self) -> Found1
+        ensures { λ r. ⌜ r ≡ alignmentEnd (now (self .entry .0)) ⌝ }
+    {
+        ends::alignment_end_from_raw(self.0)
+    }
+
+    pub fn unclipped_5prime_1based(self) -> Place1
+        ensures { λ r. ⌜ r ≡ asRust (unclippedOf (now (self .entry .0))) ⌝ }
+    {
+        ends::unclipped_5prime_from_raw_bam(self.0)
+    }
+
+    pub fn cigar_to_string(self, out: &mut [u8]) -> Count
+        ensures { λ r. ⌜ Settled (printed (now (self .entry .0)) (now (out .entry))) r (now (out .exit)) ⌝ }
+    {
+        print::cigar_to_bytes_into(self.0, out)
+    }
+
+    pub fn clip_cigar_ops(self, amount: u64, from_start: bool, out: &mut [u32]) -> Clipped
+        ensures { λ r. ⌜ Settled (clippedRecord (now (self .entry .0)) amount «from_start» (now (out .entry))) r (now (out .exit)) ⌝ }
+    {
+        clip::clip_cigar_ops(self.0, amount, from_start, out)
+    }
+}
