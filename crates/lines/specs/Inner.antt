@@ -29,7 +29,7 @@ use Rattle.lines.specs.declared.Text.{Text}
 use Rattle.lines.specs.declared.Text.the-variants as Text
 
 -- the figures, or the first refusal on the way
-abbrev pub rowOf : Int → ℕ → Place1 → Nat → Bool → Figures
+unfoldable pub rowOf : Int → ℕ → Place1 → Nat → Bool → Figures
 rowOf (Int.Refused r) q u n s = Figures.Refused r
 rowOf (Int.Number z) q (Place1.Refused r) n s = Figures.Refused r
 rowOf (Int.Number z) q (Place1.At p) (Nat.Refused r) s = Figures.Refused r
