@@ -58,18 +58,20 @@ dec-digits (suc k) (suc f) n h lt le =
     (div-lt-iff-lt-mul {k = 10} (zero-lt-suc 9) .1 (subst (λ (x : ℕ). n < x) (pow-suc 10 (suc k)) lt))
     (λ _. le-div-iff-mul-le {k = 10} (zero-lt-suc 9) .1 low)))
 
-few : (k n : ℕ) → k ≤ 9 → (0 < k → 10 ^ k ≤ n) → k ≤ n
-few zero n h le = omega arith
-few (suc k) n h le =
-    let ten : 10 ≤ 10 ^ suc k = pow-le-pow-right {n = 10} (zero-lt-suc 9) {i = 1} {j = suc k} (omega arith) in
-    omega (arith, le (zero-lt-suc k))
+below-power : (k : ℕ) → k < 10 ^ k
+below-power zero = omega arith
+below-power (suc k) = let ih = below-power k in let p = pow-suc 10 k in omega arith
+
+-- a number of k + 1 digits
+pub decimal-is : (n k : ℕ) → n < 10 ^ suc k → (0 < k → 10 ^ k ≤ n) → decimal n ≡ digits (suc k) n
+unfolding decimal
+decimal-is n zero lt le = dec-digits 0 n n (omega arith) lt le
+decimal-is n (suc k) lt le = let b = below-power (suc k) in let h = le (zero-lt-suc k) in dec-digits (suc k) n n (omega arith) lt le
 
 pub decimal-digits : (n r : ℕ) → Width n r → decimal n ≡ digits r n
-unfolding decimal
 decimal-digits n zero w = absurd (omega (arith, w .some))
 decimal-digits n (suc k) w =
-    let le : 0 < k → 10 ^ k ≤ n = λ h. subst (λ (x : ℕ). 10 ^ x ≤ n) {x = suc k - 1} {y = k} (omega arith) (w .least (omega arith)) in
-    dec-digits k n n (few k n (omega (arith, w .most)) le) (w .below) le
+    decimal-is n k (w .below) (λ h. subst (λ (x : ℕ). 10 ^ x ≤ n) {x = suc k - 1} {y = k} (omega arith) (w .least (omega arith)))
 
 pub opText-digits : (op r : ℕ) → Width (lenOf op) r → opText op ≡ digits r (lenOf op) ++ (letterOf (codeOf op) ∷ [])
 unfolding opText

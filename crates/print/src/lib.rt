@@ -45,7 +45,7 @@ fn width(n: u32) -> usize
 }
 
 // Puts the last k digits of n into out from index at.
-fn put_digits(n: u32, k: usize, out: &mut [u8], at: usize)
+pub fn put_digits(n: u64, k: usize, out: &mut [u8], at: usize)
     requires { ⌜ at + k ≤ length (now out) ⌝ }
     ensures { λ _. ⌜ now (out .exit) ≡ sets (now (out .entry)) at (digits k n) ⌝ }
 {
@@ -66,7 +66,7 @@ fn put_op(op: u32, out: &mut [u8], at: usize) -> usize
 {
     let n = op / 16;
     let k = width(n);
-    put_digits(n, k, out, at);
+    put_digits(n as u64, k, out, at);
     let e = at + k;
     let named = ops::named(op % 16);
     out[e] = named.letter;

@@ -8,6 +8,9 @@ use Rattle.print.proofs.put_op.Tie as tie
 width-requires : tie.Need-width-requires
 width-requires c κs = search needs
 
+cast-put-digits : tie.Need-cast-put-digits
+cast-put-digits c = search needs
+
 put-digits-requires : tie.Need-put-digits-requires
 put-digits-requires c κs = let w = c .before .width in let n = opText-length (c .before .before .before .args .op) (w .result) (w .ensures) in omega arith
 
@@ -44,6 +47,7 @@ put-op-spec =
     tie.close
     (tie.spec
     width-requires
+    cast-put-digits
     put-digits-requires
     add-e
     named-requires

@@ -1,0 +1,119 @@
+-- A record that is at hand stays the next whatever follows; so lines that were put stay the first that are printed.
+use Prim.Native.Nat.{ℕ, _+_, _≤_}
+use mathlib.Core.Path.{_≡_, refl, sym, ap, _∙_, subst}
+use mathlib.Core.Bool.{Bool, true, false, cond}
+use mathlib.Core.List.{List, [], _∷_, _++_, append-assoc}
+use native.Mathlib.Omega.{arith}
+use lib.Dec.{ltb, eqb}
+use lib.ListN.{length, take, drop, length-append, length-take, length-drop, List·getD-append}
+use lib.Seq.{drop-append-le, take-append-le, drop-drop, take-take, length-take-le}
+use borrow.Author.Tests.{lt-ltb, le-ltb, ne-eqb, ltb-false, eqb-false}
+use Rattle.lists.proofs.Walks.{done}
+use Rattle.sam.specs.Record.{le32}
+use Rattle.lines.specs.Line.{lineOf}
+use Rattle.puts.specs.Puts.{Put}
+use Rattle.frames.specs.Stream.{nextIn, soFar, Reports, Reports.line}
+use Rattle.frames.specs.Inner.{Gone}
+use Rattle.frames.specs.declared.Next.{Next}
+use Rattle.frames.specs.declared.Next.the-variants.{Record, TooLong, CutShort, End, More}
+
+-- ---- a record that is next
+
+pub next-record : (s : List ℕ) (size : ℕ) → 4 + size ≤ length s → size ≡ le32 s 0 → size ≤ 32768 → nextIn s ≡ Record size
+unfolding nextIn
+next-record s size h e m =
+    simp (ne-eqb (length s) 0 (omega arith), le-ltb (length s) 4 (omega arith), le-ltb 32768 (le32 s 0) (omega arith), le-ltb (length s) (4 + le32 s 0) (omega arith)) (ap Record (sym e))
+
+pub record Fits (s : List ℕ) (size : ℕ) : Type 0 where
+  pub whole : 4 + size ≤ length s
+  pub is : size ≡ le32 s 0
+  pub small : size ≤ 32768
+
+pub record-fits : (s : List ℕ) (size : ℕ) → nextIn s ≡ Record size → Fits s size
+unfolding nextIn
+record-fits s size e = go (eqb (length s) 0) (ltb (length s) 4) refl (ltb 32768 (le32 s 0)) refl (ltb (length s) (4 + le32 s 0)) refl e
+  where
+    go : (a b : Bool) → ltb (length s) 4 ≡ b → (c : Bool) → ltb 32768 (le32 s 0) ≡ c → (d : Bool) → ltb (length s) (4 + le32 s 0) ≡ d
+        → cond a End (cond b CutShort (cond c TooLong (cond d CutShort (Record (le32 s 0))))) ≡ Record size → Fits s size
+    go true b p c q d r f = let z : _≡_ {A = ℕ} 0 1 = cc in absurd (omega arith)
+    go false true p c q d r f = let z : _≡_ {A = ℕ} 0 1 = cc in absurd (omega arith)
+    go false false p true q d r f = let z : _≡_ {A = ℕ} 0 1 = cc in absurd (omega arith)
+    go false false p false q true r f = let z : _≡_ {A = ℕ} 0 1 = cc in absurd (omega arith)
+    go false false p false q false r f =
+        let g : le32 s 0 ≡ size = cc in
+        record { whole = omega (arith, ltb-false (length s) (4 + le32 s 0) r); is = sym g; small = omega (arith, ltb-false 32768 (le32 s 0) q) }
+
+same-number : (s ys : List ℕ) → 4 ≤ length s → le32 (s ++ ys) 0 ≡ le32 s 0
+same-number s ys h =
+    simp (List·getD-append s ys 0 0 (omega arith), List·getD-append s ys 0 (0 + 1) (omega arith), List·getD-append s ys 0 (0 + 2) (omega arith), List·getD-append s ys 0 (0 + 3) (omega arith))
+
+pub next-more : (s ys : List ℕ) (size : ℕ) → nextIn s ≡ Record size → nextIn (s ++ ys) ≡ Record size
+next-more s ys size e =
+    let f = record-fits s size e in
+    let l = length-append s ys in
+    let w = f .whole in
+    next-record (s ++ ys) size (omega arith) (f .is ∙ sym (same-number s ys (omega arith))) (f .small)
+
+pub far-record : (whole : Bool) (n : Next) (size : ℕ) → soFar whole n ≡ Record size → n ≡ Record size
+far-record true n size e = e
+far-record false (Record k) size e = e
+far-record false TooLong size e = let z : _≡_ {A = ℕ} 0 1 = cc in absurd (omega arith)
+far-record false CutShort size e = let z : _≡_ {A = ℕ} 0 1 = cc in absurd (omega arith)
+far-record false End size e = let z : _≡_ {A = ℕ} 0 1 = cc in absurd (omega arith)
+far-record false More size e = let z : _≡_ {A = ℕ} 0 1 = cc in absurd (omega arith)
+
+-- ---- lines that were put
+
+pub gone-start : (s : List ℕ) (records : ℕ) (d : List ℕ) (at : ℕ) → at ≤ length d → Gone s records d at 0 records at d
+gone-start s records d at h = record {
+  within = omega arith;
+  counted = omega arith;
+  from = omega arith;
+  upto = h;
+  same = refl;
+  kept = refl;
+  lines = λ ys t p. subst (λ (l : List ℕ). Reports records (s ++ ys) (l ++ t)) (sym (done (take at d) at (simp length-take (omega arith)))) p;
+}
+
+-- the record at place used of s
+module _ (s : List ℕ) (used size : ℕ) (e : nextIn (drop used s) ≡ Record size) where
+  pub record-in : used + 4 + size ≤ length s
+  record-in = let f = record-fits (drop used s) size e .whole in let l = length-drop used s in omega arith
+
+  line-first : (n : ℕ) (ys t : List ℕ) → Reports (n + 1) (drop (used + 4 + size) s ++ ys) t → Reports n (drop used s ++ ys) (lineOf (n + 1) (take size (drop (used + 4) s)) ++ t)
+  line-first n ys t p =
+      let f = record-fits (drop used s) size e .whole in
+      let l = length-drop 4 (drop used s) in
+      let g : drop (4 + size) (drop used s ++ ys) ≡ drop (used + 4 + size) s ++ ys =
+      drop-append-le (4 + size) (drop used s) ys f
+          ∙ ap (λ (l : List ℕ). l ++ ys) (drop-drop (4 + size) used s ∙ ap (λ (k : ℕ). drop k s) {x = used + (4 + size)} {y = used + 4 + size} (omega arith)) in
+      let h : take size (drop 4 (drop used s ++ ys)) ≡ take size (drop (used + 4) s) =
+      ap (take size) (drop-append-le 4 (drop used s) ys (omega arith))
+          ∙ take-append-le size (drop 4 (drop used s)) ys (omega arith)
+          ∙ ap (take size) (drop-drop 4 used s) in
+      subst (λ (l : List ℕ). Reports n (drop used s ++ ys) (lineOf (n + 1) l ++ t)) h
+      (Reports.line (next-more (drop used s) ys size e) (subst (λ (l : List ℕ). Reports (n + 1) l t) (sym g) p))
+
+  pub gone-turn : {records at n put put' : ℕ} {d d₁ d₂ : List ℕ} → Gone s records d at used n put d₁ → Put d₁ put (lineOf (n + 1) (take size (drop (used + 4) s))) put' d₂ → put' ≤ length d
+      → Gone s records d at (used + 4 + size) (n + 1) put' d₂
+  gone-turn {records} {at} {n} {put} {put'} {d} {d₁} {d₂} g p h =
+      let L = lineOf (n + 1) (take size (drop (used + 4) s)) in
+      let b = g .from in
+      let k : length (take put d₁) ≡ put = length-take-le put d₁ (omega (arith, g .upto, g .same)) in
+      let m : take put' d₂ ≡ take put d₁ ++ L = ap (λ (i : ℕ). take i d₂) (p .next) ∙ p .head in record {
+        within = record-in;
+        counted = omega (arith, g .counted);
+        from = omega (arith, p .next);
+        upto = h;
+        same = p .same ∙ g .same;
+        kept =
+            sym (take-take at put' d₂ (omega (arith, p .next)))
+            ∙ ap (take at) m
+            ∙ take-append-le at (take put d₁) L (omega arith)
+            ∙ take-take at put d₁ b
+            ∙ g .kept;
+        lines = λ ys t q.
+            subst (λ (l : List ℕ). Reports records (s ++ ys) l)
+            (sym (append-assoc (drop at (take put d₁)) L t) ∙ ap (λ (l : List ℕ). l ++ t) (sym (drop-append-le at (take put d₁) L (omega arith)) ∙ ap (drop at) (sym m)))
+            (g .lines ys (L ++ t) (line-first n ys t q));
+      }

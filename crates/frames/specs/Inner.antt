@@ -1,0 +1,33 @@
+-- What a block of input promises, wherever a stream is cut into blocks. Document 01's rule is `Stream`.
+use Prim.Native.Nat.{ℕ, _+_, _≤_}
+use mathlib.Core.Path.{_≡_}
+use mathlib.Core.Bool.{Bool, true, false}
+use mathlib.Core.List.{List, _++_}
+use lib.ListN.{length, take, drop}
+use Rattle.frames.specs.Stream.{nextIn, soFar, Reports}
+use Rattle.frames.specs.declared.Next.{Next}
+use Rattle.frames.specs.declared.Next.the-variants.{Record, TooLong, CutShort, End, More}
+use Rattle.frames.specs.declared.Block.{Block}
+
+-- Of bytes s at hand so many are used, and their records' lines are put from place at on: whatever follows s, and whatever t is printed of the rest,
+-- these lines and t are printed of s and what follows.
+pub record Gone (s : List ℕ) (records : ℕ) (d : List ℕ) (at used n put : ℕ) (d' : List ℕ) : Type 0 where
+  pub within : used ≤ length s
+  pub counted : n ≤ records + used
+  pub from : at ≤ put
+  pub upto : put ≤ length d
+  pub same : length d' ≡ length d
+  pub kept : take at d' ≡ take at d
+  pub lines : (ys t : List ℕ) → Reports n (drop used s ++ ys) t → Reports records (s ++ ys) (drop at (take put d') ++ t)
+
+-- and what comes next
+pub record Went (s : List ℕ) (whole : Bool) (records : ℕ) (d : List ℕ) (at : ℕ) (r : Block) (d' : List ℕ) : Type 0 where
+  pub gone : Gone s records d at (r .used) (r .records) (r .put) d'
+  pub next : r .next ≡ soFar whole (nextIn (drop (r .used) s))
+
+abbrev pub goesOn : Next → Bool
+goesOn (Record size) = true
+goesOn More = true
+goesOn TooLong = false
+goesOn CutShort = false
+goesOn End = false
