@@ -44,117 +44,50 @@ fn lists(name: &[u8], reverse: bool, this: i32, ops: &[u32], mate: i32, mate_ops
     shown::end();
 }
 
+// A read and a mate of two ops each.
+fn twos(name: &[u8], reverse: bool, this: i32, ops: [u32; 2], mate: i32, mate_ops: [u32; 2]) {
+    lists(name, reverse, this, &ops, mate, &mate_ops);
+}
+
 fn forward_lists() {
-    let own = [op(20, M)];
     let mate = [op(10, M), op(5, S)];
-    lists(
-        b"forward 20M and mate 10M5S, both at 100",
-        false,
-        100,
-        &own,
-        100,
-        &mate,
-    );
+    lists(b"forward 20M and mate 10M5S, both at 100", false, 100, &[op(20, M)], 100, &mate);
     let gapped = [op(10, M), op(5, D), op(10, M)];
-    let in_gap = [op(12, M)];
-    lists(
-        b"forward 10M5D10M and mate 12M, both at 100",
-        false,
-        100,
-        &gapped,
-        100,
-        &in_gap,
-    );
+    lists(b"forward 10M5D10M and mate 12M, both at 100", false, 100, &gapped, 100, &[op(12, M)]);
+}
+
+fn forward_away() {
+    let far = [op(5, M), op(5, M)];
     let tail = [op(10, M), op(20, S)];
-    let far = [op(10, M)];
-    lists(
-        b"forward 10M20S at 100 stops short of 10M at 112",
-        false,
-        100,
-        &tail,
-        112,
-        &far,
-    );
-    lists(
-        b"forward 10M at 200 past 10M at 100",
-        false,
-        200,
-        &far,
-        100,
-        &far,
-    );
+    twos(b"forward 10M20S at 100 stops short of 5M5M at 112", false, 100, tail, 112, far);
+    twos(b"forward 5M5M at 200 past 5M5M at 100", false, 200, far, 100, far);
 }
 
 fn reverse_lists() {
     let own = [op(5, S), op(20, M)];
-    let mate = [op(20, M)];
-    lists(
-        b"reverse 5S20M at 100 and mate 20M at 103",
-        true,
-        100,
-        &own,
-        103,
-        &mate,
-    );
-    let clipped = [op(3, H), op(2, S), op(20, M)];
-    lists(
-        b"reverse 5S20M at 100 and mate 3H2S20M at 103",
-        true,
-        100,
-        &own,
-        103,
-        &clipped,
-    );
+    twos(b"reverse 5S20M at 100 and mate 2S20M at 103", true, 100, own, 103, [op(2, S), op(20, M)]);
+    twos(b"reverse 5S20M at 100 and mate 3H20M at 103", true, 100, own, 103, [op(3, H), op(20, M)]);
+}
+
+fn reverse_away() {
+    let far = [op(5, M), op(5, M)];
     let head = [op(25, S), op(10, M)];
-    let far = [op(10, M)];
-    lists(
-        b"reverse 25S10M at 120 stops short of 10M at 100",
-        true,
-        120,
-        &head,
-        100,
-        &far,
-    );
-    lists(
-        b"reverse 10M at 100 before 10M at 200",
-        true,
-        100,
-        &far,
-        200,
-        &far,
-    );
+    twos(b"reverse 25S10M at 120 stops short of 5M5M at 100", true, 120, head, 100, far);
+    twos(b"reverse 5M5M at 100 before 5M5M at 200", true, 100, far, 200, far);
 }
 
 fn edges() {
     let two = [op(1, M), op(1, M)];
-    let one = [op(1, M)];
-    lists(
-        b"forward 1M1M and mate 1M, both at 2147483647",
-        false,
-        TOP,
-        &two,
-        TOP,
-        &one,
-    );
-    lists(
-        b"forward 1M1M and mate 1M, both at 2147483646",
-        false,
-        2147483646,
-        &two,
-        2147483646,
-        &one,
-    );
-    lists(
-        b"forward no ops and mate 1M, both at 100",
-        false,
-        100,
-        &[],
-        100,
-        &one,
-    );
+    let one = [op(1, M), op(0, M)];
+    twos(b"forward 1M1M and mate 1M, both at 2147483647", false, TOP, two, TOP, one);
+    twos(b"forward 1M1M and mate 1M, both at 2147483646", false, TOP - 1, two, TOP - 1, one);
+    lists(b"forward no ops and mate 1M, both at 100", false, 100, &[], 100, &one);
+}
+
+fn many_ops() {
     let many = [op(1, M); 65536];
-    lists(b"65,536 ops", false, 1, &many, 1, &one);
-    lists(b"65,536 mate ops", false, 1, &one, 1, &many);
+    lists(b"65,536 ops", false, 1, &many, 1, &[]);
+    lists(b"65,536 mate ops", false, 1, &[], 1, &many);
 }
 
 // ---- records
@@ -215,17 +148,26 @@ fn forward_pairs() {
     pair(b"31 bytes", &[0u8; 31]);
 }
 
+// A reverse record, its mate at `mate`.
+fn reverse(name: &[u8], pos: u32, mate: u32, a: u32) {
+    let rec = record(REVERSE, pos, mate, 0, a, op(5, S));
+    pair(name, &rec);
+}
+
 fn reverse_pairs() {
-    let tie = record(REVERSE, 99, 118, 0, op(20, M), op(5, S));
-    pair(b"reverse 100 to 119, mate from 119", &tie);
-    let past = record(REVERSE, 99, 119, 0, op(20, M), op(5, S));
-    pair(b"reverse 100 to 119, mate from 120", &past);
-    let top = record(REVERSE, TOP_BITS, TOP_BITS, 0, op(1, M), op(5, S));
-    pair(b"reverse at 2147483648, mate there", &top);
-    let none = record(REVERSE, 99, 99, 0, op(20, S), op(5, S));
-    pair(b"reverse without reference bases, mate there", &none);
-    let cut = overrun(record(REVERSE, 99, 98, 0, op(20, M), op(5, S)));
+    reverse(b"reverse 100 to 119, mate from 119", 99, 118, op(20, M));
+    reverse(b"reverse 100 to 119, mate from 120", 99, 119, op(20, M));
+    reverse(b"reverse at 2147483648, mate there", TOP_BITS, TOP_BITS, op(1, M));
+    reverse(b"reverse without reference bases, mate there", 99, 99, op(20, S));
+}
+
+fn overruns() {
+    let cut = overrun(record(REVERSE, 99, 98, 0, op(10, M), op(5, S)));
     pair(b"reverse, own ops past the record", &cut);
+    let own = record(FORWARD, 99, 99, 0, op(20, M), op(0, M));
+    both(b"mate ops past its record", &own, &cut);
+    let wide = overrun(own);
+    cigar(b"own ops past the record, mate ops 10M", &wide, &[op(10, M)]);
 }
 
 fn both(name: &[u8], a: &[u8], b: &[u8]) {
@@ -261,8 +203,6 @@ fn two_records() {
     two(b"reverse at 2147483648", FORWARD, 0, REVERSE, TOP_BITS);
     let own = record(FORWARD, 99, 99, 0, op(20, M), op(0, M));
     both(b"one of 31 bytes", &own, &[0u8; 31]);
-    let cut = overrun(record(REVERSE, 99, 98, 0, op(10, M), op(5, S)));
-    both(b"mate ops past its record", &own, &cut);
 }
 
 // ---- the mate's ops, as a list and as text
@@ -295,8 +235,6 @@ fn mate_lists() {
         TOP_BITS,
         &mate,
     );
-    let own = overrun(record(FORWARD, 99, 99, 0, op(20, M), op(0, M)));
-    cigar(b"own ops past the record, mate ops 10M5S", &own, &mate);
 }
 
 fn bad_mate_lists() {
@@ -309,6 +247,9 @@ fn bad_mate_lists() {
         &bad,
     );
     against(b"no mate ops", FORWARD, 99, &[]);
+}
+
+fn many_mate_ops() {
     let many = [op(1, M); 65536];
     against(b"65,536 mate ops", FORWARD, 99, &many);
     cigar(b"31 bytes, and 65,536 mate ops", &[0u8; 31], &many);
@@ -399,15 +340,24 @@ fn long_texts() {
     );
 }
 
-fn main() {
+fn on_lists() {
     forward_lists();
+    forward_away();
     reverse_lists();
+    reverse_away();
     edges();
+    many_ops();
+}
+
+fn main() {
+    on_lists();
     forward_pairs();
     reverse_pairs();
     two_records();
+    overruns();
     mate_lists();
     bad_mate_lists();
+    many_mate_ops();
     mate_texts();
     more_texts();
     long_texts();
