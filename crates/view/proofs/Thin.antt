@@ -167,12 +167,13 @@ module _ (m : ℕ) (Ps : List (Slot (suc m))) (Q : Answer (suc m)) where
 
     -- a routine whose MIR is e f meets a contract that f's gives, where f's routine meets its own
     abbrev pub Law : (Name → Fn) → Type 2
-    Law e = (γ : Env) (key f : Name) (routine : Routine) → γ f ≡ routine → Closed 𝓤 H (tables 𝓤 H 𝓜 𝓡 γ .C) (tables 𝓤 H 𝓜 𝓡 γ .Λ) key (e f) → Meets 𝓤 H (𝓖 .A) ofSlice (𝓡 .run routine) (promised 𝓤 ofSlice E)
-        → (E′ : Promise 𝓤 ofView) → ((κs : Lfts (suc m)) (a : Args ofView κs) (r : Res ofView κs) → ent 𝓤 (ofHeld 𝓤 H (𝓖 .A) E κs a r) (E′ κs a r)) → Meets 𝓤 H (𝓖 .A) ofView (𝓡 .run (γ key)) (promised 𝓤 ofView E′)
+    Law e = (E′ : Promise 𝓤 ofView) → ((κs : Lfts (suc m)) (a : Args ofView κs) (r : Res ofView κs) → ent 𝓤 (ofHeld 𝓤 H (𝓖 .A) E κs a r) (E′ κs a r))
+        → (γ : Env) (key f : Name) (routine : Routine) → γ f ≡ routine → Closed 𝓤 H (tables 𝓤 H 𝓜 𝓡 γ .C) (tables 𝓤 H 𝓜 𝓡 γ .Λ) key (e f)
+        → Meets 𝓤 H (𝓖 .A) ofSlice (𝓡 .run routine) (promised 𝓤 ofSlice E) → Meets 𝓤 H (𝓖 .A) ofView (𝓡 .run (γ key)) (promised 𝓤 ofView E′)
 
     pub enters : (e : Name → Fn) (sp : (κs : Lfts (suc m)) → Spells (typesAt Ps κs)) (tl : (κs : Lfts (suc m)) → Tellss (typesAt Ps κs) (Ises (typesAt Ps κs)) (sp κs)) → Walks e sp tl → Law e
     unfolding tablesOf
-    enters e sp tl walks γ key f routine calls closed met E′ says y =
+    enters e sp tl walks E′ says γ key f routine calls closed met y =
         let C : Calls 𝓤 H = tables 𝓤 H 𝓜 𝓡 γ .C in
         let Λ : Loops 𝓤 H = tables 𝓤 H 𝓜 𝓡 γ .Λ in
         via 𝓤 _ (entered 𝓤 H (tripleOf 𝓤 H (𝓖 .A) ofView (promised 𝓤 ofView (ofHeld 𝓤 H (𝓖 .A) E))) C Λ key (e f) closed (meets 𝓤 H (𝓖 .A) E sp tl (givenOf 𝓤 H 𝓜 𝓖) (WpFn 𝓤 H C Λ (e f))
