@@ -25,7 +25,7 @@ use denote.Signature.{Slot, plain, mutSliceOf, typeAt, typesAt}
 use denote.Slice.{sliceVal, sliceTy, slice-vals, mut-slice-tells, mut-slice-lawful}
 use denote.Triple.Entry.{onEntry}
 use Rattle.view.proofs.RawRecordView.Laws as T′
-use Rattle.view.proofs.Thin.{Answer, Fits, mach, ofView, Promise, hands, Walks, Law, enters, sliceLocal}
+use Rattle.view.proofs.Thin.{Answer, Fits, mach, ofView, ofSlice, Promise, hands, Walks, Law, enters, sliceLocal}
 
 -- a lent slice of numbers of a width
 abbrev pub outOf : Width → Slot 2
@@ -77,7 +77,7 @@ module _ {M : Type 1} (𝓤 : URA M) (H : Heap 𝓤) (𝓜 : Model 𝓤 H) (𝓖
   lies : (κs : Lfts 2) (x : RefT (List ℕ)) → Is (typeAt (outOf w) κs) x (out x ∷ []) → Fits (lentTy w) (out x)
   lies κs x is = mut-slice-lawful 𝓤 H (𝓖 .A) (givenOf 𝓤 H 𝓜 𝓖) (named 1) (κs .1 .0) (UInt w) .typed x (out x ∷ []) is .0
 
-  module _ (E : Promise 1 (prints-with w) Q 𝓤) where
+  module _ (E : Promise 𝓤 (ofSlice 1 (prints-with w) Q)) where
     abbrev print-vals : (κs : Lfts 2) → Spells (typesAt (prints-with w) κs)
     print-vals κs = (slice-vals, tt)
 
@@ -101,7 +101,7 @@ module _ {M : Type 1} (𝓤 : URA M) (H : Heap 𝓤) (𝓜 : Model 𝓤 H) (𝓖
     pub prints : Law 1 (prints-with w) Q 𝓤 H 𝓜 𝓖 𝓡 E (printFn (Q .ty) w)
     prints = enters 1 (prints-with w) Q 𝓤 H 𝓜 𝓖 𝓡 E (printFn (Q .ty) w) print-vals print-tells print-walk
 
-  module _ (E : Promise 1 (clips-with w) Q 𝓤) where
+  module _ (E : Promise 𝓤 (ofSlice 1 (clips-with w) Q)) where
     abbrev clip-vals : (κs : Lfts 2) → Spells (typesAt (clips-with w) κs)
     clip-vals κs = (uint-vals w64, (bool-vals, (slice-vals, tt)))
 
