@@ -1,3 +1,4 @@
-pub mod Settles
 pub mod RowLaws
 pub mod LeafRows
+pub mod TextRows
+pub mod Settles
