@@ -1,4 +1,5 @@
 pub mod RowLaws
 pub mod LeafRows
 pub mod TextRows
+pub mod EndRows
 pub mod Settles
