@@ -1,3 +1,5 @@
-pub mod Settles
 pub mod RowLaws
 pub mod LeafRows
+pub mod TextRows
+pub mod EndRows
+pub mod Settles
