@@ -22,6 +22,10 @@ use Rattle.strict_text.specs.Parsed.{parsed, validity}
 use Rattle.mate_text.specs.Mate.{mateUnclipped, mateUnclipped1}
 use Rattle.ends.specs.Ends.{unclippedOf, asRust, unclippedFrom, alignmentStart, alignmentEnd}
 use Rattle.lookup.specs.Lookup.{lookup}
+use Rattle.clip.specs.Answer.{clipped, clippedRecord}
+use Rattle.overhang.specs.Overhang.{basesExtending}
+use Rattle.overlap.specs.Overlap.{oppositePair, frPair, primaryFrPair, pastMateCigar, pastMateRecord, pastMateText}
+use Rattle.given.specs.Exported.{exported, Filled}
 
 -- a call that is lent nothing
 abbrev Same : {A : Type 0} → A → Type 0
@@ -175,3 +179,45 @@ alignment-end-from-raw b = same
 
 pub read-pos-at-ref-pos-raw : (xs : List ℕ) (start at : ℕ) (asked : Bool) → Same (lookup xs start at asked)
 read-pos-at-ref-pos-raw xs start at asked = same
+
+-- ---- clipping
+
+pub clip-cigar-ops-raw : (xs : List ℕ) (amount : ℕ) (start : Bool) (d : List ℕ) → SameLeft (clipped xs amount start d)
+clip-cigar-ops-raw xs amount start d = same-left
+
+pub clip-cigar-ops : (b : List ℕ) (amount : ℕ) (start : Bool) (d : List ℕ) → SameLeft (clippedRecord b amount start d)
+clip-cigar-ops b amount start d = same-left
+
+-- ---- pair tests and overhang
+
+pub is-mapped-opposite-strand-pair-raw : (b : List ℕ) → Same (oppositePair b)
+is-mapped-opposite-strand-pair-raw b = same
+
+pub is-fr-pair-raw : (b : List ℕ) → Same (frPair b)
+is-fr-pair-raw b = same
+
+pub is-primary-fr-pair-raw : (a b : List ℕ) → Same (primaryFrPair a b)
+is-primary-fr-pair-raw a b = same
+
+pub bases-extending-past-mate-ops : (reverse : Bool) (p : ℤ) (xs : List ℕ) (m : ℤ) (ys : List ℕ) → Same (basesExtending reverse p xs m ys)
+bases-extending-past-mate-ops reverse p xs m ys = same
+
+pub num-bases-extending-past-mate-cigar-raw : (b ys : List ℕ) → Same (pastMateCigar b ys)
+num-bases-extending-past-mate-cigar-raw b ys = same
+
+pub num-bases-extending-past-mate-vs-mate-raw : (b m : List ℕ) → Same (pastMateRecord b m)
+num-bases-extending-past-mate-vs-mate-raw b m = same
+
+pub num-bases-extending-past-mate-text-raw : (b s d : List ℕ) → SameLeft (pastMateText b s d)
+num-bases-extending-past-mate-text-raw b s d = same-left
+
+-- ---- the exported calls (include/cigar.h): with v lent for the values of an answer, and an output d beside it where there is one
+
+pub exported-call : (t : Told) (v : List ℕ) → SameLeft (exported t v)
+exported-call t v = same-left
+
+pub filled-call : {A : Type 0} {want : Outcome A} {tell : A → Told} {d v : List ℕ} {r s : ℕ} {d₁ d₂ v₁ v₂ : List ℕ}
+    → Filled want tell d v r d₁ v₁ → Filled want tell d v s d₂ v₂ → (r ≡ s) × (d₁ ≡ d₂) × (v₁ ≡ v₂)
+filled-call {want = want} {d = d} p q =
+    let e = p .number ∙ sym (q .number) in
+    (e, p .output ∙ ap (λ n. cond (eqb n 0) (want .left) d) e ∙ sym (q .output), p .values ∙ sym (q .values))

@@ -10,15 +10,18 @@ use lib.Signed.{ltZ}
 use Rattle.lists.specs.Lists.{sumOf}
 use Rattle.signed.specs.Whole.{natural, clamp32}
 use Rattle.sam.specs.Op.{lenOf, refLen}
-use Rattle.sam.specs.Record.{posOf, flagsOf, isUnmapped, isReverse, opsEnd, recordOps}
+use Rattle.sam.specs.Record.{posOf, matePosOf, flagsOf, isUnmapped, isReverse, opsEnd, recordOps}
 use Rattle.ops.specs.Clips.{leadingClips, trailingClips}
 use Rattle.lengths.specs.Lengths.{refLengthOrZero}
 use Rattle.bin.specs.Bin.{spanOf}
 use Rattle.print.specs.Text.{anyBad, textOf}
 use Rattle.strict_text.specs.Text.{textOps}
+use Rattle.strict_text.specs.Valid.{validMapped}
 use Rattle.strict_text.specs.Parsed.{strict}
 use Rattle.ends.specs.Tails.{greatestRun}
 use Rattle.ends.specs.Ends.{noOps}
+use Rattle.clip.specs.Answer.{clippedOps}
+use Rattle.pairs.specs.Pairs.{isFrWithMate, isPrimaryFr}
 use Rattle.promises.specs.Table.{Row, _when_, only}
 
 -- ---- the ten numbers
@@ -156,3 +159,43 @@ endRows b =
 -- `read_pos_at_ref_pos_raw`
 abbrev pub lookupRows : List ℕ → ℕ → List Row
 lookupRows xs start = tooMany xs ∷ badStart start ∷ []
+
+-- ---- clipping
+
+-- `clip_cigar_ops_raw`
+abbrev pub clipRows : List ℕ → ℕ → Bool → List ℕ → List Row
+clipRows xs amount start d = tooMany xs ∷ tooLong xs ∷ noRoom d (length (clippedOps xs amount start)) ∷ []
+
+-- `clip_cigar_ops`
+abbrev pub clipRecordRows : List ℕ → ℕ → Bool → List ℕ → List Row
+clipRecordRows b amount start d = short b ∷ tooLong (recordOps b) ∷ noRoom d (length (clippedOps (recordOps b) amount start)) ∷ []
+
+-- ---- pair tests and overhang
+
+-- `is_primary_fr_pair_raw`
+abbrev pub twoRows : List ℕ → List ℕ → List Row
+twoRows a b = short a ∷ short b ∷ []
+
+-- `bases_extending_past_mate_ops`
+abbrev pub extendingRows : List ℕ → List ℕ → List Row
+extendingRows xs ys = tooMany xs ∷ tooMany ys ∷ []
+
+-- of an FR pair both places are counted from 1
+abbrev pub placeRow : Bool → ℤ → ℤ → Row
+placeRow fr p m = 4 when (fr && anyOutside ((p +ℤ pos 1) ∷ (m +ℤ pos 1) ∷ []))
+
+-- the mate's ops decide whether the pair is FR, by their saturated length
+abbrev pub byOps : List ℕ → List ℕ → Row
+byOps b ys = placeRow (isFrWithMate b (clamp32 (pos (sumOf refLen ys)))) (posOf b) (matePosOf b)
+
+-- `num_bases_extending_past_mate_cigar_raw`: a list that is no valid mapped CIGAR answers 0
+abbrev pub mateCigarRows : List ℕ → List ℕ → List Row
+mateCigarRows b ys = short b ∷ tooMany ys ∷ only (validMapped ys) (byOps b ys ∷ [])
+
+-- `num_bases_extending_past_mate_vs_mate_raw`
+abbrev pub mateRecordRows : List ℕ → List ℕ → List Row
+mateRecordRows b m = short b ∷ short m ∷ placeRow (isPrimaryFr b m) (posOf b) (posOf m) ∷ []
+
+-- `num_bases_extending_past_mate_text_raw`: "refusal 5 gives overhang 0 [..]; 3 and 6 are passed on, in the records' order"
+abbrev pub mateTextRows : List ℕ → List ℕ → List ℕ → List Row
+mateTextRows b s d = short b ∷ only (strict s) (tooMany (textOps s) ∷ byOps b (textOps s) ∷ noRoom d (length (textOps s)) ∷ [])
