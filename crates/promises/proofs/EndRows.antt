@@ -53,14 +53,19 @@ module _ {A : Type 0} (tell : A → Told) (to : Sum → A) (stops : tell (to Sum
     where
       refs : ℤ
       refs = pos (sumOf refLen xs)
+
       clips : ℤ
       clips = pos (trailingClips xs)
+
       most : ℤ
       most = pos (greatestRun xs)
+
       with-refs : ℤ
       with-refs = at +ℤ refs
+
       with-clips : ℤ
       with-clips = at +ℤ refs +ℤ clips
+
       last : ℤ
       last = at +ℤ refs +ℤ clips -ℤ pos 1
 
@@ -75,10 +80,13 @@ unclipped-5prime-from-raw-bam b =
   where
     tell : Unclipped → Told
     tell x = tellPlace1 (asRust x)
+
     at : ℤ
     at = posOf b +ℤ pos 1
+
     reverse : Bool
     reverse = isReverse (flagsOf b)
+
     xs : List ℕ
     xs = recordOps b
 

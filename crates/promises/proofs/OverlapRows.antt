@@ -65,6 +65,7 @@ sums-over p m = by-sides (ltZ p (negsuc 2147483647)) (ltZ (pos 2147483647) p) (l
   where
     sum : (low high : Bool) (z : ℤ) → Sum
     sum low high z = sumAt (cond low Below (cond high Above (Within z)))
+
     by-sides : (low high low' high' : Bool) → isOver (bothPlaces (toPlace1 (sum low high p)) (toPlace1 (sum low' high' m))) ≡ (low || high || (low' || high' || false))
     by-sides true high low' high' = refl
     by-sides false true low' high' = refl
