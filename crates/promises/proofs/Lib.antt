@@ -1,3 +1,10 @@
-pub mod Settles
 pub mod RowLaws
 pub mod LeafRows
+pub mod TextRows
+pub mod EndRows
+pub mod ClipRows
+pub mod OverlapRows
+pub mod Settles
+pub mod Demand3
+pub mod SamLaws
+pub mod Marked

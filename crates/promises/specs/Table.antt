@@ -1,7 +1,7 @@
--- Document 01, "Numbers and their bounds": a refusal is "given exactly when" its row holds, and of several the first in the call's order.
+-- Document 01, "Numbers and their bounds": a refusal is "given exactly when" its row holds, and of several the first in the call's order; "every lent buffer is unchanged".
 use Prim.Native.Nat.{ℕ}
 use mathlib.Core.Path.{_≡_}
-use mathlib.Core.Bool.{Bool, false, cond}
+use mathlib.Core.Bool.{Bool, false, cond, _&&_}
 use mathlib.Core.List.{List, [], _∷_}
 use lib.Dec.{eqb}
 use Rattle.answers.specs.Answers.{Told}
@@ -15,6 +15,11 @@ pub record Row : Type 0 where
 infixl 90 _when_
 abbrev pub _when_ : ℕ → Bool → Row
 _when_ n t = record { number = n; due = t }
+
+-- rows of what is only done where a condition holds
+abbrev pub only : Bool → List Row → List Row
+only t [] = []
+only t (r ∷ rows) = record { number = r .number; due = t && r .due } ∷ only t rows
 
 -- the first row that holds; 0, an answer, where none does
 abbrev pub first : List Row → ℕ

@@ -1,0 +1,127 @@
+-- The refusal table of the ends and of lookup: each test of a definition is a row, and each checked sum one of those that row 4 names.
+use Prim.Native.Nat.{ℕ, _-_}
+use mathlib.Core.Path.{_≡_, refl}
+use mathlib.Core.Bool.{Bool, true, false, cond}
+use mathlib.Core.List.{List, [], _∷_}
+use lib.IntN.{ℤ, pos, _+ℤ_, _-ℤ_}
+use lib.ListN.{length}
+use lib.Dec.{ltb, eqb}
+use lib.Signed.{ltZ}
+use Rattle.lists.specs.Lists.{sumOf}
+use Rattle.signed.specs.Whole.{natural}
+use Rattle.signed.specs.declared.Sum.{Sum}
+use Rattle.signed.specs.declared.Sum.the-variants as Sum
+use Rattle.sam.specs.Op.{refLen}
+use Rattle.sam.specs.Record.{posOf, flagsOf, isUnmapped, isReverse, recordOps}
+use Rattle.ops.specs.Clips.{leadingClips, trailingClips}
+use Rattle.lengths.specs.Lengths.{refLengthOrZero}
+use Rattle.answers.specs.Answers.{Told}
+use Rattle.answers.specs.declared.Pos0.{Pos0}
+use Rattle.answers.specs.declared.Refusal.the-variants.{ShortRecord, TooManyOps, BadStart}
+use Rattle.ends.specs.Sums.{both, _⊕_, _⊖_, total}
+use Rattle.ends.specs.Tails.{greatestRun}
+use Rattle.ends.specs.Ends.{provided, trailingSum, unclippedStart, unclippedEnd, fivePrime, toPlace0, toPlace1, oneBased, toFound1, noOps, asUnclipped, unclippedAt, unclippedOf, asRust, unclippedFrom, alignmentStart, alignmentEnd, tellPlace0, tellPlace1, tellFound1}
+use Rattle.ends.specs.declared.Unclipped.{Unclipped}
+use Rattle.ends.specs.declared.Unclipped.the-variants as Unclipped
+use Rattle.ends.specs.declared.Place0.the-variants as Place0
+use Rattle.ends.specs.declared.Found1.the-variants as Found1
+use Rattle.lookup.specs.Lookup.{look, readOver, lookup, tellFound}
+use Rattle.lookup.specs.declared.Found.{Found}
+use Rattle.lookup.specs.declared.Found.the-variants as Found
+use Rattle.answers.specs.declared.Over.{Over}
+use Rattle.answers.specs.declared.Over.the-variants.{Base, Gap, Off}
+use Rattle.promises.specs.Table.{Gives}
+use Rattle.promises.specs.Rows.{over, endSums, unclippedRows, unclippedFromRows, startRows, endRows, lookupRows}
+use Rattle.promises.proofs.RowLaws.{row, row-either, row-unless, row-sum, answer}
+
+module _ {A : Type 0} (tell : A → Told) (to : Sum → A) (stops : tell (to Sum.Over) .number ≡ 4) (goes : (z : ℤ) → tell (to (Sum.Number z)) .number ≡ 0) where
+  -- the sums of an unclipped end
+  end-sums : (reverse : Bool) (at : ℤ) (xs : List ℕ) → Gives (tell (to (fivePrime reverse at xs))) (over (endSums reverse at xs) ∷ [])
+  unfolding fivePrime unclippedStart unclippedEnd trailingSum both
+  end-sums false at xs =
+      row-sum tell (λ s. to (Sum.Number at ⊖ s)) clips ((at -ℤ clips) ∷ []) stops
+      (row-sum tell to (at -ℤ clips) [] stops (record { number = goes (at -ℤ clips) }))
+    where
+      clips : ℤ
+      clips = pos (leadingClips xs)
+  end-sums true at xs =
+      row-sum tell (λ s. to (Sum.Number at ⊕ s ⊕ trailingSum xs ⊖ Sum.Number (pos 1))) refs (with-refs ∷ most ∷ with-clips ∷ last ∷ []) stops
+      (row-sum tell (λ s. to (s ⊕ trailingSum xs ⊖ Sum.Number (pos 1))) with-refs (most ∷ with-clips ∷ last ∷ []) stops
+      (row-sum tell (λ s. to (Sum.Number with-refs ⊕ provided s (Sum.Number clips) ⊖ Sum.Number (pos 1))) most (with-clips ∷ last ∷ []) stops
+      (row-sum tell (λ s. to (s ⊖ Sum.Number (pos 1))) with-clips (last ∷ []) stops
+      (row-sum tell to last [] stops (record { number = goes last })))))
+    where
+      refs : ℤ
+      refs = pos (sumOf refLen xs)
+
+      clips : ℤ
+      clips = pos (trailingClips xs)
+
+      most : ℤ
+      most = pos (greatestRun xs)
+
+      with-refs : ℤ
+      with-refs = at +ℤ refs
+
+      with-clips : ℤ
+      with-clips = at +ℤ refs +ℤ clips
+
+      last : ℤ
+      last = at +ℤ refs +ℤ clips -ℤ pos 1
+
+pub unclipped-5prime-from-raw-bam : (b : List ℕ) → Gives (tellPlace1 (asRust (unclippedOf b))) (unclippedRows b)
+unfolding unclippedOf oneBased both
+unclipped-5prime-from-raw-bam b =
+    row tell (ltb (length b) 32) (Unclipped.Refused ShortRecord) _ 1 refl
+    (row-unless tell (isUnmapped (flagsOf b)) Unclipped.Unmapped _ refl
+    (row-unless tell (noOps b) Unclipped.NoOps _ refl
+    (row-sum tell (λ s. unclippedAt (toPlace1 s) reverse xs) at (endSums reverse at xs) refl
+    (end-sums tell (λ s. asUnclipped (toPlace1 s)) refl (λ z. refl) reverse at xs))))
+  where
+    tell : Unclipped → Told
+    tell x = tellPlace1 (asRust x)
+
+    at : ℤ
+    at = posOf b +ℤ pos 1
+
+    reverse : Bool
+    reverse = isReverse (flagsOf b)
+
+    xs : List ℕ
+    xs = recordOps b
+
+pub unclipped-5prime-raw : (b : List ℕ) (p : Pos0) (reverse : Bool) → Gives (tellPlace0 (unclippedFrom b p reverse)) (unclippedFromRows b (p .0) reverse)
+unfolding unclippedFrom
+unclipped-5prime-raw b p reverse =
+    row tellPlace0 (ltb (length b) 32) (Place0.Refused ShortRecord) _ 1 refl
+    (row-unless tellPlace0 (noOps b) (Place0.At p) _ refl
+    (end-sums tellPlace0 toPlace0 refl (λ z. refl) reverse (p .0) (recordOps b)))
+
+pub alignment-start-from-raw : (b : List ℕ) → Gives (tellFound1 (alignmentStart b)) (startRows b)
+unfolding alignmentStart oneBased both
+alignment-start-from-raw b =
+    row tellFound1 (ltb (length b) 32) (Found1.Refused ShortRecord) _ 1 refl
+    (row-unless tellFound1 (ltZ (posOf b) (pos 0)) Found1.Nothing _ refl
+    (row-sum tellFound1 (λ s. toFound1 (toPlace1 s)) (posOf b +ℤ pos 1) [] refl (record { number = refl })))
+
+pub alignment-end-from-raw : (b : List ℕ) → Gives (tellFound1 (alignmentEnd b)) (endRows b)
+unfolding alignmentEnd both
+alignment-end-from-raw b =
+    row tellFound1 (ltb (length b) 32) (Found1.Refused ShortRecord) _ 1 refl
+    (row-unless tellFound1 (ltZ (posOf b) (pos 0)) Found1.Nothing _ refl
+    (row-unless tellFound1 (eqb (natural (refLengthOrZero b)) 0) Found1.Nothing _ refl
+    (row-sum tellFound1 (λ s. toFound1 (toPlace1 s)) (posOf b +ℤ refLengthOrZero b) [] refl (record { number = refl }))))
+
+pub read-pos-at-ref-pos-raw : (xs : List ℕ) (start at : ℕ) (asked : Bool) → Gives (tellFound (lookup xs start at asked)) (lookupRows xs start)
+unfolding lookup
+read-pos-at-ref-pos-raw xs start at asked =
+    row tellFound (ltb 65535 (length xs)) (Found.Refused TooManyOps) _ 3 refl
+    (row-either tellFound (ltb start 1) (ltb 2147483648 start) (Found.Refused BadStart) _ 9 refl
+    (never (ltb at start) (look xs (at - start) .before) asked (look xs (at - start) .over)))
+  where
+    never : (t : Bool) (n : ℕ) (asked : Bool) (o : Over) → Gives (tellFound (cond t Found.Nothing (readOver asked n o))) []
+    never true n asked o = record { number = refl }
+    never false n asked Base = record { number = refl }
+    never false n true Gap = record { number = refl }
+    never false n false Gap = record { number = refl }
+    never false n asked Off = record { number = refl }

@@ -1,0 +1,117 @@
+-- The refusal table of the pair tests and the overhang calls: each test of a definition is a row, in the same order; 4 is the two places of an FR pair.
+use Prim.Native.Nat.{ℕ}
+use mathlib.Core.Path.{_≡_, refl, subst}
+use mathlib.Core.Bool.{Bool, true, false, cond, not, _||_, _&&_}
+use mathlib.Core.List.{List, [], _∷_}
+use lib.IntN.{ℤ, pos, negsuc, _+ℤ_}
+use lib.ListN.{length}
+use lib.Dec.{ltb}
+use lib.Signed.{ltZ}
+use Rattle.lists.specs.Lists.{sumOf, splice}
+use Rattle.signed.specs.Whole.{checked, sideOf, sumAt, clamp32}
+use Rattle.signed.specs.declared.Side.the-variants.{Below, Within, Above}
+use Rattle.signed.specs.declared.Sum.{Sum}
+use Rattle.sam.specs.Op.{refLen}
+use Rattle.sam.specs.Record.{posOf, matePosOf, recordOps}
+use Rattle.answers.specs.Answers.{tellFlag, tellCount}
+use Rattle.answers.specs.Settled.{Outcome}
+use Rattle.answers.specs.declared.Refusal.the-variants.{ShortRecord, TooManyOps, Overflow, NoRoom}
+use Rattle.answers.specs.declared.Count.the-variants as Count
+use Rattle.answers.specs.declared.Flag.the-variants as Flag
+use Rattle.ends.specs.Sums.{both}
+use Rattle.ends.specs.Ends.{toPlace1, oneBased}
+use Rattle.strict_text.specs.Text.{textOps}
+use Rattle.strict_text.specs.Valid.{validMapped}
+use Rattle.strict_text.specs.Parsed.{strict}
+use Rattle.pairs.specs.Pairs.{isOpposite, isFr, isFrWithMate, isPrimaryFr}
+use Rattle.overhang.specs.Overhang.{overhangOf, basesExtending}
+use Rattle.overlap.specs.Overlap.{oppositePair, frPair, primaryFrPair, bothPlaces, placedPair, isOver, basesAt, overhangAt, placedBy, pastMateCigar, pastMateRecord, listLeft, pastMateText, tellOverhang}
+use Rattle.overlap.specs.declared.Placed.{Placed}
+use Rattle.overlap.specs.declared.Placed.the-variants as Placed
+use Rattle.overlap.specs.declared.Overhang.{Overhang}
+use Rattle.overlap.specs.declared.Overhang.the-variants as Overhang
+use Rattle.promises.specs.Table.{_when_, Gives, GivesKept}
+use Rattle.promises.specs.Rows.{anyOutside, noRoom, placeRow, recordRows, twoRows, extendingRows, mateCigarRows, mateRecordRows, mateTextRows}
+use Rattle.promises.proofs.RowLaws.{row, row-where, answer, kept-row, kept-where, kept-answer}
+
+-- ---- the pair tests
+
+pub is-mapped-opposite-strand-pair-raw : (b : List ℕ) → Gives (tellFlag (oppositePair b)) (recordRows b)
+unfolding oppositePair
+is-mapped-opposite-strand-pair-raw b = row tellFlag (ltb (length b) 32) (Flag.Refused ShortRecord) _ 1 refl (answer tellFlag (Flag.Is (isOpposite b)) refl)
+
+pub is-fr-pair-raw : (b : List ℕ) → Gives (tellFlag (frPair b)) (recordRows b)
+unfolding frPair
+is-fr-pair-raw b = row tellFlag (ltb (length b) 32) (Flag.Refused ShortRecord) _ 1 refl (answer tellFlag (Flag.Is (isFr b)) refl)
+
+pub is-primary-fr-pair-raw : (a b : List ℕ) → Gives (tellFlag (primaryFrPair a b)) (twoRows a b)
+unfolding primaryFrPair
+is-primary-fr-pair-raw a b =
+    row tellFlag (ltb (length a) 32) (Flag.Refused ShortRecord) _ 1 refl
+    (row tellFlag (ltb (length b) 32) (Flag.Refused ShortRecord) _ 1 refl (answer tellFlag (Flag.Is (isPrimaryFr a b)) refl))
+
+-- ---- the overhang
+
+pub bases-extending-past-mate-ops : (reverse : Bool) (p : ℤ) (xs : List ℕ) (m : ℤ) (ys : List ℕ) → Gives (tellCount (basesExtending reverse p xs m ys)) (extendingRows xs ys)
+unfolding basesExtending
+bases-extending-past-mate-ops reverse p xs m ys =
+    row tellCount (ltb 65535 (length xs)) (Count.Refused TooManyOps) _ 3 refl
+    (row tellCount (ltb 65535 (length ys)) (Count.Refused TooManyOps) _ 3 refl (answer tellCount (Count.Number (overhangOf reverse p xs m ys)) refl))
+
+-- an FR pair is not placed where either place overflows
+sums-over : (p m : ℤ) → isOver (bothPlaces (toPlace1 (checked p)) (toPlace1 (checked m))) ≡ anyOutside (p ∷ m ∷ [])
+unfolding checked sideOf
+sums-over p m = by-sides (ltZ p (negsuc 2147483647)) (ltZ (pos 2147483647) p) (ltZ m (negsuc 2147483647)) (ltZ (pos 2147483647) m)
+  where
+    sum : (low high : Bool) (z : ℤ) → Sum
+    sum low high z = sumAt (cond low Below (cond high Above (Within z)))
+
+    by-sides : (low high low' high' : Bool) → isOver (bothPlaces (toPlace1 (sum low high p)) (toPlace1 (sum low' high' m))) ≡ (low || high || (low' || high' || false))
+    by-sides true high low' high' = refl
+    by-sides false true low' high' = refl
+    by-sides false false true high' = refl
+    by-sides false false false true = refl
+    by-sides false false false false = refl
+
+placed-over : (fr : Bool) (b : List ℕ) (m : ℤ) → isOver (placedPair fr b m) ≡ (fr && anyOutside ((posOf b +ℤ pos 1) ∷ (m +ℤ pos 1) ∷ []))
+unfolding placedPair oneBased both
+placed-over true b m = sums-over (posOf b +ℤ pos 1) (m +ℤ pos 1)
+placed-over false b m = refl
+
+overhang-rows : (fr : Bool) (b ys : List ℕ) (m : ℤ) → Gives (tellCount (overhangAt (placedPair fr b m) b ys)) (placeRow fr (posOf b) m ∷ [])
+unfolding overhangAt
+overhang-rows fr b ys m =
+    subst (λ t. Gives (tellCount (overhangAt (placedPair fr b m) b ys)) ((4 when t) ∷ [])) (placed-over fr b m)
+    (row tellCount (isOver (placedPair fr b m)) (Count.Refused Overflow) _ 4 refl (answer tellCount (Count.Number (basesAt (placedPair fr b m) b ys)) refl))
+
+pub num-bases-extending-past-mate-cigar-raw : (b ys : List ℕ) → Gives (tellCount (pastMateCigar b ys)) (mateCigarRows b ys)
+unfolding pastMateCigar placedBy
+num-bases-extending-past-mate-cigar-raw b ys =
+    row tellCount (ltb (length b) 32) (Count.Refused ShortRecord) _ 1 refl
+    (row tellCount (ltb 65535 (length ys)) (Count.Refused TooManyOps) _ 3 refl
+    (row-where tellCount (validMapped ys) (Count.Number 0) _ refl (overhang-rows (isFrWithMate b (clamp32 (pos (sumOf refLen ys)))) b ys (matePosOf b))))
+
+pub num-bases-extending-past-mate-vs-mate-raw : (b m : List ℕ) → Gives (tellCount (pastMateRecord b m)) (mateRecordRows b m)
+unfolding pastMateRecord
+num-bases-extending-past-mate-vs-mate-raw b m =
+    row tellCount (ltb (length b) 32) (Count.Refused ShortRecord) _ 1 refl
+    (row tellCount (ltb (length m) 32) (Count.Refused ShortRecord) _ 1 refl (overhang-rows (isPrimaryFr b m) b (recordOps m) (posOf m)))
+
+-- 4, then 6, before the list is written
+list-rows : (fr : Bool) (b xs d : List ℕ) (m : ℤ) → GivesKept tellOverhang (listLeft (placedPair fr b m) b xs d) d (placeRow fr (posOf b) m ∷ noRoom d (length xs) ∷ [])
+unfolding listLeft
+list-rows fr b xs d m =
+    subst (λ t. GivesKept tellOverhang (listLeft (placedPair fr b m) b xs d) d ((4 when t) ∷ noRoom d (length xs) ∷ [])) (placed-over fr b m)
+    (kept-row tellOverhang (isOver (placedPair fr b m)) (Overhang.Refused Overflow) _ d 4 refl
+    (kept-row tellOverhang (ltb (length d) (length xs)) (Overhang.Refused NoRoom) done d 6 refl (kept-answer tellOverhang done d refl)))
+  where
+    done : Outcome Overhang
+    done = record { answer = Overhang.Bases (basesAt (placedPair fr b m) b xs) (length xs); left = splice d 0 xs }
+
+pub num-bases-extending-past-mate-text-raw : (b s d : List ℕ) → GivesKept tellOverhang (pastMateText b s d) d (mateTextRows b s d)
+unfolding pastMateText placedBy
+num-bases-extending-past-mate-text-raw b s d =
+    kept-row tellOverhang (ltb (length b) 32) (Overhang.Refused ShortRecord) _ d 1 refl
+    (kept-where tellOverhang (strict s) (Overhang.Bases 0 0) _ d refl
+    (kept-row tellOverhang (ltb 65535 (length (textOps s))) (Overhang.Refused TooManyOps) _ d 3 refl
+    (list-rows (isFrWithMate b (clamp32 (pos (sumOf refLen (textOps s))))) b (textOps s) d (matePosOf b))))

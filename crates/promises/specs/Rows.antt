@@ -1,0 +1,201 @@
+-- Document 01, "Numbers and their bounds", the refusal table: each number with the words of its row, then the rows of each call in its order:
+-- "list calls 3, 8, 9, 4, 6; printing 1, 7, 6; strict text 5, 3, 6; records 1, 3, 2, 8, 4, 6."
+use Prim.Native.Nat.{ℕ}
+use mathlib.Core.Bool.{Bool, true, false, not, _||_, _&&_}
+use mathlib.Core.List.{List, [], _∷_}
+use lib.Dec.{ltb, eqb}
+use lib.IntN.{ℤ, pos, negsuc, _+ℤ_, _-ℤ_}
+use lib.ListN.{length}
+use lib.Signed.{ltZ}
+use Rattle.lists.specs.Lists.{sumOf}
+use Rattle.signed.specs.Whole.{natural, clamp32}
+use Rattle.sam.specs.Op.{lenOf, refLen}
+use Rattle.sam.specs.Record.{posOf, matePosOf, flagsOf, isUnmapped, isReverse, opsEnd, recordOps}
+use Rattle.ops.specs.Clips.{leadingClips, trailingClips}
+use Rattle.lengths.specs.Lengths.{refLengthOrZero}
+use Rattle.bin.specs.Bin.{spanOf}
+use Rattle.print.specs.Text.{anyBad, textOf}
+use Rattle.strict_text.specs.Text.{textOps}
+use Rattle.strict_text.specs.Valid.{validMapped}
+use Rattle.strict_text.specs.Parsed.{strict}
+use Rattle.ends.specs.Tails.{greatestRun}
+use Rattle.ends.specs.Ends.{noOps}
+use Rattle.clip.specs.Answer.{clippedOps}
+use Rattle.pairs.specs.Pairs.{isFrWithMate, isPrimaryFr}
+use Rattle.promises.specs.Table.{Row, _when_, only}
+
+-- ---- the ten numbers
+
+-- 1: "a record has under 32 bytes"
+abbrev pub short : List ℕ → Row
+short b = 1 when ltb (length b) 32
+
+-- 2: "checked reference length: the op area ends past the record"
+abbrev pub overrun : List ℕ → Row
+overrun b = 2 when ltb (length b) (opsEnd b)
+
+-- 3: "a list, given or parsed, has over 65,535 ops"
+abbrev pub tooMany : List ℕ → Row
+tooMany xs = 3 when ltb 65535 (length xs)
+
+-- 4: "a signed 32-bit sum overflows where Rust with overflow checks stops": of the sums that it makes, one is below -2^31 or above 2^31 - 1
+abbrev pub outside : ℤ → Bool
+outside z = ltZ z (negsuc 2147483647) || ltZ (pos 2147483647) z
+
+abbrev pub anyOutside : List ℤ → Bool
+anyOutside [] = false
+anyOutside (z ∷ zs) = outside z || anyOutside zs
+
+abbrev pub over : List ℤ → Row
+over zs = 4 when anyOutside zs
+
+-- 5: "the strict text reader refuses": the text is not one of the specification's grammar that it takes (SamLaws: `strict-takes`, `strict-only`)
+abbrev pub notStrict : List ℕ → Row
+notStrict s = 5 when not (strict s)
+
+-- 6: "the answer is longer than the lent output"
+abbrev pub noRoom : List ℕ → ℕ → Row
+noRoom d n = 6 when ltb (length d) n
+
+-- 7: "printing meets a code 9 to 15"
+abbrev pub badCode : List ℕ → Row
+badCode xs = 7 when anyBad xs
+
+-- 8: "clipping: total length 2^28 or more"
+abbrev pub tooLong : List ℕ → Row
+tooLong xs = 8 when ltb 268435455 (sumOf lenOf xs)
+
+-- 9: "lookup: alignment start outside its bounds", which are 1 and 2,147,483,648
+abbrev pub badStart : ℕ → Row
+badStart start = 9 when (ltb start 1 || ltb 2147483648 start)
+
+-- 10: "`CigarOp::new`: length 0 or above 268,435,455"
+abbrev pub badLength : ℕ → Row
+badLength n = 10 when (eqb n 0 || ltb 268435455 n)
+
+-- ---- fields, ops, lengths, bins
+
+-- the ten fields, `cigar_raw_bytes`, `query_length`, the pair tests on one record
+abbrev pub recordRows : List ℕ → List Row
+recordRows b = short b ∷ []
+
+-- `get_cigar_ops`
+abbrev pub opsRows : List ℕ → List ℕ → List Row
+opsRows b d = short b ∷ noRoom d (length (recordOps b)) ∷ []
+
+-- `CigarOp::new`
+abbrev pub newRows : ℕ → List Row
+newRows n = badLength n ∷ []
+
+-- `query_length_from_cigar`, `saturating_reference_length`, `is_valid_mapped_cigar`
+abbrev pub listRows : List ℕ → List Row
+listRows xs = tooMany xs ∷ []
+
+-- `reference_length_from_cigar`
+abbrev pub lengthRows : List ℕ → List Row
+lengthRows xs = tooMany xs ∷ over (pos (sumOf refLen xs) ∷ []) ∷ []
+
+-- `reference_length_from_raw_bam_checked`
+abbrev pub checkedRows : List ℕ → List Row
+checkedRows b = short b ∷ overrun b ∷ over (pos (sumOf refLen (recordOps b)) ∷ []) ∷ []
+
+-- `cigar_lengths`
+abbrev pub bothRows : List ℕ → List Row
+bothRows b = short b ∷ over (pos (sumOf refLen (recordOps b)) ∷ []) ∷ []
+
+-- `reg2bin`
+abbrev pub regionRows : ℤ → List Row
+regionRows end = over ((end -ℤ pos 1) ∷ []) ∷ []
+
+-- `bin_from_raw_bam`, `set_bin_from_raw_bam`: nothing is summed for a record "with `pos` below 0"
+abbrev pub binRows : List ℕ → List Row
+binRows b =
+    let end = posOf b +ℤ spanOf (refLengthOrZero b) in
+    short b ∷ only (not (ltZ (posOf b) (pos 0))) (over (end ∷ (end -ℤ pos 1) ∷ []) ∷ [])
+
+-- ---- text
+
+-- `cigar_to_bytes_into`
+abbrev pub printRows : List ℕ → List ℕ → List Row
+printRows b d = short b ∷ badCode (recordOps b) ∷ noRoom d (length (textOf (recordOps b))) ∷ []
+
+-- `parse_cigar_string_ops`
+abbrev pub textRows : List ℕ → List ℕ → List Row
+textRows s d = notStrict s ∷ tooMany (textOps s) ∷ noRoom d (length (textOps s)) ∷ []
+
+-- ---- ends and lookup
+
+-- "forward less the leading S and H, reverse plus reference length plus clips after the last reference op, less 1": the Rust's sums, in its order; each of lengths
+-- comes to its total, and the clips between two reference ops are summed too
+abbrev pub endSums : Bool → ℤ → List ℕ → List ℤ
+endSums false at xs =
+    let clips = pos (leadingClips xs) in
+    clips ∷ (at -ℤ clips) ∷ []
+endSums true at xs =
+    let length = pos (sumOf refLen xs) in
+    let clips = pos (trailingClips xs) in
+    length ∷ (at +ℤ length) ∷ pos (greatestRun xs) ∷ (at +ℤ length +ℤ clips) ∷ (at +ℤ length +ℤ clips -ℤ pos 1) ∷ []
+
+-- `unclipped_5prime_from_raw_bam`: of a mapped record that has ops, "from `pos` + 1"
+abbrev pub unclippedRows : List ℕ → List Row
+unclippedRows b =
+    let at = posOf b +ℤ pos 1 in
+    short b ∷ only (not (isUnmapped (flagsOf b))) (only (not (noOps b)) (over (at ∷ endSums (isReverse (flagsOf b)) at (recordOps b)) ∷ []))
+
+-- `unclipped_5prime_raw`: of a record that has ops, from the given position
+abbrev pub unclippedFromRows : List ℕ → ℤ → Bool → List Row
+unclippedFromRows b at reverse = short b ∷ only (not (noOps b)) (over (endSums reverse at (recordOps b)) ∷ [])
+
+-- `alignment_start_from_raw`: none where `pos` is below 0
+abbrev pub startRows : List ℕ → List Row
+startRows b = short b ∷ only (not (ltZ (posOf b) (pos 0))) (over ((posOf b +ℤ pos 1) ∷ []) ∷ [])
+
+-- `alignment_end_from_raw`: none too where there is no reference length
+abbrev pub endRows : List ℕ → List Row
+endRows b =
+    short b
+    ∷ only (not (ltZ (posOf b) (pos 0))) (only (not (eqb (natural (refLengthOrZero b)) 0)) (over ((posOf b +ℤ refLengthOrZero b) ∷ []) ∷ []))
+
+-- `read_pos_at_ref_pos_raw`
+abbrev pub lookupRows : List ℕ → ℕ → List Row
+lookupRows xs start = tooMany xs ∷ badStart start ∷ []
+
+-- ---- clipping
+
+-- `clip_cigar_ops_raw`
+abbrev pub clipRows : List ℕ → ℕ → Bool → List ℕ → List Row
+clipRows xs amount start d = tooMany xs ∷ tooLong xs ∷ noRoom d (length (clippedOps xs amount start)) ∷ []
+
+-- `clip_cigar_ops`
+abbrev pub clipRecordRows : List ℕ → ℕ → Bool → List ℕ → List Row
+clipRecordRows b amount start d = short b ∷ tooLong (recordOps b) ∷ noRoom d (length (clippedOps (recordOps b) amount start)) ∷ []
+
+-- ---- pair tests and overhang
+
+-- `is_primary_fr_pair_raw`
+abbrev pub twoRows : List ℕ → List ℕ → List Row
+twoRows a b = short a ∷ short b ∷ []
+
+-- `bases_extending_past_mate_ops`
+abbrev pub extendingRows : List ℕ → List ℕ → List Row
+extendingRows xs ys = tooMany xs ∷ tooMany ys ∷ []
+
+-- of an FR pair both places are counted from 1
+abbrev pub placeRow : Bool → ℤ → ℤ → Row
+placeRow fr p m = 4 when (fr && anyOutside ((p +ℤ pos 1) ∷ (m +ℤ pos 1) ∷ []))
+
+-- the mate's ops decide whether the pair is FR, by their saturated length
+abbrev pub byOps : List ℕ → List ℕ → Row
+byOps b ys = placeRow (isFrWithMate b (clamp32 (pos (sumOf refLen ys)))) (posOf b) (matePosOf b)
+
+-- `num_bases_extending_past_mate_cigar_raw`: a list that is no valid mapped CIGAR answers 0
+abbrev pub mateCigarRows : List ℕ → List ℕ → List Row
+mateCigarRows b ys = short b ∷ tooMany ys ∷ only (validMapped ys) (byOps b ys ∷ [])
+
+-- `num_bases_extending_past_mate_vs_mate_raw`
+abbrev pub mateRecordRows : List ℕ → List ℕ → List Row
+mateRecordRows b m = short b ∷ short m ∷ placeRow (isPrimaryFr b m) (posOf b) (posOf m) ∷ []
+
+-- `num_bases_extending_past_mate_text_raw`: "refusal 5 gives overhang 0 [..]; 3 and 6 are passed on, in the records' order"
+abbrev pub mateTextRows : List ℕ → List ℕ → List ℕ → List Row
+mateTextRows b s d = short b ∷ only (strict s) (tooMany (textOps s) ∷ byOps b (textOps s) ∷ noRoom d (length (textOps s)) ∷ [])
