@@ -1,12 +1,12 @@
 -- A record that is at hand stays the next whatever follows; so lines that were put stay the first that are printed.
-use Prim.Native.Nat.{ℕ, _+_, _≤_}
+use Prim.Native.Nat.{ℕ, suc, _+_, _-_, _≤_, _<_}
 use mathlib.Core.Path.{_≡_, refl, sym, ap, _∙_, subst}
 use mathlib.Core.Bool.{Bool, true, false, cond}
 use mathlib.Core.List.{List, [], _∷_, _++_, append-assoc}
 use native.Mathlib.Omega.{arith}
 use lib.Dec.{ltb, eqb}
-use lib.ListN.{length, take, drop, length-append, length-take, length-drop, List·getD-append}
-use lib.Seq.{drop-append-le, take-append-le, drop-drop, take-take, length-take-le}
+use lib.ListN.{length, take, drop, getD, set, length-append, length-take, length-drop, length-set, List·getD-append}
+use lib.Seq.{drop-append-le, take-append-le, drop-drop, take-take, length-take-le, getD-drop, take-suc, take-suc-set, drop-set-lt}
 use borrow.Author.Tests.{lt-ltb, le-ltb, ne-eqb, ltb-false, eqb-false}
 use Rattle.lists.proofs.Walks.{done}
 use Rattle.sam.specs.Record.{le32}
@@ -117,3 +117,44 @@ module _ (s : List ℕ) (used size : ℕ) (e : nextIn (drop used s) ≡ Record s
             (sym (append-assoc (drop at (take put d₁)) L t) ∙ ap (λ (l : List ℕ). l ++ t) (sym (drop-append-le at (take put d₁) L (omega arith)) ∙ ap (drop at) (sym m)))
             (g .lines ys (L ++ t) (line-first n ys t q));
       }
+
+-- ---- bytes that are moved to the front
+
+-- up to i so far
+pub record Moved (b₀ : List ℕ) (used : ℕ) (b : List ℕ) (i : ℕ) : Type 0 where
+  pub same : length b ≡ length b₀
+  pub front : take (i - used) b ≡ take (i - used) (drop used b₀)
+  pub rest : drop i b ≡ drop i b₀
+
+pub moved-none : (b : List ℕ) (used : ℕ) → Moved b used b used
+moved-none b used = record { same = refl; front = ap (λ (k : ℕ). take k b) z ∙ sym (ap (λ (k : ℕ). take k (drop used b)) z); rest = refl }
+  where
+    z : used - used ≡ 0
+    z = omega arith
+
+pub moved-one : (b₀ b : List ℕ) (used i : ℕ) → Moved b₀ used b i → used ≤ i → i < length b → Moved b₀ used (set b (i - used) (getD b i 0)) (i + 1)
+moved-one b₀ b used i m h k =
+    let j : ℕ = i - used in
+    let n : i + 1 - used ≡ suc j = omega arith in
+    let l = length-drop used b₀ in
+    let v : getD b i 0 ≡ getD (drop used b₀) j 0 =
+    ap (λ (a : ℕ). getD b a 0) {x = i} {y = i + 0} (omega arith)
+        ∙ sym (getD-drop i b 0 0)
+        ∙ ap (λ (l : List ℕ). getD l 0 0) (m .rest)
+        ∙ getD-drop i b₀ 0 0
+        ∙ ap (λ (a : ℕ). getD b₀ a 0) {x = i + 0} {y = used + j} (omega arith)
+        ∙ sym (getD-drop used b₀ j 0) in record {
+      same = length-set b j (getD b i 0) ∙ m .same;
+      front =
+          ap (λ (a : ℕ). take a (set b j (getD b i 0))) n
+          ∙ take-suc-set b j (getD b i 0) (omega arith)
+          ∙ ap (λ (l : List ℕ). l ++ (getD b i 0 ∷ [])) (m .front)
+          ∙ ap (λ (a : ℕ). take j (drop used b₀) ++ (a ∷ [])) v
+          ∙ sym (take-suc (drop used b₀) j 0 (omega (arith, m .same)))
+          ∙ ap (λ (a : ℕ). take a (drop used b₀)) (sym n);
+      rest =
+          drop-set-lt (i + 1) b j (getD b i 0) (omega arith)
+          ∙ sym (drop-drop 1 i b)
+          ∙ ap (drop 1) (m .rest)
+          ∙ drop-drop 1 i b₀;
+    }

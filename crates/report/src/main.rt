@@ -56,18 +56,13 @@ fn refill(input: Input, block: &mut [u8]) -> Input
     }
 }
 
-// Moves the bytes that are not used yet to the front.
-fn shift(block: &mut [u8], used: usize, have: usize)
-    requires { ⌜ (used ≤ have) × (have ≤ length (now block)) ⌝ }
-{
-    let mut i = used;
-    while i < have {
-        block[i - used] = block[i];
-        i += 1;
-    }
+// The bytes that still wait, and whether a write went well.
+struct Flushed {
+    put: usize,
+    ok: bool,
 }
 
-// Writes what waits where there is no room for a line more; answers how much still waits, or that the write failed.
+// Writes what waits where there is no room for a line more.
 fn flush(out: &[u8], put: usize) -> Flushed
     requires { ⌜ put ≤ length (now out) ⌝ }
     ensures { λ r. ⌜ r .put ≤ 65280 ⌝ }
@@ -82,11 +77,6 @@ fn flush(out: &[u8], put: usize) -> Flushed
         put: 0,
         ok: io::write_all(1, &out[..put]),
     }
-}
-
-struct Flushed {
-    put: usize,
-    ok: bool,
 }
 
 // What a stream ends with whose end could not be read.
@@ -144,7 +134,7 @@ fn turn(s: State, block: &mut [u8], out: &mut [u8]) -> State
         finish(unread(next, failed), b.records, out, flushed.put);
         return done();
     }
-    shift(block, used, have);
+    frames::shift(block, used, have);
     let rest = Input {
         have: have - used,
         whole: whole,
