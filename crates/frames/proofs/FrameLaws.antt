@@ -86,11 +86,11 @@ module _ (s : List ℕ) (used size : ℕ) (e : nextIn (drop used s) ≡ Record s
       let l = length-drop 4 (drop used s) in
       let g : drop (4 + size) (drop used s ++ ys) ≡ drop (used + 4 + size) s ++ ys =
       drop-append-le (4 + size) (drop used s) ys f
-          ∙ ap (λ (l : List ℕ). l ++ ys) (drop-drop (4 + size) used s ∙ ap (λ (k : ℕ). drop k s) {x = used + (4 + size)} {y = used + 4 + size} (omega arith)) in
+      ∙ ap (λ (l : List ℕ). l ++ ys) (drop-drop (4 + size) used s ∙ ap (λ (k : ℕ). drop k s) {x = used + (4 + size)} {y = used + 4 + size} (omega arith)) in
       let h : take size (drop 4 (drop used s ++ ys)) ≡ take size (drop (used + 4) s) =
       ap (take size) (drop-append-le 4 (drop used s) ys (omega arith))
-          ∙ take-append-le size (drop 4 (drop used s)) ys (omega arith)
-          ∙ ap (take size) (drop-drop 4 used s) in
+      ∙ take-append-le size (drop 4 (drop used s)) ys (omega arith)
+      ∙ ap (take size) (drop-drop 4 used s) in
       subst (λ (l : List ℕ). Reports n (drop used s ++ ys) (lineOf (n + 1) l ++ t)) h
       (Reports.line (next-more (drop used s) ys size e) (subst (λ (l : List ℕ). Reports (n + 1) l t) (sym g) p))
 
@@ -139,11 +139,11 @@ moved-one b₀ b used i m h k =
     let l = length-drop used b₀ in
     let v : getD b i 0 ≡ getD (drop used b₀) j 0 =
     ap (λ (a : ℕ). getD b a 0) {x = i} {y = i + 0} (omega arith)
-        ∙ sym (getD-drop i b 0 0)
-        ∙ ap (λ (l : List ℕ). getD l 0 0) (m .rest)
-        ∙ getD-drop i b₀ 0 0
-        ∙ ap (λ (a : ℕ). getD b₀ a 0) {x = i + 0} {y = used + j} (omega arith)
-        ∙ sym (getD-drop used b₀ j 0) in record {
+    ∙ sym (getD-drop i b 0 0)
+    ∙ ap (λ (l : List ℕ). getD l 0 0) (m .rest)
+    ∙ getD-drop i b₀ 0 0
+    ∙ ap (λ (a : ℕ). getD b₀ a 0) {x = i + 0} {y = used + j} (omega arith)
+    ∙ sym (getD-drop used b₀ j 0) in record {
       same = length-set b j (getD b i 0) ∙ m .same;
       front =
           ap (λ (a : ℕ). take a (set b j (getD b i 0))) n

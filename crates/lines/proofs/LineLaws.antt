@@ -116,6 +116,7 @@ text-refusal b w e = go (ltb (length b) 32) refl
   where
     t : textTold b .number ≡ numberOf w
     t = ap (λ (x : Count). tellCount x .number) e
+
     go : (s : Bool) → ltb (length b) 32 ≡ s → refusalOf b ≡ numberOf w
     go true q =
         let f : Count.Refused ShortRecord ≡ Count.Refused w = rw q at e in

@@ -68,10 +68,7 @@ fn flush(out: &[u8], put: usize) -> Flushed
     ensures { λ r. ⌜ r .put ≤ 65280 ⌝ }
 {
     if put <= frames::FULL {
-        return Flushed {
-            put: put,
-            ok: true,
-        };
+        return Flushed { put: put, ok: true };
     }
     Flushed {
         put: 0,

@@ -51,37 +51,114 @@ fn twos(name: &[u8], reverse: bool, this: i32, ops: [u32; 2], mate: i32, mate_op
 
 fn forward_lists() {
     let mate = [op(10, M), op(5, S)];
-    lists(b"forward 20M and mate 10M5S, both at 100", false, 100, &[op(20, M)], 100, &mate);
+    lists(
+        b"forward 20M and mate 10M5S, both at 100",
+        false,
+        100,
+        &[op(20, M)],
+        100,
+        &mate,
+    );
     let gapped = [op(10, M), op(5, D), op(10, M)];
-    lists(b"forward 10M5D10M and mate 12M, both at 100", false, 100, &gapped, 100, &[op(12, M)]);
+    lists(
+        b"forward 10M5D10M and mate 12M, both at 100",
+        false,
+        100,
+        &gapped,
+        100,
+        &[op(12, M)],
+    );
 }
 
 fn forward_away() {
     let far = [op(5, M), op(5, M)];
     let tail = [op(10, M), op(20, S)];
-    twos(b"forward 10M20S at 100 stops short of 5M5M at 112", false, 100, tail, 112, far);
-    twos(b"forward 5M5M at 200 past 5M5M at 100", false, 200, far, 100, far);
+    twos(
+        b"forward 10M20S at 100 stops short of 5M5M at 112",
+        false,
+        100,
+        tail,
+        112,
+        far,
+    );
+    twos(
+        b"forward 5M5M at 200 past 5M5M at 100",
+        false,
+        200,
+        far,
+        100,
+        far,
+    );
 }
 
 fn reverse_lists() {
     let own = [op(5, S), op(20, M)];
-    twos(b"reverse 5S20M at 100 and mate 2S20M at 103", true, 100, own, 103, [op(2, S), op(20, M)]);
-    twos(b"reverse 5S20M at 100 and mate 3H20M at 103", true, 100, own, 103, [op(3, H), op(20, M)]);
+    twos(
+        b"reverse 5S20M at 100 and mate 2S20M at 103",
+        true,
+        100,
+        own,
+        103,
+        [op(2, S), op(20, M)],
+    );
+    twos(
+        b"reverse 5S20M at 100 and mate 3H20M at 103",
+        true,
+        100,
+        own,
+        103,
+        [op(3, H), op(20, M)],
+    );
 }
 
 fn reverse_away() {
     let far = [op(5, M), op(5, M)];
     let head = [op(25, S), op(10, M)];
-    twos(b"reverse 25S10M at 120 stops short of 5M5M at 100", true, 120, head, 100, far);
-    twos(b"reverse 5M5M at 100 before 5M5M at 200", true, 100, far, 200, far);
+    twos(
+        b"reverse 25S10M at 120 stops short of 5M5M at 100",
+        true,
+        120,
+        head,
+        100,
+        far,
+    );
+    twos(
+        b"reverse 5M5M at 100 before 5M5M at 200",
+        true,
+        100,
+        far,
+        200,
+        far,
+    );
 }
 
 fn edges() {
     let two = [op(1, M), op(1, M)];
     let one = [op(1, M), op(0, M)];
-    twos(b"forward 1M1M and mate 1M, both at 2147483647", false, TOP, two, TOP, one);
-    twos(b"forward 1M1M and mate 1M, both at 2147483646", false, TOP - 1, two, TOP - 1, one);
-    lists(b"forward no ops and mate 1M, both at 100", false, 100, &[], 100, &one);
+    twos(
+        b"forward 1M1M and mate 1M, both at 2147483647",
+        false,
+        TOP,
+        two,
+        TOP,
+        one,
+    );
+    twos(
+        b"forward 1M1M and mate 1M, both at 2147483646",
+        false,
+        TOP - 1,
+        two,
+        TOP - 1,
+        one,
+    );
+    lists(
+        b"forward no ops and mate 1M, both at 100",
+        false,
+        100,
+        &[],
+        100,
+        &one,
+    );
 }
 
 fn many_ops() {
@@ -157,8 +234,18 @@ fn reverse(name: &[u8], pos: u32, mate: u32, a: u32) {
 fn reverse_pairs() {
     reverse(b"reverse 100 to 119, mate from 119", 99, 118, op(20, M));
     reverse(b"reverse 100 to 119, mate from 120", 99, 119, op(20, M));
-    reverse(b"reverse at 2147483648, mate there", TOP_BITS, TOP_BITS, op(1, M));
-    reverse(b"reverse without reference bases, mate there", 99, 99, op(20, S));
+    reverse(
+        b"reverse at 2147483648, mate there",
+        TOP_BITS,
+        TOP_BITS,
+        op(1, M),
+    );
+    reverse(
+        b"reverse without reference bases, mate there",
+        99,
+        99,
+        op(20, S),
+    );
 }
 
 fn overruns() {
@@ -167,7 +254,11 @@ fn overruns() {
     let own = record(FORWARD, 99, 99, 0, op(20, M), op(0, M));
     both(b"mate ops past its record", &own, &cut);
     let wide = overrun(own);
-    cigar(b"own ops past the record, mate ops 10M", &wide, &[op(10, M)]);
+    cigar(
+        b"own ops past the record, mate ops 10M",
+        &wide,
+        &[op(10, M)],
+    );
 }
 
 fn both(name: &[u8], a: &[u8], b: &[u8]) {

@@ -30,9 +30,10 @@ returns c =
     let y = c .before .before in
     let n = y .before .before .before .before in
     let b = n .before .before .before .before in
-    let w = b .before .before .before .before .before in
-    (put-then _ _ (w .put-word .ensures .0) (put-then _ _ (b .put-bytes .ensures) (put-then _ _ (n .put-number .ensures .0) (y .put-byte .ensures .0))),
-      omega (arith, w .put-word .ensures .1, b .put-bytes .ensures .next, n .put-number .ensures .1, y .put-byte .ensures .1))
+    let w = b .before .before .before .before .before in (
+      put-then _ _ (w .put-word .ensures .0) (put-then _ _ (b .put-bytes .ensures) (put-then _ _ (n .put-number .ensures .0) (y .put-byte .ensures .0))),
+      omega (arith, w .put-word .ensures .1, b .put-bytes .ensures .next, n .put-number .ensures .1, y .put-byte .ensures .1),
+    )
 
 pub close-spec : {M : Type 1} → statement M
 close-spec =

@@ -42,8 +42,12 @@ returns-4 c =
     let u = c .before .before in
     let e = u .before in
     let s = e .before .before .before .args .s .now in
-    simp (ne-eqb _ _ (e .before .if1 .left), le-ltb (length s) 4 (e .if2 .left), le-ltb 32768 (le32 s 0) (omega (arith, u .u32-at .ensures, c .before .if3 .left)),
-    lt-ltb (length s) (4 + le32 s 0) (omega (arith, u .u32-at .ensures, c .if4 .taken)))
+    simp (
+      ne-eqb _ _ (e .before .if1 .left),
+      le-ltb (length s) 4 (e .if2 .left),
+      le-ltb 32768 (le32 s 0) (omega (arith, u .u32-at .ensures, c .before .if3 .left)),
+      lt-ltb (length s) (4 + le32 s 0) (omega (arith, u .u32-at .ensures, c .if4 .taken)),
+    )
 
 returns-5 : tie.Need-returns-5
 unfolding nextIn

@@ -19,8 +19,8 @@ use Rattle.lines.proofs.line.Tie as tie
 -- what the text's end says
 ended : (c : tie.After-behind)
     → TextPut (c .before .before .before .before .before .before .before .before .before .before .before .before .args .rec .now)
-      (c .before .before .before .before .before .before .before .before .put-number .last .1 .0) (c .before .before .before .before .before .before .before .before .put-number .result)
-      (Text.End (c .behind .given .0 .0)) (c .before .before .before .before .put-text .last .1 .0)
+    (c .before .before .before .before .before .before .before .before .put-number .last .1 .0) (c .before .before .before .before .before .before .before .before .put-number .result)
+    (Text.End (c .behind .given .0 .0)) (c .before .before .before .before .put-text .last .1 .0)
 ended c =
     let t = c .before .before .before .before in
     let p = t .before .before .before .before in
@@ -75,10 +75,11 @@ returns c =
     let why = w .why .given .0 .0 in
     let e : TextPut (a .rec .now) (p .put-number .last .1 .0) (p .put-number .result) (Text.Refused why) (t .put-text .last .1 .0) =
     subst (λ (x : Text). TextPut (a .rec .now) (p .put-number .last .1 .0) (p .put-number .result) x (t .put-text .last .1 .0)) (w .why .given .1) (t .put-text .ensures) in
-    let v = tabbed (refusedFields (numberOf why)) in
-    (put-as (decimal (a .number) ++ v) (sym (line-no-text (a .number) (a .rec .now) why (e .0))) refl refl
-    (put-then (decimal (a .number)) v (p .put-number .ensures .0) (put-then [] v (e .1) (r .put-refusal .ensures .0))),
-      omega (arith, p .put-number .ensures .1, r .put-refusal .ensures .1))
+    let v = tabbed (refusedFields (numberOf why)) in (
+      put-as (decimal (a .number) ++ v) (sym (line-no-text (a .number) (a .rec .now) why (e .0))) refl refl
+          (put-then (decimal (a .number)) v (p .put-number .ensures .0) (put-then [] v (e .1) (r .put-refusal .ensures .0))),
+      omega (arith, p .put-number .ensures .1, r .put-refusal .ensures .1),
+    )
 
 same-length-2 : tie.Need-same-length-2
 same-length-2 c = search needs
@@ -96,10 +97,11 @@ returns-2 c =
     let why = w .why2 .given .0 .0 in
     let e = ended h in
     let v = tabbed (refusedFields (numberOf why)) in
-    let k = put-dropped _ (omega (arith, p .put-number .ensures .0 .same, p .put-number .ensures .1, s .pre)) (e .2) in
-    (put-as (decimal (a .number) ++ v) (sym (line-no-row (a .number) (a .rec .now) (e .0) _ (e .1) why (sym (o .row-of .ensures) ∙ w .why2 .given .1))) refl refl
-    (put-then (decimal (a .number)) v (p .put-number .ensures .0) (put-then [] v k (r .put-refusal2 .ensures .0))),
-      omega (arith, p .put-number .ensures .1, r .put-refusal2 .ensures .1))
+    let k = put-dropped _ (omega (arith, p .put-number .ensures .0 .same, p .put-number .ensures .1, s .pre)) (e .2) in (
+      put-as (decimal (a .number) ++ v) (sym (line-no-row (a .number) (a .rec .now) (e .0) _ (e .1) why (sym (o .row-of .ensures) ∙ w .why2 .given .1))) refl refl
+          (put-then (decimal (a .number)) v (p .put-number .ensures .0) (put-then [] v k (r .put-refusal2 .ensures .0))),
+      omega (arith, p .put-number .ensures .1, r .put-refusal2 .ensures .1),
+    )
 
 same-length-3 : tie.Need-same-length-3
 same-length-3 c = search needs
@@ -116,10 +118,11 @@ returns-3 c =
     let row = w .row .given .0 .0 in
     let e = ended h in
     let x : List ℕ = 9 ∷ orStar (textOf (recordOps (a .rec .now))) in
-    let v = tabbed (rowFields row) in
-    (put-as (decimal (a .number) ++ (x ++ v)) (sym (line-row (a .number) (a .rec .now) (e .0) _ (e .1) row (sym (o .row-of .ensures) ∙ w .row .given .1))) refl refl
-    (put-then (decimal (a .number)) (x ++ v) (p .put-number .ensures .0) (put-then x v (e .2) (r .put-row .ensures .0))),
-      omega (arith, p .put-number .ensures .1, e .3, r .put-row .ensures .1))
+    let v = tabbed (rowFields row) in (
+      put-as (decimal (a .number) ++ (x ++ v)) (sym (line-row (a .number) (a .rec .now) (e .0) _ (e .1) row (sym (o .row-of .ensures) ∙ w .row .given .1))) refl refl
+          (put-then (decimal (a .number)) (x ++ v) (p .put-number .ensures .0) (put-then x v (e .2) (r .put-row .ensures .0))),
+      omega (arith, p .put-number .ensures .1, e .3, r .put-row .ensures .1),
+    )
 
 pub line-spec : {M : Type 1} → statement M
 line-spec =

@@ -38,10 +38,11 @@ returns c =
     let f = e .before .before .before .before in
     let n = f .before .before in
     let w = n .before .before .before in
-    let k = n .number .result in
-    (put-as _ (ap (λ (k : ℕ). 9 ∷ 114 ∷ 101 ∷ 102 ∷ 117 ∷ 115 ∷ 101 ∷ 100 ∷ 9 ∷ (decimal k ++ (10 ∷ []))) (n .number .ensures)) refl refl
-    (put-then (9 ∷ 114 ∷ 101 ∷ 102 ∷ 117 ∷ 115 ∷ 101 ∷ 100 ∷ []) ((9 ∷ decimal k) ++ (10 ∷ [])) (w .put-bytes .ensures) (put-then (9 ∷ decimal k) (10 ∷ []) (f .put-field .ensures .0) (e .put-byte .ensures .0))),
-      omega (arith, w .put-bytes .ensures .next, f .put-field .ensures .1, e .put-byte .ensures .1))
+    let k = n .number .result in (
+      put-as _ (ap (λ (k : ℕ). 9 ∷ 114 ∷ 101 ∷ 102 ∷ 117 ∷ 115 ∷ 101 ∷ 100 ∷ 9 ∷ (decimal k ++ (10 ∷ []))) (n .number .ensures)) refl refl
+          (put-then (9 ∷ 114 ∷ 101 ∷ 102 ∷ 117 ∷ 115 ∷ 101 ∷ 100 ∷ []) ((9 ∷ decimal k) ++ (10 ∷ [])) (w .put-bytes .ensures) (put-then (9 ∷ decimal k) (10 ∷ []) (f .put-field .ensures .0) (e .put-byte .ensures .0))),
+      omega (arith, w .put-bytes .ensures .next, f .put-field .ensures .1, e .put-byte .ensures .1),
+    )
 
 pub put-refusal-spec : {M : Type 1} → statement M
 put-refusal-spec =

@@ -61,9 +61,10 @@ returns c =
     let v = five-is s₂ in
     let p₁ = put-as _ (ap (λ (z : ℤ). 9 ∷ signedDecimal z) r) refl refl (s₁ .put-signed .ensures .0) in
     let p₃ = put-as _ (ap (λ (z : ℤ). 9 ∷ signedDecimal z) v) refl refl (s₂ .put-signed2 .ensures .0) in
-    let p₅ = put-as _ (ap (λ (n : ℕ). 9 ∷ decimal n) (g .flag .ensures)) refl refl (f₃ .put-field3 .ensures .0) in
-    (put-then _ _ p₁ (put-then _ _ (f₁ .put-field .ensures .0) (put-then _ _ p₃ (put-then _ _ (f₂ .put-field2 .ensures .0) (put-then _ _ p₅ (y .put-byte .ensures .0))))),
-      omega (arith, s₁ .put-signed .ensures .1, f₁ .put-field .ensures .1, s₂ .put-signed2 .ensures .1, f₂ .put-field2 .ensures .1, f₃ .put-field3 .ensures .1, y .put-byte .ensures .1))
+    let p₅ = put-as _ (ap (λ (n : ℕ). 9 ∷ decimal n) (g .flag .ensures)) refl refl (f₃ .put-field3 .ensures .0) in (
+      put-then _ _ p₁ (put-then _ _ (f₁ .put-field .ensures .0) (put-then _ _ p₃ (put-then _ _ (f₂ .put-field2 .ensures .0) (put-then _ _ p₅ (y .put-byte .ensures .0))))),
+      omega (arith, s₁ .put-signed .ensures .1, f₁ .put-field .ensures .1, s₂ .put-signed2 .ensures .1, f₂ .put-field2 .ensures .1, f₃ .put-field3 .ensures .1, y .put-byte .ensures .1),
+    )
 
 pub put-row-spec : {M : Type 1} → statement M
 put-row-spec =

@@ -23,9 +23,9 @@ width n = omega arith
 
 text : (c : tie.After-cigar-to-bytes-into) (n : ℕ) → c .cigar-to-bytes-into .result ≡ Count.Number n
     → TextAt (c .before .before .before .before .before .before .before .before .args .rec .now) (c .before .before .before .before .before .before .before .before .args .out .now)
-      (c .before .before .before .before .before .before .before .before .args .at) (c .before .before .before .before .put-byte .result) n
-      (putMid (c .before .before .before .before .put-byte .result) (c .before .before .before .before .put-byte .result + 65536 - c .before .before .before .before .put-byte .result)
-      (c .before .before .before .before .put-byte .last .1 .0) (c .cigar-to-bytes-into .last .1 .0))
+    (c .before .before .before .before .before .before .before .before .args .at) (c .before .before .before .before .put-byte .result) n
+    (putMid (c .before .before .before .before .put-byte .result) (c .before .before .before .before .put-byte .result + 65536 - c .before .before .before .before .put-byte .result)
+    (c .before .before .before .before .put-byte .last .1 .0) (c .cigar-to-bytes-into .last .1 .0))
 text c n e =
     let m = c .before .before .before .before in
     let s = m .before .before .before .before in
