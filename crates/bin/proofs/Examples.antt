@@ -5,7 +5,8 @@ use Rattle.signed.specs.Whole.{checked, sideOf}
 use Rattle.answers.specs.declared.Nat.{Nat}
 use Rattle.answers.specs.declared.Nat.the-variants.{Number, Refused}
 use Rattle.answers.specs.declared.Refusal.the-variants.{Overflow}
-use Rattle.bin.specs.Bin.{eqℤ, low16, firstAgreed, binTo, reg2bin}
+use Rattle.signed.specs.Equal.{eqℤ}
+use Rattle.bin.specs.Bin.{low16, firstAgreed, binTo, reg2bin}
 
 pub p10 : (reg2bin (pos 0) (pos 1) ≡ Number 4681) × ((reg2bin (pos 16383) (pos 16385) ≡ Number 585) × ((reg2bin (pos 131071) (pos 131073) ≡ Number 73) × (reg2bin (pos 0) (pos 536870912) ≡ Number 0)))
 unfolding checked sideOf eqℤ low16 firstAgreed binTo reg2bin

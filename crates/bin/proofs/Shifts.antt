@@ -12,7 +12,8 @@ use mir.Val.{SFits, ofZ, toZ}
 use mir.Facts.{toZ-ofZ}
 use mir.ValLaws.{sfits-le}
 use Rattle.signed.specs.Whole.{raised}
-use Rattle.bin.specs.Bin.{shr, eqℤ, low16, firstAgreed, binOf}
+use Rattle.signed.specs.Equal.{eqℤ}
+use Rattle.bin.specs.Bin.{shr, low16, firstAgreed, binOf}
 
 pub shr-fits : (z : ℤ) (k : ℕ) → SFits w32 z → SFits w32 (shr z k)
 shr-fits z k f = sfits-le (mag-shr z (2 ^ k)) f

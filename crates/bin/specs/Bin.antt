@@ -1,12 +1,13 @@
 -- Document 01, module 11: "Offsets 4681, 585, 73, 9, 1 at shifts 14, 17, 20, 23, 26: the first shift at which beg and end-1 agree; else 0.
 -- The low 16 bits are kept." On every pair of i32; shifts round down.
 use Prim.Native.Nat.{ℕ, _+_, _-_, _/_, _%_, _^_}
-use mathlib.Core.Bool.{Bool, true, false, cond}
+use mathlib.Core.Bool.{cond}
 use mathlib.Core.List.{List, [], _∷_}
-use lib.Dec.{eqb, ltb}
+use lib.Dec.{ltb}
 use lib.ListN.{length, set}
 use lib.IntN.{ℤ, pos, negsuc, _+ℤ_, _-ℤ_}
 use lib.Signed.{shrZ, ltZ}
+use Rattle.signed.specs.Equal.{eqℤ}
 use Rattle.signed.specs.Whole.{checked}
 use Rattle.signed.specs.declared.Sum.{Sum}
 use Rattle.signed.specs.declared.Sum.the-variants as Sum
@@ -20,12 +21,6 @@ use Rattle.answers.specs.declared.Nat.the-variants.{Number, Refused}
 -- z / 2^k, rounded down
 abbrev pub shr : ℤ → ℕ → ℤ
 shr z k = shrZ z (2 ^ k)
-
-unfoldable pub eqℤ : ℤ → ℤ → Bool
-eqℤ (pos a) (pos b) = eqb a b
-eqℤ (pos a) (negsuc b) = false
-eqℤ (negsuc a) (pos b) = false
-eqℤ (negsuc a) (negsuc b) = eqb a b
 
 -- a level: its shift and its offset
 pub record Level : Type 0 where

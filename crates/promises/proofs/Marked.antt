@@ -10,7 +10,8 @@ use Rattle.strict_text.specs.Text.{place, letterCode, nextOf, rowFrom, opsFrom}
 use Rattle.strict_text.specs.Valid.{isEmpty, allHard, anyRef, each, validMapped}
 use Rattle.strict_text.specs.Parsed.{strict, parsed}
 use Rattle.lookup.specs.Lookup.{look, lookup}
-use Rattle.bin.specs.Bin.{eqℤ, low16, firstAgreed, binTo, reg2bin}
+use Rattle.signed.specs.Equal.{eqℤ}
+use Rattle.bin.specs.Bin.{low16, firstAgreed, binTo, reg2bin}
 use Rattle.promises.specs.Marked.{marked, calls, sayings}
 
 pub p1-to-p10 : calls marked ≡ sayings marked
