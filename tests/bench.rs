@@ -1,5 +1,5 @@
-// Times each public call of the port beside the original's, on the same inputs in one process. A function is called through a pointer that the
-// compiler can't see through, so that neither side is inlined into the loop. Buffers that the port is lent are made once and not cleared.
+// Times each public call of the port beside the original's, on the same inputs in one process, one call that is not inlined on either side: the original
+// through a pointer that the compiler can't see through, the port's C function from its binding. Buffers that the port is lent are made once and not cleared.
 #[allow(dead_code)]
 #[path = "../bindings/rust/src/lib.rs"]
 mod port;
@@ -65,7 +65,7 @@ fn row(name: &str, n: usize, note: &str, original: impl FnMut(usize), port: impl
 macro_rules! pair {
     ($name:expr, $n:expr, $note:expr, $original:expr => $t:ty, $port:expr => $u:ty, |$i:ident, $f:ident| $call:expr, |$j:ident, $g:ident| $own:expr) => {{
         let $f: $t = black_box($original);
-        let $g: $u = black_box($port);
+        let $g: $u = $port;
         row($name, $n, $note, |$i| { black_box($call); }, |$j| { black_box($own).ok(); });
     }};
 }
@@ -114,7 +114,7 @@ fn texts(n: usize, random: &mut Random) {
     let mut out = vec![0u32; n + 2];
     pair!("parse_cigar_string_ops", n, "the Rust allocates", overlap::parse_cigar_string_ops => fn(&str) -> Option<Vec<u32>>, port::parse_cigar_string_ops => fn(&[u8], &mut [u32]) -> Result<usize, port::Refusal>, |i, f| f(&t[i]), |i, g| g(t[i].as_bytes(), &mut out));
     for reverse in [false, true] {
-        let (f, g) = (black_box(cigar::mate_unclipped_5prime as fn(i32, bool, &[u8]) -> i32), black_box(port::mate_unclipped_5prime as fn(i32, bool, &[u8]) -> i32));
+        let (f, g) = (black_box(cigar::mate_unclipped_5prime as fn(i32, bool, &[u8]) -> i32), port::mate_unclipped_5prime);
         let name = if reverse { "mate_unclipped_5prime, reverse" } else { "mate_unclipped_5prime, forward" };
         row(name, n, "", |i| { black_box(f(1000, reverse, t[i].as_bytes())); }, |i| { black_box(g(1000, reverse, t[i].as_bytes())); });
     }
@@ -128,6 +128,6 @@ fn main() {
         records(n, random);
         texts(n, random);
     }
-    let (f, g) = (black_box(bin::reg2bin as fn(i32, i32) -> u16), black_box(port::reg2bin as fn(i32, i32) -> Result<u16, port::Refusal>));
+    let (f, g) = (black_box(bin::reg2bin as fn(i32, i32) -> u16), port::reg2bin);
     row("reg2bin", 1, "", |i| { black_box(f(i as i32 * 1000, i as i32 * 3000 + 7)); }, |i| { black_box(g(i as i32 * 1000, i as i32 * 3000 + 7)).ok(); });
 }
