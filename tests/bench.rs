@@ -43,30 +43,31 @@ fn record(random: &mut Random, ops: &[u32], reverse: bool, mate: i32) -> Vec<u8>
     r
 }
 
-/// The best of nine runs, in nanoseconds a call.
-fn time(calls: usize, mut run: impl FnMut(usize)) -> f64 {
-    let mut best = f64::MAX;
-    for _ in 0..9 {
-        let start = Instant::now();
-        for i in 0..calls {
-            run(i % INPUTS);
-        }
-        best = best.min(start.elapsed().as_nanos() as f64 / calls as f64);
+/// Nanoseconds a call of one run.
+fn time(calls: usize, run: &mut impl FnMut(usize)) -> f64 {
+    let start = Instant::now();
+    for i in 0..calls {
+        run(i % INPUTS);
     }
-    best
+    start.elapsed().as_nanos() as f64 / calls as f64
 }
 
-fn row(name: &str, n: usize, note: &str, original: impl FnMut(usize), port: impl FnMut(usize)) {
+/// A line of the output: the best of eleven runs of each side, in turns.
+fn row(name: &str, n: usize, note: &str, mut original: impl FnMut(usize), mut port: impl FnMut(usize)) {
     let calls = (2_000_000 / (n + 20)).max(200);
-    let (rust, own) = (time(calls, original), time(calls, port));
-    println!("| `{name}` | {n} | {rust:.1} | {own:.1} | {:.2} | {note} |", own / rust);
+    let (mut rust, mut own) = (f64::MAX, f64::MAX);
+    for _ in 0..11 {
+        rust = rust.min(time(calls, &mut original));
+        own = own.min(time(calls, &mut port));
+    }
+    println!("{name}\t{n}\t{rust:.1}\t{own:.1}\t{note}");
 }
 
 macro_rules! pair {
     ($name:expr, $n:expr, $note:expr, $original:expr => $t:ty, $port:expr => $u:ty, |$i:ident, $f:ident| $call:expr, |$j:ident, $g:ident| $own:expr) => {{
         let $f: $t = black_box($original);
         let $g: $u = $port;
-        row($name, $n, $note, |$i| { black_box($call); }, |$j| { black_box($own).ok(); });
+        row($name, $n, $note, |$i| { black_box($call); }, |$j| { let _ = black_box($own); });
     }};
 }
 
@@ -83,7 +84,8 @@ fn lists(n: usize, random: &mut Random) {
         let name = if start { "clip_cigar_ops_raw, start" } else { "clip_cigar_ops_raw, end" };
         pair!(name, n, "the Rust allocates", cigar::clip_cigar_ops_raw => fn(&[u32], usize, bool) -> (Vec<u32>, usize), port::clip_cigar_ops_raw => fn(&[u32], usize, bool, &mut [u32]) -> Result<(usize, usize), port::Refusal>, |i, f| f(&l[i], 160, start), |i, g| g(&l[i], 160, start, &mut out));
     }
-    pair!("bases_extending_past_mate_ops", n, "", overlap::bases_extending_past_mate_ops => fn(bool, i32, &[u32], i32, &[u32]) -> usize, port::bases_extending_past_mate_ops => fn(bool, i32, &[u32], i32, &[u32]) -> Result<usize, port::Refusal>, |i, f| f(false, 1000, &l[i], 1010, &l[(i + 1) % INPUTS]), |i, g| g(false, 1000, &l[i], 1010, &l[(i + 1) % INPUTS]));
+    let mate = |i: usize| &l[(i + 1) % INPUTS];
+    pair!("bases_extending_past_mate_ops", n, "", overlap::bases_extending_past_mate_ops => fn(bool, i32, &[u32], i32, &[u32]) -> usize, port::bases_extending_past_mate_ops => fn(bool, i32, &[u32], i32, &[u32]) -> Result<usize, port::Refusal>, |i, f| f(false, 1000, &l[i], 1010, mate(i)), |i, g| g(false, 1000, &l[i], 1010, mate(i)));
 }
 
 fn records(n: usize, random: &mut Random) {
@@ -93,6 +95,8 @@ fn records(n: usize, random: &mut Random) {
     let (mut out, mut text) = (vec![0u32; n + 2], vec![0u8; 12 * n]);
     let mut string = Vec::new();
     pair!("get_cigar_ops", n, "the Rust allocates", cigar::get_cigar_ops => fn(&[u8]) -> Vec<u32>, port::get_cigar_ops => fn(&[u8], &mut [u32]) -> Result<usize, port::Refusal>, |i, f| f(&r[i]), |i, g| g(&r[i], &mut out));
+    pair!("cigar_raw_bytes", n, "", |x: &[u8]| RawRecordView::new(x).cigar_raw_bytes().len() => fn(&[u8]) -> usize, port::cigar_raw_bytes => fn(&[u8]) -> Result<&[u8], port::Refusal>, |i, f| f(&r[i]), |i, g| g(&r[i]));
+    pair!("reference_length_from_raw_bam", n, "", cigar::reference_length_from_raw_bam => fn(&[u8]) -> i32, port::reference_length_from_raw_bam => fn(&[u8]) -> i32, |i, f| f(&r[i]), |i, g| g(&r[i]));
     pair!("reference_length_from_raw_bam_checked", n, "", cigar::reference_length_from_raw_bam_checked => fn(&[u8]) -> Option<i32>, port::reference_length_from_raw_bam_checked => fn(&[u8]) -> Result<i32, port::Refusal>, |i, f| f(&r[i]), |i, g| g(&r[i]));
     pair!("query_length", n, "", |x: &[u8]| RawRecordView::new(x).query_length() => fn(&[u8]) -> usize, port::query_length => fn(&[u8]) -> Result<usize, port::Refusal>, |i, f| f(&r[i]), |i, g| g(&r[i]));
     pair!("cigar_lengths", n, "", |x: &[u8]| RawRecordView::new(x).cigar_lengths() => fn(&[u8]) -> (i32, usize), port::cigar_lengths => fn(&[u8]) -> Result<(i32, usize), port::Refusal>, |i, f| f(&r[i]), |i, g| g(&r[i]));
@@ -100,8 +104,18 @@ fn records(n: usize, random: &mut Random) {
     pair!("cigar_to_string_from_raw", n, "the Rust allocates", cigar::cigar_to_string_from_raw => fn(&[u8]) -> String, port::cigar_to_bytes_into => fn(&[u8], &mut [u8]) -> Result<usize, port::Refusal>, |i, f| f(&r[i]), |i, g| g(&r[i], &mut text));
     pair!("unclipped_5prime_from_raw_bam, forward", n, "", cigar::unclipped_5prime_from_raw_bam => fn(&[u8]) -> i32, port::unclipped_5prime_from_raw_bam => fn(&[u8]) -> Result<i32, port::Refusal>, |i, f| f(&r[i]), |i, g| g(&r[i]));
     pair!("unclipped_5prime_from_raw_bam, reverse", n, "", cigar::unclipped_5prime_from_raw_bam => fn(&[u8]) -> i32, port::unclipped_5prime_from_raw_bam => fn(&[u8]) -> Result<i32, port::Refusal>, |i, f| f(&b[i]), |i, g| g(&b[i]));
+    for (name, reverse) in [("unclipped_5prime_raw, forward", false), ("unclipped_5prime_raw, reverse", true)] {
+        pair!(name, n, "", cigar::unclipped_5prime_raw => fn(&[u8], i32, bool) -> i32, port::unclipped_5prime_raw => fn(&[u8], i32, bool) -> Result<i32, port::Refusal>, |i, f| f(&r[i], 1000, reverse), |i, g| g(&r[i], 1000, reverse));
+    }
+    pair!("alignment_start_from_raw", n, "", cigar::alignment_start_from_raw => fn(&[u8]) -> Option<usize>, port::alignment_start_from_raw => fn(&[u8]) -> Result<Option<usize>, port::Refusal>, |i, f| f(&r[i]), |i, g| g(&r[i]));
     pair!("alignment_end_from_raw", n, "", cigar::alignment_end_from_raw => fn(&[u8]) -> Option<usize>, port::alignment_end_from_raw => fn(&[u8]) -> Result<Option<usize>, port::Refusal>, |i, f| f(&r[i]), |i, g| g(&r[i]));
     pair!("bin_from_raw_bam", n, "", bin::bin_from_raw_bam => fn(&[u8]) -> u16, port::bin_from_raw_bam => fn(&[u8]) -> Result<u16, port::Refusal>, |i, f| f(&r[i]), |i, g| g(&r[i]));
+    for start in [true, false] {
+        let name = if start { "clip_cigar_ops, start" } else { "clip_cigar_ops, end" };
+        pair!(name, n, "the Rust allocates", |x: &[u8], amount, at| RawRecordView::new(x).clip_cigar_ops(amount, at) => fn(&[u8], usize, bool) -> (Vec<u32>, usize), port::clip_cigar_ops => fn(&[u8], usize, bool, &mut [u32]) -> Result<(usize, usize), port::Refusal>, |i, f| f(&r[i], 160, start), |i, g| g(&r[i], 160, start, &mut out));
+    }
+    pair!("is_mapped_opposite_strand_pair_raw", n, "", overlap::is_mapped_opposite_strand_pair_raw => fn(&[u8]) -> bool, port::is_mapped_opposite_strand_pair_raw => fn(&[u8]) -> Result<bool, port::Refusal>, |i, f| f(&r[i]), |i, g| g(&r[i]));
+    pair!("is_fr_pair_raw", n, "", overlap::reach::is_fr_pair_raw => fn(&[u8]) -> bool, port::is_fr_pair_raw => fn(&[u8]) -> Result<bool, port::Refusal>, |i, f| f(&r[i]), |i, g| g(&r[i]));
     pair!("is_primary_fr_pair_raw", n, "", overlap::is_primary_fr_pair_raw => fn(&[u8], &[u8]) -> bool, port::is_primary_fr_pair_raw => fn(&[u8], &[u8]) -> Result<bool, port::Refusal>, |i, f| f(&r[i], &b[i]), |i, g| g(&r[i], &b[i]));
     pair!("num_bases_extending_past_mate_cigar_raw", n, "the Rust allocates", overlap::num_bases_extending_past_mate_cigar_raw => fn(&[u8], &[u32]) -> usize, port::num_bases_extending_past_mate_cigar_raw => fn(&[u8], &[u32]) -> Result<usize, port::Refusal>, |i, f| f(&r[i], &l[i]), |i, g| g(&r[i], &l[i]));
     pair!("num_bases_extending_past_mate_vs_mate_raw", n, "the Rust allocates", overlap::num_bases_extending_past_mate_vs_mate_raw => fn(&[u8], &[u8]) -> usize, port::num_bases_extending_past_mate_vs_mate_raw => fn(&[u8], &[u8]) -> Result<usize, port::Refusal>, |i, f| f(&r[i], &b[i]), |i, g| g(&r[i], &b[i]));
@@ -114,20 +128,45 @@ fn texts(n: usize, random: &mut Random) {
     let mut out = vec![0u32; n + 2];
     pair!("parse_cigar_string_ops", n, "the Rust allocates", overlap::parse_cigar_string_ops => fn(&str) -> Option<Vec<u32>>, port::parse_cigar_string_ops => fn(&[u8], &mut [u32]) -> Result<usize, port::Refusal>, |i, f| f(&t[i]), |i, g| g(t[i].as_bytes(), &mut out));
     for reverse in [false, true] {
-        let (f, g) = (black_box(cigar::mate_unclipped_5prime as fn(i32, bool, &[u8]) -> i32), port::mate_unclipped_5prime);
-        let name = if reverse { "mate_unclipped_5prime, reverse" } else { "mate_unclipped_5prime, forward" };
-        row(name, n, "", |i| { black_box(f(1000, reverse, t[i].as_bytes())); }, |i| { black_box(g(1000, reverse, t[i].as_bytes())); });
+        let end = if reverse { "reverse" } else { "forward" };
+        pair!(&format!("mate_unclipped_5prime, {end}"), n, "", cigar::mate_unclipped_5prime => fn(i32, bool, &[u8]) -> i32, port::mate_unclipped_5prime => fn(i32, bool, &[u8]) -> i32, |i, f| f(1000, reverse, t[i].as_bytes()), |i, g| g(1000, reverse, t[i].as_bytes()));
+        pair!(&format!("mate_unclipped_5prime_1based, {end}"), n, "", cigar::mate_unclipped_5prime_1based => fn(i32, bool, &[u8]) -> i32, port::mate_unclipped_5prime_1based => fn(i32, bool, &[u8]) -> i32, |i, f| f(1000, reverse, t[i].as_bytes()), |i, g| g(1000, reverse, t[i].as_bytes()));
     }
+    let r: Vec<Vec<u8>> = (0..INPUTS).map(|_| { let ops = list(random, n); record(random, &ops, false, 2000) }).collect();
+    pair!("num_bases_extending_past_mate_text_raw", n, "the Rust allocates", |x: &[u8], y: &str| overlap::parse_cigar_string_ops(y).map(|ops| overlap::num_bases_extending_past_mate_cigar_raw(x, &ops)) => fn(&[u8], &str) -> Option<usize>, port::num_bases_extending_past_mate_text_raw => fn(&[u8], &[u8], &mut [u32]) -> Result<(usize, usize), port::Refusal>, |i, f| f(&r[i], &t[i]), |i, g| g(&r[i], t[i].as_bytes(), &mut out));
+}
+
+macro_rules! fields {
+    ($r:expr, $($name:ident: $t:ty),*) => {
+        $(pair!(stringify!($name), 1, "", |x: &[u8]| RawRecordView::new(x).$name() => fn(&[u8]) -> $t, port::$name => fn(&[u8]) -> Result<$t, port::Refusal>, |i, f| f(&$r[i]), |i, g| g(&$r[i]));)*
+    };
+}
+
+fn single(random: &mut Random) {
+    let r: Vec<Vec<u8>> = (0..INPUTS).map(|_| record(random, &[480], false, 2000)).collect();
+    let (mut theirs, mut own) = (r.clone(), r.clone());
+    fields!(r, ref_id: i32, pos: i32, l_read_name: u8, bin: u16, n_cigar_op: u16, flags: u16, l_seq: u32, mate_ref_id: i32, mate_pos: i32, template_length: i32);
+    pair!("set_bin_from_raw_bam", 1, "", bin::set_bin_from_raw_bam => fn(&mut [u8]), port::set_bin_from_raw_bam => fn(&mut [u8]) -> Result<u16, port::Refusal>, |i, f| f(&mut theirs[i]), |i, g| g(&mut own[i]));
+    pair!("reg2bin", 1, "", bin::reg2bin => fn(i32, i32) -> u16, port::reg2bin => fn(i32, i32) -> Result<u16, port::Refusal>, |i, f| f(i as i32 * 1000, i as i32 * 3000 + 7), |i, g| g(i as i32 * 1000, i as i32 * 3000 + 7));
+    pair!("consumes_ref", 1, "", cigar::consumes_ref => fn(u32) -> bool, port::consumes_ref => fn(u32) -> bool, |i, f| f(i as u32), |i, g| g(i as u32));
+    pair!("consumes_query", 1, "", cigar::consumes_query => fn(u32) -> bool, port::consumes_query => fn(u32) -> bool, |i, f| f(i as u32), |i, g| g(i as u32));
+    pair!("consumes_read", 1, "", cigar::consumes_read => fn(u32) -> bool, port::consumes_read => fn(u32) -> bool, |i, f| f(i as u32), |i, g| g(i as u32));
+    let (kinds, own): (Vec<_>, Vec<_>) = (0..9).map(|k| (cigar::CigarKind::from_op_type(k).unwrap(), port::CigarKind::from_op_type(k).unwrap())).unzip();
+    pair!("as_char", 1, "", cigar::CigarKind::as_char => fn(cigar::CigarKind) -> char, port::CigarKind::as_char => fn(port::CigarKind) -> char, |i, f| f(kinds[i % 9]), |i, g| g(own[i % 9]));
+    pair!("from_op_type", 1, "", cigar::CigarKind::from_op_type => fn(u32) -> Option<cigar::CigarKind>, port::CigarKind::from_op_type => fn(u32) -> Option<port::CigarKind>, |i, f| f(i as u32), |i, g| g(i as u32));
+    pair!("op_consumes_query", 1, "", |x| cigar::CigarOp::from_raw(x).consumes_query() => fn(u32) -> bool, |x| port::CigarOp::from_raw(x).consumes_query() => fn(u32) -> bool, |i, f| f(i as u32), |i, g| g(i as u32));
+    pair!("op_consumes_ref", 1, "", |x| cigar::CigarOp::from_raw(x).consumes_ref() => fn(u32) -> bool, |x| port::CigarOp::from_raw(x).consumes_ref() => fn(u32) -> bool, |i, f| f(i as u32), |i, g| g(i as u32));
+    pair!("op_kind", 1, "", |x| cigar::CigarOp::from_raw(x).kind() => fn(u32) -> cigar::CigarKind, |x| port::CigarOp::from_raw(x).kind() => fn(u32) -> port::CigarKind, |i, f| f(i as u32 % 9), |i, g| g(i as u32 % 9));
+    pair!("op_len", 1, "", |x| cigar::CigarOp::from_raw(x).len() => fn(u32) -> u32, |x| port::CigarOp::from_raw(x).len() => fn(u32) -> u32, |i, f| f(i as u32), |i, g| g(i as u32));
+    pair!("op_new", 1, "", |x| cigar::CigarOp::new(cigar::CigarKind::Match, x) => fn(u32) -> cigar::CigarOp, |x| port::CigarOp::new(port::CigarKind::Match, x) => fn(u32) -> Result<port::CigarOp, port::Refusal>, |i, f| f(i as u32 + 1), |i, g| g(i as u32 + 1));
 }
 
 fn main() {
-    println!("| Call | ops | Rust, ns | port, ns | ratio | |\n|---|---|---|---|---|---|");
     let random = &mut Random(7);
     for n in [1, 3, 10, 100, 10_000] {
         lists(n, random);
         records(n, random);
         texts(n, random);
     }
-    let (f, g) = (black_box(bin::reg2bin as fn(i32, i32) -> u16), port::reg2bin);
-    row("reg2bin", 1, "", |i| { black_box(f(i as i32 * 1000, i as i32 * 3000 + 7)); }, |i| { black_box(g(i as i32 * 1000, i as i32 * 3000 + 7)).ok(); });
+    single(random);
 }
