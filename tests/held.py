@@ -5,6 +5,7 @@ import os
 import subprocess
 import sys
 
+LIMIT = 300  # seconds that any run of the driver or the oracle may take
 HERE = os.path.dirname(os.path.abspath(__file__))
 JUDGE = os.path.join(os.path.dirname(HERE), 'target', 'judge', 'judge')
 DRIVER = os.environ.get('DRIVER', os.path.join(HERE, 'driver'))
@@ -25,7 +26,7 @@ def original_at_hand():
 def ask(command, requests):
     """The answers of a command that speaks the protocol, one for each request."""
     sent = b''.join(request + b'\n' for request in requests)
-    ran = subprocess.run(command, input=sent, stdout=subprocess.PIPE)
+    ran = subprocess.run(command, input=sent, stdout=subprocess.PIPE, timeout=LIMIT)
     answers = ran.stdout.split(b'\n')[:-1]
     if ran.returncode or len(answers) != len(requests):
         sys.exit(f'{command[0]} ended with status {ran.returncode} after {len(answers)} answers to {len(requests)} requests')
@@ -34,7 +35,7 @@ def ask(command, requests):
 
 def unfinished(request):
     """What the driver answers to a last line with no newline."""
-    return subprocess.run([DRIVER], input=request, stdout=subprocess.PIPE).stdout
+    return subprocess.run([DRIVER], input=request, stdout=subprocess.PIPE, timeout=LIMIT).stdout
 
 
 def listed(values):
