@@ -5,11 +5,12 @@ use mathlib.Core.Bool.{Bool, true, false, cond}
 use mathlib.Core.List.{List, [], _∷_, _++_, append-assoc}
 use native.Mathlib.Omega.{arith}
 use lib.Dec.{ltb, eqb}
-use lib.ListN.{length, take, drop, getD, set, length-append, length-take, length-drop, length-set, List·getD-append}
+use lib.ListN.{length, take, drop, getD, set, length-append, length-take, length-drop, length-set}
 use lib.Seq.{drop-append-le, take-append-le, drop-drop, take-take, length-take-le, getD-drop, take-suc, take-suc-set, drop-set-lt}
 use borrow.Author.Tests.{lt-ltb, le-ltb, ne-eqb, ltb-false, eqb-false}
 use Rattle.lists.proofs.Walks.{done}
 use Rattle.sam.specs.Record.{le32}
+use Rattle.little.proofs.FrontLaws.{front-number}
 use Rattle.lines.specs.Line.{lineOf}
 use Rattle.puts.specs.Puts.{Put}
 use Rattle.frames.specs.Stream.{nextIn, soFar, Reports, Reports.line}
@@ -43,16 +44,12 @@ record-fits s size e = go (eqb (length s) 0) (ltb (length s) 4) refl (ltb 32768 
         let g : le32 s 0 ≡ size = cc in
         record { whole = omega (arith, ltb-false (length s) (4 + le32 s 0) r); is = sym g; small = omega (arith, ltb-false 32768 (le32 s 0) q) }
 
-same-number : (s ys : List ℕ) → 4 ≤ length s → le32 (s ++ ys) 0 ≡ le32 s 0
-same-number s ys h =
-    simp (List·getD-append s ys 0 0 (omega arith), List·getD-append s ys 0 (0 + 1) (omega arith), List·getD-append s ys 0 (0 + 2) (omega arith), List·getD-append s ys 0 (0 + 3) (omega arith))
-
 pub next-more : (s ys : List ℕ) (size : ℕ) → nextIn s ≡ Record size → nextIn (s ++ ys) ≡ Record size
 next-more s ys size e =
     let f = record-fits s size e in
     let l = length-append s ys in
     let w = f .whole in
-    next-record (s ++ ys) size (omega arith) (f .is ∙ sym (same-number s ys (omega arith))) (f .small)
+    next-record (s ++ ys) size (omega arith) (f .is ∙ sym (front-number s ys (omega arith))) (f .small)
 
 pub far-record : (whole : Bool) (n : Next) (size : ℕ) → soFar whole n ≡ Record size → n ≡ Record size
 far-record true n size e = e

@@ -1,0 +1,172 @@
+// The SAM specification's section 4.2: where the records of a BAM stream begin, found block by block wherever the stream is cut. An inner crate of the program `bam_to_cgr`.
+ghost use mathlib.Core.Path.{_≡_};
+ghost use mathlib.Core.Bool.{true, false};
+ghost use mathlib.Core.List.{List};
+ghost use Prim.Native.Nat.{ℕ, _+_, _-_, _≤_, _<_, min};
+ghost use lib.ListN.{length};
+ghost use Rattle.bam_header.specs.Header.{isBam, texted};
+ghost use Rattle.bam_header.specs.Inner.{isRecords, fromPlace, behindNumber, isReady, isBegun, Gone, Went};
+
+// What comes next in a header: the size of its text, the number of its references, or the references that are left, each behind its name's size.
+pub enum Part {
+    TextSize,
+    Count,
+    Names(u32),
+}
+
+// Where a header was left: so many bytes are to be skipped before that part.
+pub struct Place {
+    pub skip: u64,
+    pub part: Part,
+}
+
+// How far a block of input went: the bytes used, and the place behind them.
+pub struct Step {
+    pub used: usize,
+    pub place: Place,
+}
+
+// Whether a stream begins as a BAM stream does.
+pub fn magic(s: &[u8]) -> bool
+    ensures { λ r. ⌜ r ≡ isBam (now (s .entry)) ⌝ }
+{
+    if s.len() < 4 {
+        return false;
+    }
+    if s[0] != b'B' {
+        return false;
+    }
+    if s[1] != b'A' {
+        return false;
+    }
+    if s[2] != b'M' {
+        return false;
+    }
+    s[3] == 1
+}
+
+// The place behind the magic.
+pub fn start() -> Place
+    ensures { λ r. ⌜ ((s : List ℕ) → fromPlace r s ≡ texted s) ⌝ }
+{
+    Place {
+        skip: 0,
+        part: Part::TextSize,
+    }
+}
+
+// Whether a part is the records themselves.
+fn is_records(part: Part) -> bool
+    ensures { λ r. ⌜ r ≡ isRecords part ⌝ }
+{
+    match part {
+        Part::TextSize => false,
+        Part::Count => false,
+        Part::Names(left) => left == 0,
+    }
+}
+
+// Whether the records begin here.
+pub fn begun(p: Place) -> bool
+    ensures { λ r. ⌜ r ≡ isBegun p ⌝ }
+{
+    if 0 < p.skip {
+        return false;
+    }
+    let part = p.part;
+    is_records(part)
+}
+
+// Whether n bytes at hand are enough to go on.
+fn ready(p: Place, n: usize) -> bool
+    ensures { λ r. ⌜ r ≡ isReady p n ⌝ }
+{
+    if 0 < p.skip {
+        return 0 < n;
+    }
+    let part = p.part;
+    if is_records(part) {
+        return false;
+    }
+    3 < n
+}
+
+fn wide(x: u32) -> u64
+    ensures { λ r. ⌜ (r ≡ x) × (r < 4294967296) ⌝ }
+{
+    x as u64
+}
+
+// The place behind a number: a text is skipped, and a name with the length behind it.
+fn behind_number(part: Part, number: u32) -> Place
+    requires { ⌜ isRecords part ≡ false ⌝ }
+    ensures { λ r. ⌜ r ≡ behindNumber part number ⌝ }
+{
+    match part {
+        Part::TextSize => Place {
+            skip: wide(number),
+            part: Part::Count,
+        },
+        Part::Count => Place {
+            skip: 0,
+            part: Part::Names(number),
+        },
+        Part::Names(left) => Place {
+            skip: wide(number) + 4,
+            part: Part::Names(left - 1),
+        },
+    }
+}
+
+// How many of n bytes are skipped.
+fn skipped(skip: u64, n: usize) -> usize
+    ensures { λ r. ⌜ r ≡ min skip n ⌝ }
+{
+    if skip < n as u64 {
+        return skip as usize;
+    }
+    n
+}
+
+// One turn: bytes are skipped, or a number is read.
+fn turn(s: &[u8], p: Place) -> Step
+    requires { ⌜ isReady p (length (now s)) ≡ true ⌝ }
+    ensures { λ r. ⌜ Gone (now (s .entry)) p r ⌝ }
+    ensures { λ r. ⌜ 0 < r .used ⌝ }
+{
+    let part = p.part;
+    if 0 < p.skip {
+        let n = skipped(p.skip, s.len());
+        return Step {
+            used: n,
+            place: Place {
+                skip: p.skip - n as u64,
+                part: part,
+            },
+        };
+    }
+    let number = little::u32_at(s, 0);
+    Step {
+        used: 4,
+        place: behind_number(part, number),
+    }
+}
+
+// Goes as far as the bytes at hand go.
+pub fn read_on(s: &[u8], from: Place) -> Step
+    ensures { λ r. ⌜ Went (now (s .entry)) from r ⌝ }
+{
+    let mut used: usize = 0;
+    let mut place = from;
+    loop {
+        if !ready(place, s.len() - used) {
+            return Step {
+                used: used,
+                place: place,
+            };
+        }
+        let step = turn(&s[used..], place);
+        used += step.used;
+        place = step.place;
+    }
+}

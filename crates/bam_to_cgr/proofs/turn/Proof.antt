@@ -1,0 +1,51 @@
+-- The bytes used are among those at hand, and where a head goes on under four are left.
+use native.Mathlib.Omega.{arith}
+use lib.ListN.{length-take}
+use borrow.Author.Needs.{needs}
+use Rattle.bam_to_cgr.proofs.turn.Statement.{statement}
+use Rattle.bam_to_cgr.proofs.turn.Tie as tie
+
+sub-left : tie.Need-sub-left
+sub-left c = search needs
+
+shift-requires : tie.Need-shift-requires
+shift-requires c κs = search needs
+
+refill-requires : tie.Need-refill-requires
+refill-requires c κs = search needs
+
+slice-reshare-prefix-read-on : tie.Need-slice-reshare-prefix-read-on
+slice-reshare-prefix-read-on c = search needs
+
+slice-aggregate-read-on : tie.Need-slice-aggregate-read-on
+slice-aggregate-read-on c = simp length-take (omega arith)
+
+read-on-requires : tie.Need-read-on-requires
+read-on-requires c κs = search needs
+
+goes-on-requires : tie.Need-goes-on-requires
+goes-on-requires c κs = search needs
+
+same-length : tie.Need-same-length
+same-length c = search needs
+
+returns : tie.Need-returns
+returns c =
+    let k = c .before .before in
+    let l = slice-aggregate-read-on (k .before) in
+    let w = k .read-on .ensures in
+    (omega (arith, w .gone .within), k .before .before .before .before .before .refill .ensures .1, λ e. omega (arith, w .short (c .goes-on .ensures e)))
+
+pub turn-spec : {M : Type 1} → statement M
+turn-spec =
+    tie.close
+    (tie.spec
+    sub-left
+    shift-requires
+    refill-requires
+    slice-reshare-prefix-read-on
+    slice-aggregate-read-on
+    read-on-requires
+    goes-on-requires
+    same-length
+    returns)
