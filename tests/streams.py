@@ -149,6 +149,24 @@ def bam(records, text=b'@HD\tVN:1.6\n', references=((b'chr1\0', 1000),)):
         struct.pack('<I', len(name)) + name + struct.pack('<I', length) for name, length in references) + framed(records)
 
 
+NOT_BAM, HEAD_CUT = b'bam_to_cgr: not a BAM stream\n', b'bam_to_cgr: the head of the BAM stream is cut short\n'
+
+
+def converted(data):
+    """What bam_to_cgr writes of a stream, and what it says."""
+    if data[:4] != b'BAM\x01':
+        return b'', NOT_BAM
+    try:
+        at = 8 + struct.unpack_from('<I', data, 4)[0]
+        count = struct.unpack_from('<I', data, at)[0]
+        at += 4
+        for _ in range(count):
+            at += 4 + struct.unpack_from('<I', data, at)[0] + 4
+    except struct.error:
+        return b'', HEAD_CUT
+    return (MARK + data[at:], b'') if at <= len(data) else (b'', HEAD_CUT)
+
+
 EOF_MARKER = bytes.fromhex('1f8b08040000000000ff0600424302001b0003000000000000000000')
 
 
