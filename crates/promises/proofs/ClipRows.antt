@@ -8,10 +8,8 @@ use lib.Dec.{ltb}
 use Rattle.lists.specs.Lists.{sumOf}
 use Rattle.sam.specs.Op.{lenOf}
 use Rattle.sam.specs.Record.{recordOps}
-use Rattle.answers.specs.Settled.{Outcome}
 use Rattle.answers.specs.declared.Refusal.the-variants.{ShortRecord, TooManyOps, TooLong, NoRoom}
-use Rattle.clip.specs.Answer.{clippedOps, clippedCount, written, clippedInto, clippedUpTo, clipped, clippedRecord, tellClipped}
-use Rattle.clip.specs.declared.Clipped.{Clipped}
+use Rattle.clip.specs.Answer.{clippedOps, clippedInto, clippedUpTo, clipped, clippedRecord, tellClipped}
 use Rattle.clip.specs.declared.Clipped.the-variants.{Refused}
 use Rattle.promises.specs.Table.{GivesKept}
 use Rattle.promises.specs.Rows.{tooLong, noRoom, clipRows, clipRecordRows}
@@ -23,10 +21,7 @@ module _ (amount : ℕ) (start : Bool) (d : List ℕ) where
   unfolding clippedInto
   into-rows xs =
       kept-row tellClipped (ltb 268435455 (sumOf lenOf xs)) (Refused TooLong) _ d 8 refl
-      (kept-row tellClipped (ltb (length d) (length (clippedOps xs amount start))) (Refused NoRoom) done d 6 refl (kept-answer tellClipped done d refl))
-    where
-      done : Outcome Clipped
-      done = written (clippedOps xs amount start) (clippedCount xs amount start) d
+      (kept-row tellClipped (ltb (length d) (length (clippedOps xs amount start))) (Refused NoRoom) _ d 6 refl (kept-answer tellClipped refl))
 
   pub clip-cigar-ops-raw : (xs : List ℕ) → GivesKept tellClipped (clipped xs amount start d) d (clipRows xs amount start d)
   unfolding clippedUpTo

@@ -1,6 +1,6 @@
 -- Demand 3: what clip_laws proves of the contract's definition holds of each outcome that the contract admits.
 use Prim.Native.Nat.{ℕ, _≤_, _<_}
-use mathlib.Core.Path.{_≡_, ap, subst, _∙_}
+use mathlib.Core.Path.{_≡_, ap, _∙_}
 use mathlib.Core.Bool.{Bool, true}
 use mathlib.Core.List.{List}
 use lib.ListN.{length}
@@ -9,7 +9,7 @@ use Rattle.sam.specs.Record.{recordOps}
 use Rattle.answers.specs.Settled.{Outcome, Settled}
 use Rattle.clip.specs.Answer.{clippedOps, clippedCount, clipped, clippedRecord, written}
 use Rattle.clip.specs.declared.Clipped.{Clipped}
-use Rattle.clip_laws.specs.Demand3.{Takes, most, survives, EndsInsertion, ClipsOnce, ClipsTwice}
+use Rattle.clip_laws.specs.Demand3.{Takes, most, survives, EndsInsertion, ClipsOnce}
 use Rattle.clip_laws.proofs.Demand3.{clips-once, clips-twice}
 use Rattle.promises.specs.Demand3.{Answered, Once, Twice}
 

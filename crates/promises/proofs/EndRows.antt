@@ -18,7 +18,7 @@ use Rattle.lengths.specs.Lengths.{refLengthOrZero}
 use Rattle.answers.specs.Answers.{Told}
 use Rattle.answers.specs.declared.Pos0.{Pos0}
 use Rattle.answers.specs.declared.Refusal.the-variants.{ShortRecord, TooManyOps, BadStart}
-use Rattle.ends.specs.Sums.{both, _⊕_, _⊖_, total}
+use Rattle.ends.specs.Sums.{both, _⊕_, _⊖_}
 use Rattle.ends.specs.Tails.{greatestRun}
 use Rattle.ends.specs.Ends.{provided, trailingSum, unclippedStart, unclippedEnd, fivePrime, toPlace0, toPlace1, oneBased, toFound1, noOps, asUnclipped, unclippedAt, unclippedOf, asRust, unclippedFrom, alignmentStart, alignmentEnd, tellPlace0, tellPlace1, tellFound1}
 use Rattle.ends.specs.declared.Unclipped.{Unclipped}
@@ -32,15 +32,15 @@ use Rattle.answers.specs.declared.Over.{Over}
 use Rattle.answers.specs.declared.Over.the-variants.{Base, Gap, Off}
 use Rattle.promises.specs.Table.{Gives}
 use Rattle.promises.specs.Rows.{over, endSums, unclippedRows, unclippedFromRows, startRows, endRows, lookupRows}
-use Rattle.promises.proofs.RowLaws.{row, row-either, row-unless, row-sum, answer}
+use Rattle.promises.proofs.RowLaws.{number-alone, answer, row, row-either, row-unless, row-sum}
 
-module _ {A : Type 0} (tell : A → Told) (to : Sum → A) (stops : tell (to Sum.Over) .number ≡ 4) (goes : (z : ℤ) → tell (to (Sum.Number z)) .number ≡ 0) where
+module _ {A : Type 0} (tell : A → Told) (to : Sum → A) (stops : tell (to Sum.Over) ≡ number-alone 4) (goes : (z : ℤ) → tell (to (Sum.Number z)) .number ≡ 0) where
   -- the sums of an unclipped end
   end-sums : (reverse : Bool) (at : ℤ) (xs : List ℕ) → Gives (tell (to (fivePrime reverse at xs))) (over (endSums reverse at xs) ∷ [])
   unfolding fivePrime unclippedStart unclippedEnd trailingSum both
   end-sums false at xs =
       row-sum tell (λ s. to (Sum.Number at ⊖ s)) clips ((at -ℤ clips) ∷ []) stops
-      (row-sum tell to (at -ℤ clips) [] stops (record { number = goes (at -ℤ clips) }))
+      (row-sum tell to (at -ℤ clips) [] stops (answer (goes (at -ℤ clips)) refl))
     where
       clips : ℤ
       clips = pos (leadingClips xs)
@@ -49,7 +49,7 @@ module _ {A : Type 0} (tell : A → Told) (to : Sum → A) (stops : tell (to Sum
       (row-sum tell (λ s. to (s ⊕ trailingSum xs ⊖ Sum.Number (pos 1))) with-refs (most ∷ with-clips ∷ last ∷ []) stops
       (row-sum tell (λ s. to (Sum.Number with-refs ⊕ provided s (Sum.Number clips) ⊖ Sum.Number (pos 1))) most (with-clips ∷ last ∷ []) stops
       (row-sum tell (λ s. to (s ⊖ Sum.Number (pos 1))) with-clips (last ∷ []) stops
-      (row-sum tell to last [] stops (record { number = goes last })))))
+      (row-sum tell to last [] stops (answer (goes last) refl)))))
     where
       refs : ℤ
       refs = pos (sumOf refLen xs)
@@ -102,7 +102,7 @@ unfolding alignmentStart oneBased both
 alignment-start-from-raw b =
     row tellFound1 (ltb (length b) 32) (Found1.Refused ShortRecord) _ 1 refl
     (row-unless tellFound1 (ltZ (posOf b) (pos 0)) Found1.Nothing _ refl
-    (row-sum tellFound1 (λ s. toFound1 (toPlace1 s)) (posOf b +ℤ pos 1) [] refl (record { number = refl })))
+    (row-sum tellFound1 (λ s. toFound1 (toPlace1 s)) (posOf b +ℤ pos 1) [] refl (answer refl refl)))
 
 pub alignment-end-from-raw : (b : List ℕ) → Gives (tellFound1 (alignmentEnd b)) (endRows b)
 unfolding alignmentEnd both
@@ -110,7 +110,7 @@ alignment-end-from-raw b =
     row tellFound1 (ltb (length b) 32) (Found1.Refused ShortRecord) _ 1 refl
     (row-unless tellFound1 (ltZ (posOf b) (pos 0)) Found1.Nothing _ refl
     (row-unless tellFound1 (eqb (natural (refLengthOrZero b)) 0) Found1.Nothing _ refl
-    (row-sum tellFound1 (λ s. toFound1 (toPlace1 s)) (posOf b +ℤ refLengthOrZero b) [] refl (record { number = refl }))))
+    (row-sum tellFound1 (λ s. toFound1 (toPlace1 s)) (posOf b +ℤ refLengthOrZero b) [] refl (answer refl refl))))
 
 pub read-pos-at-ref-pos-raw : (xs : List ℕ) (start at : ℕ) (asked : Bool) → Gives (tellFound (lookup xs start at asked)) (lookupRows xs start)
 unfolding lookup
@@ -120,8 +120,8 @@ read-pos-at-ref-pos-raw xs start at asked =
     (never (ltb at start) (look xs (at - start) .before) asked (look xs (at - start) .over)))
   where
     never : (t : Bool) (n : ℕ) (asked : Bool) (o : Over) → Gives (tellFound (cond t Found.Nothing (readOver asked n o))) []
-    never true n asked o = record { number = refl }
-    never false n asked Base = record { number = refl }
-    never false n true Gap = record { number = refl }
-    never false n false Gap = record { number = refl }
-    never false n asked Off = record { number = refl }
+    never true n asked o = answer refl refl
+    never false n asked Base = answer refl refl
+    never false n true Gap = answer refl refl
+    never false n false Gap = answer refl refl
+    never false n asked Off = answer refl refl

@@ -1,19 +1,16 @@
 -- The refusal table of fields, ops, lengths and bins: each test of a definition is a row, in the same order.
 use Prim.Native.Nat.{ℕ, _*_}
 use mathlib.Core.Path.{_≡_, refl, sym, ap, subst, _∙_}
-use mathlib.Core.Bool.{Bool, true, false, cond, _||_}
+use mathlib.Core.Bool.{Bool, true, false, cond, not, _||_}
 use mathlib.Core.List.{List, [], _∷_}
 use lib.IntN.{ℤ, pos, _-ℤ_, _+ℤ_}
 use lib.ListN.{length}
 use lib.Dec.{T, ltb, eqb}
 use lib.Signed.{ltZ}
-use Rattle.lists.specs.Lists.{sumOf, splice}
-use Rattle.signed.specs.Whole.{checked, clamp32}
-use Rattle.signed.specs.declared.Sum.{Sum}
-use Rattle.sam.specs.Op.{refLen, queryLen, opOf}
+use Rattle.lists.specs.Lists.{sumOf}
+use Rattle.sam.specs.Op.{refLen, queryLen}
 use Rattle.sam.specs.Record.{opsStart, opCountOf, opsEnd, posOf, recordOps}
 use Rattle.answers.specs.Answers.{Told, answered, tellInt, tellNat, tellCount}
-use Rattle.answers.specs.Settled.{Outcome}
 use Rattle.answers.specs.declared.Refusal.the-variants.{ShortRecord, AreaOverrun, TooManyOps, Overflow, NoRoom, BadLength}
 use Rattle.answers.specs.declared.Int.{Int}
 use Rattle.answers.specs.declared.Int.the-variants as Int
@@ -24,34 +21,34 @@ use Rattle.answers.specs.declared.Count.the-variants as Count
 use Rattle.fields.specs.Fields.{intField, natField, cigarArea, cigarPart, tellArea}
 use Rattle.fields.specs.declared.Area.{Area}
 use Rattle.fields.specs.declared.Area.the-variants as Area
-use Rattle.ops.specs.Ops.{getOps, kindOf, codeOfKind, fromOpType, tellKind, newOp, tellOp}
+use Rattle.ops.specs.Ops.{getOps, kindOf, fromOpType, tellKind, newOp, tellOp}
 use Rattle.ops.specs.declared.CigarKind.{CigarKind}
 use Rattle.ops.specs.declared.KindFound.the-variants.{Kind, Nothing}
 use Rattle.ops.specs.declared.NewOp.the-variants as NewOp
 use Rattle.lengths.specs.Lengths.{asInt, refLength, queryLength, saturatedLength, checkedRefLength, refLengthOrZero, recordQueryLength, withQuery, bothLengths, tellLengths}
 use Rattle.lengths.specs.declared.Lengths.{Lengths}
 use Rattle.lengths.specs.declared.Lengths.the-variants as Lengths
-use Rattle.bin.specs.Bin.{binOf, low16, binTo, reg2bin, spanOf, binUpTo, recordBin, withBin, setBin}
-use Rattle.promises.specs.Table.{Row, _when_, only, first, Gives, GivesKept}
-use Rattle.promises.specs.Rows.{over, outside, anyOutside, recordRows, opsRows, newRows, listRows, lengthRows, checkedRows, bothRows, regionRows, binRows}
-use Rattle.promises.proofs.RowLaws.{row, row-either, row-unless, row-sum, answer, kept-row, kept-answer}
+use Rattle.bin.specs.Bin.{binTo, reg2bin, spanOf, binUpTo, recordBin, withBin, setBin}
+use Rattle.promises.specs.Table.{Row, _when_, Gives, GivesKept}
+use Rattle.promises.specs.Rows.{over, anyOutside, recordRows, opsRows, newRows, listRows, lengthRows, checkedRows, bothRows, regionRows, binRows}
+use Rattle.promises.proofs.RowLaws.{number-alone, answer, row, row-either, row-unless, row-sum, kept-row, kept-answer}
 
 -- ---- fields
 
 -- each signed field, and each unsigned one
 pub int-field : (f : List ℕ → ℤ) (b : List ℕ) → Gives (tellInt (intField f b)) (recordRows b)
-int-field f b = row tellInt (ltb (length b) 32) (Int.Refused ShortRecord) (Int.Number (f b)) 1 refl (answer tellInt (Int.Number (f b)) refl)
+int-field f b = row tellInt (ltb (length b) 32) (Int.Refused ShortRecord) (Int.Number (f b)) 1 refl (answer refl refl)
 
 pub nat-field : (f : List ℕ → ℕ) (b : List ℕ) → Gives (tellNat (natField f b)) (recordRows b)
-nat-field f b = row tellNat (ltb (length b) 32) (Nat.Refused ShortRecord) (Nat.Number (f b)) 1 refl (answer tellNat (Nat.Number (f b)) refl)
+nat-field f b = row tellNat (ltb (length b) 32) (Nat.Refused ShortRecord) (Nat.Number (f b)) 1 refl (answer refl refl)
 
 pub cigar-raw-bytes : (b : List ℕ) → Gives (tellArea (cigarArea b)) (recordRows b)
 unfolding cigarArea
 cigar-raw-bytes b = row tellArea (ltb (length b) 32) (Area.Refused ShortRecord) _ 1 refl (area (ltb (length b) (opsEnd b)))
   where
     area : (t : Bool) → Gives (tellArea (cond t (Area.At 0 0) (Area.At (opsStart b) (4 * opCountOf b)))) []
-    area true = record { number = refl }
-    area false = record { number = refl }
+    area true = answer refl refl
+    area false = answer refl refl
 
 -- "where the answer would be a part of the record, an empty part stands beside the number"
 pub no-part : (b : List ℕ) → ltb (length b) 32 ≡ true → cigarPart b ≡ []
@@ -62,30 +59,27 @@ no-part b t = rw (t) refl
 -- `op_consumes_query`, `op_consumes_ref`, `reference_length_from_raw_bam`, `mate_unclipped_5prime`, `mate_unclipped_5prime_1based`
 
 pub plain : (zs : List ℤ) → Gives (answered zs) []
-plain zs = record { number = refl }
+plain zs = answer refl refl
 
 pub from-op-type : (v : ℕ) → Gives (tellKind (fromOpType v)) []
 unfolding fromOpType
 from-op-type v = known (ltb 8 v)
   where
     known : (t : Bool) → Gives (tellKind (cond t Nothing (Kind (kindOf v)))) []
-    known true = record { number = refl }
-    known false = record { number = refl }
+    known true = answer refl refl
+    known false = answer refl refl
 
 -- ---- ops
 
 pub op-new : (k : CigarKind) (n : ℕ) → Gives (tellOp (newOp k n)) (newRows n)
 unfolding newOp
-op-new k n = row-either tellOp (eqb n 0) (ltb 268435455 n) (NewOp.Refused BadLength) _ 10 refl (answer tellOp (NewOp.Op (record { 0 = opOf n (codeOfKind k) })) refl)
+op-new k n = row-either tellOp (eqb n 0) (ltb 268435455 n) (NewOp.Refused BadLength) _ 10 refl (answer refl refl)
 
 pub get-cigar-ops : (b d : List ℕ) → GivesKept tellCount (getOps b d) d (opsRows b d)
 unfolding getOps
 get-cigar-ops b d =
     kept-row tellCount (ltb (length b) 32) (Count.Refused ShortRecord) _ d 1 refl
-    (kept-row tellCount (ltb (length d) (length (recordOps b))) (Count.Refused NoRoom) done d 6 refl (kept-answer tellCount done d refl))
-  where
-    done : Outcome Count
-    done = record { answer = Count.Number (length (recordOps b)); left = splice d 0 (recordOps b) }
+    (kept-row tellCount (ltb (length d) (length (recordOps b))) (Count.Refused NoRoom) _ d 6 refl (kept-answer tellCount refl))
 
 -- ---- lengths
 
@@ -98,14 +92,12 @@ top n = by-case (ltb 2147483647 n)
     by-case false = refl
 
 -- a total as an i32
-total-rows : {A : Type 0} (tell : A → Told) (to : Int → A) (n : ℕ) → tell (to (Int.Refused Overflow)) .number ≡ 4 → tell (to (Int.Number (pos n))) .number ≡ 0
+total-rows : {A : Type 0} (tell : A → Told) (to : Int → A) (n : ℕ) → tell (to (Int.Refused Overflow)) ≡ number-alone 4 → tell (to (Int.Number (pos n))) .number ≡ 0
     → Gives (tell (to (asInt n))) (over (pos n ∷ []) ∷ [])
 unfolding asInt
-total-rows tell to n p q = subst (λ t. Gives (tell (to (asInt n))) ((4 when t) ∷ [])) (top n) (by-case (ltb 2147483647 n))
-  where
-    by-case : (t : Bool) → Gives (tell (to (cond t (Int.Refused Overflow) (Int.Number (pos n))))) ((4 when t) ∷ [])
-    by-case true = record { number = p }
-    by-case false = record { number = q }
+total-rows tell to n p q =
+    subst (λ t. Gives (tell (to (asInt n))) ((4 when t) ∷ [])) (top n)
+    (row (λ x. tell (to x)) (ltb 2147483647 n) (Int.Refused Overflow) (Int.Number (pos n)) 4 p (answer q refl))
 
 pub reference-length-from-cigar : (xs : List ℕ) → Gives (tellInt (refLength xs)) (lengthRows xs)
 unfolding refLength
@@ -113,11 +105,11 @@ reference-length-from-cigar xs = row tellInt (ltb 65535 (length xs)) (Int.Refuse
 
 pub query-length-from-cigar : (xs : List ℕ) → Gives (tellCount (queryLength xs)) (listRows xs)
 unfolding queryLength
-query-length-from-cigar xs = row tellCount (ltb 65535 (length xs)) (Count.Refused TooManyOps) _ 3 refl (answer tellCount (Count.Number (sumOf queryLen xs)) refl)
+query-length-from-cigar xs = row tellCount (ltb 65535 (length xs)) (Count.Refused TooManyOps) _ 3 refl (answer refl refl)
 
 pub saturating-reference-length : (xs : List ℕ) → Gives (tellInt (saturatedLength xs)) (listRows xs)
 unfolding saturatedLength
-saturating-reference-length xs = row tellInt (ltb 65535 (length xs)) (Int.Refused TooManyOps) _ 3 refl (answer tellInt (Int.Number (clamp32 (pos (sumOf refLen xs)))) refl)
+saturating-reference-length xs = row tellInt (ltb 65535 (length xs)) (Int.Refused TooManyOps) _ 3 refl (answer refl refl)
 
 pub reference-length-from-raw-bam-checked : (b : List ℕ) → Gives (tellInt (checkedRefLength b)) (checkedRows b)
 unfolding checkedRefLength
@@ -127,7 +119,7 @@ reference-length-from-raw-bam-checked b =
 
 pub query-length : (b : List ℕ) → Gives (tellCount (recordQueryLength b)) (recordRows b)
 unfolding recordQueryLength
-query-length b = row tellCount (ltb (length b) 32) (Count.Refused ShortRecord) _ 1 refl (answer tellCount (Count.Number (sumOf queryLen (recordOps b))) refl)
+query-length b = row tellCount (ltb (length b) 32) (Count.Refused ShortRecord) _ 1 refl (answer refl refl)
 
 pub cigar-lengths : (b : List ℕ) → Gives (tellLengths (bothLengths b)) (bothRows b)
 unfolding bothLengths
@@ -139,7 +131,7 @@ cigar-lengths b =
 
 region : (beg end : ℤ) → Gives (tellNat (reg2bin beg end)) (over ((end -ℤ pos 1) ∷ []) ∷ [])
 unfolding reg2bin binTo
-region beg end = row-sum tellNat (binTo beg) (end -ℤ pos 1) [] refl (record { number = refl })
+region beg end = row-sum tellNat (binTo beg) (end -ℤ pos 1) [] refl (answer refl refl)
 
 pub reg2bin-rows : (beg end : ℤ) → Gives (tellNat (reg2bin beg end)) (regionRows end)
 reg2bin-rows beg end = region beg end
@@ -156,8 +148,8 @@ bin-from-raw-bam b =
 
 -- a refusal writes nothing
 with-bin : (b : List ℕ) (a : Nat) (rows : List Row) → Gives (tellNat a) rows → GivesKept tellNat (withBin b a) b rows
-with-bin b (Nat.Number n) rows q = record { number = q .number; kept = λ e. absurd (subst T (subst (λ k. eqb k 0 ≡ false) (sym (q .number)) e) tt) }
-with-bin b (Nat.Refused r) rows q = record { number = q .number; kept = λ e. refl }
+with-bin b (Nat.Number n) rows q = record { gives = q; kept = λ e. absurd (subst T (sym (ap (λ k. not (eqb k 0)) (q .number) ∙ e)) tt) }
+with-bin b (Nat.Refused r) rows q = record { gives = q; kept = λ e. refl }
 
 pub set-bin-from-raw-bam : (b : List ℕ) → GivesKept tellNat (setBin b) b (binRows b)
 unfolding setBin

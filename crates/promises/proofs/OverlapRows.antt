@@ -1,20 +1,19 @@
 -- The refusal table of the pair tests and the overhang calls: each test of a definition is a row, in the same order; 4 is the two places of an FR pair.
 use Prim.Native.Nat.{ℕ}
 use mathlib.Core.Path.{_≡_, refl, subst}
-use mathlib.Core.Bool.{Bool, true, false, cond, not, _||_, _&&_}
+use mathlib.Core.Bool.{Bool, true, false, cond, _||_, _&&_}
 use mathlib.Core.List.{List, [], _∷_}
 use lib.IntN.{ℤ, pos, negsuc, _+ℤ_}
 use lib.ListN.{length}
 use lib.Dec.{ltb}
 use lib.Signed.{ltZ}
-use Rattle.lists.specs.Lists.{sumOf, splice}
+use Rattle.lists.specs.Lists.{sumOf}
 use Rattle.signed.specs.Whole.{checked, sideOf, sumAt, clamp32}
 use Rattle.signed.specs.declared.Side.the-variants.{Below, Within, Above}
 use Rattle.signed.specs.declared.Sum.{Sum}
 use Rattle.sam.specs.Op.{refLen}
 use Rattle.sam.specs.Record.{posOf, matePosOf, recordOps}
 use Rattle.answers.specs.Answers.{tellFlag, tellCount}
-use Rattle.answers.specs.Settled.{Outcome}
 use Rattle.answers.specs.declared.Refusal.the-variants.{ShortRecord, TooManyOps, Overflow, NoRoom}
 use Rattle.answers.specs.declared.Count.the-variants as Count
 use Rattle.answers.specs.declared.Flag.the-variants as Flag
@@ -23,32 +22,30 @@ use Rattle.ends.specs.Ends.{toPlace1, oneBased}
 use Rattle.strict_text.specs.Text.{textOps}
 use Rattle.strict_text.specs.Valid.{validMapped}
 use Rattle.strict_text.specs.Parsed.{strict}
-use Rattle.pairs.specs.Pairs.{isOpposite, isFr, isFrWithMate, isPrimaryFr}
-use Rattle.overhang.specs.Overhang.{overhangOf, basesExtending}
-use Rattle.overlap.specs.Overlap.{oppositePair, frPair, primaryFrPair, bothPlaces, placedPair, isOver, basesAt, overhangAt, placedBy, pastMateCigar, pastMateRecord, listLeft, pastMateText, tellOverhang}
-use Rattle.overlap.specs.declared.Placed.{Placed}
-use Rattle.overlap.specs.declared.Placed.the-variants as Placed
+use Rattle.pairs.specs.Pairs.{isFrWithMate, isPrimaryFr}
+use Rattle.overhang.specs.Overhang.{basesExtending}
+use Rattle.overlap.specs.Overlap.{oppositePair, frPair, primaryFrPair, bothPlaces, placedPair, isOver, overhangAt, placedBy, pastMateCigar, pastMateRecord, listLeft, pastMateText, tellOverhang}
 use Rattle.overlap.specs.declared.Overhang.{Overhang}
 use Rattle.overlap.specs.declared.Overhang.the-variants as Overhang
 use Rattle.promises.specs.Table.{_when_, Gives, GivesKept}
 use Rattle.promises.specs.Rows.{anyOutside, noRoom, placeRow, recordRows, twoRows, extendingRows, mateCigarRows, mateRecordRows, mateTextRows}
-use Rattle.promises.proofs.RowLaws.{row, row-where, answer, kept-row, kept-where, kept-answer}
+use Rattle.promises.proofs.RowLaws.{answer, row, row-where, kept-row, kept-where, kept-answer}
 
 -- ---- the pair tests
 
 pub is-mapped-opposite-strand-pair-raw : (b : List ℕ) → Gives (tellFlag (oppositePair b)) (recordRows b)
 unfolding oppositePair
-is-mapped-opposite-strand-pair-raw b = row tellFlag (ltb (length b) 32) (Flag.Refused ShortRecord) _ 1 refl (answer tellFlag (Flag.Is (isOpposite b)) refl)
+is-mapped-opposite-strand-pair-raw b = row tellFlag (ltb (length b) 32) (Flag.Refused ShortRecord) _ 1 refl (answer refl refl)
 
 pub is-fr-pair-raw : (b : List ℕ) → Gives (tellFlag (frPair b)) (recordRows b)
 unfolding frPair
-is-fr-pair-raw b = row tellFlag (ltb (length b) 32) (Flag.Refused ShortRecord) _ 1 refl (answer tellFlag (Flag.Is (isFr b)) refl)
+is-fr-pair-raw b = row tellFlag (ltb (length b) 32) (Flag.Refused ShortRecord) _ 1 refl (answer refl refl)
 
 pub is-primary-fr-pair-raw : (a b : List ℕ) → Gives (tellFlag (primaryFrPair a b)) (twoRows a b)
 unfolding primaryFrPair
 is-primary-fr-pair-raw a b =
     row tellFlag (ltb (length a) 32) (Flag.Refused ShortRecord) _ 1 refl
-    (row tellFlag (ltb (length b) 32) (Flag.Refused ShortRecord) _ 1 refl (answer tellFlag (Flag.Is (isPrimaryFr a b)) refl))
+    (row tellFlag (ltb (length b) 32) (Flag.Refused ShortRecord) _ 1 refl (answer refl refl))
 
 -- ---- the overhang
 
@@ -56,7 +53,7 @@ pub bases-extending-past-mate-ops : (reverse : Bool) (p : ℤ) (xs : List ℕ) (
 unfolding basesExtending
 bases-extending-past-mate-ops reverse p xs m ys =
     row tellCount (ltb 65535 (length xs)) (Count.Refused TooManyOps) _ 3 refl
-    (row tellCount (ltb 65535 (length ys)) (Count.Refused TooManyOps) _ 3 refl (answer tellCount (Count.Number (overhangOf reverse p xs m ys)) refl))
+    (row tellCount (ltb 65535 (length ys)) (Count.Refused TooManyOps) _ 3 refl (answer refl refl))
 
 -- an FR pair is not placed where either place overflows
 sums-over : (p m : ℤ) → isOver (bothPlaces (toPlace1 (checked p)) (toPlace1 (checked m))) ≡ anyOutside (p ∷ m ∷ [])
@@ -82,7 +79,7 @@ overhang-rows : (fr : Bool) (b ys : List ℕ) (m : ℤ) → Gives (tellCount (ov
 unfolding overhangAt
 overhang-rows fr b ys m =
     subst (λ t. Gives (tellCount (overhangAt (placedPair fr b m) b ys)) ((4 when t) ∷ [])) (placed-over fr b m)
-    (row tellCount (isOver (placedPair fr b m)) (Count.Refused Overflow) _ 4 refl (answer tellCount (Count.Number (basesAt (placedPair fr b m) b ys)) refl))
+    (row tellCount (isOver (placedPair fr b m)) (Count.Refused Overflow) _ 4 refl (answer refl refl))
 
 pub num-bases-extending-past-mate-cigar-raw : (b ys : List ℕ) → Gives (tellCount (pastMateCigar b ys)) (mateCigarRows b ys)
 unfolding pastMateCigar placedBy
@@ -103,10 +100,7 @@ unfolding listLeft
 list-rows fr b xs d m =
     subst (λ t. GivesKept tellOverhang (listLeft (placedPair fr b m) b xs d) d ((4 when t) ∷ noRoom d (length xs) ∷ [])) (placed-over fr b m)
     (kept-row tellOverhang (isOver (placedPair fr b m)) (Overhang.Refused Overflow) _ d 4 refl
-    (kept-row tellOverhang (ltb (length d) (length xs)) (Overhang.Refused NoRoom) done d 6 refl (kept-answer tellOverhang done d refl)))
-  where
-    done : Outcome Overhang
-    done = record { answer = Overhang.Bases (basesAt (placedPair fr b m) b xs) (length xs); left = splice d 0 xs }
+    (kept-row tellOverhang (ltb (length d) (length xs)) (Overhang.Refused NoRoom) _ d 6 refl (kept-answer tellOverhang refl)))
 
 pub num-bases-extending-past-mate-text-raw : (b s d : List ℕ) → GivesKept tellOverhang (pastMateText b s d) d (mateTextRows b s d)
 unfolding pastMateText placedBy

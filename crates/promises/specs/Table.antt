@@ -1,7 +1,7 @@
--- Document 01, "Numbers and their bounds": a refusal is "given exactly when" its row holds, and of several the first in the call's order; "every lent buffer is unchanged".
+-- Document 01, "Numbers and their bounds": a refusal is "given exactly when" its row holds, and of several the first in the call's order; it "carries its number, no value, and every lent buffer is unchanged".
 use Prim.Native.Nat.{ℕ}
 use mathlib.Core.Path.{_≡_}
-use mathlib.Core.Bool.{Bool, false, cond, _&&_}
+use mathlib.Core.Bool.{Bool, true, cond, not, _&&_}
 use mathlib.Core.List.{List, [], _∷_}
 use lib.Dec.{eqb}
 use Rattle.answers.specs.Answers.{Told}
@@ -26,11 +26,16 @@ abbrev pub first : List Row → ℕ
 first [] = 0
 first (r ∷ rows) = cond (r .due) (r .number) (first rows)
 
--- a call that is lent nothing gives the number of the first row that holds
+-- where a row holds, the call refuses
+abbrev pub refuses : List Row → Bool
+refuses rows = not (eqb (first rows) 0)
+
+-- a call that is lent nothing gives the number of the first row that holds; "A refusal returns its number alone": no value stands beside it
 pub record Gives (t : Told) (rows : List Row) : Type 0 where
   pub number : t .number ≡ first rows
+  pub alone : refuses rows ≡ true → t .values ≡ []
 
--- and one that is lent memory d leaves it as it was, where it gives one
+-- "and lent buffers keep their bytes": one that is lent memory d leaves it as it was, where it refuses
 pub record GivesKept {A : Type 0} (tell : A → Told) (want : Outcome A) (d : List ℕ) (rows : List Row) : Type 0 where
-  pub number : tell (want .answer) .number ≡ first rows
-  pub kept : (eqb (first rows) 0 ≡ false) → want .left ≡ d
+  pub gives : Gives (tell (want .answer)) rows
+  pub kept : refuses rows ≡ true → want .left ≡ d
