@@ -12,7 +12,10 @@ use Rattle.ops.specs.Ops.{isRead, readLen, isClip}
 use Rattle.clip.specs.Clipping.{runLen, afterRun, goes, ends, taking, softOf, upgraded, cutInto, hardLen, softLen, inside, clipLen, clip}
 use Rattle.clip.specs.Answer.{clippedOps}
 use Rattle.clip_laws.specs.Demand3.{isInner, Takes, most, survives, EndsInsertion, ClipsTwice}
-use Rattle.clip_laws.specs.Marked.{inserted}
+
+-- 5M3I2D6M
+abbrev inserted : List ℕ
+inserted = opOf 5 0 ∷ opOf 3 1 ∷ opOf 2 2 ∷ opOf 6 0 ∷ []
 
 pub takes : Takes 65535 inserted
 unfolding isInner sumOf

@@ -5,5 +5,4 @@ pub mod Placement
 pub mod ShapeLaws
 pub mod ClipLaws
 pub mod Demand3
-pub mod Marked
 pub mod Exception

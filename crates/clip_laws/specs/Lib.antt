@@ -1,4 +1,3 @@
 pub mod Demand3
 pub mod Drops
-pub mod Marked
 pub mod Placed

@@ -11,7 +11,6 @@ use Rattle.answers.specs.Settled.{Outcome, Settled}
 use Rattle.answers.proofs.Unique.{unique}
 use Rattle.answers.specs.declared.Pos0.{Pos0}
 use Rattle.sam.specs.Op.{lenOf, codeOf, isRef, isQuery}
-use Rattle.sam.specs.Record.{refIdOf, posOf, nameLenOf, storedBinOf, opCountOf, flagsOf, seqLenOf, mateRefIdOf, matePosOf, templateLenOf}
 use Rattle.fields.specs.Fields.{intField, natField, cigarPart}
 use Rattle.ops.specs.Ops.{isRead, letterOfKind, kindOf, fromOpType, newOp, getOps}
 use Rattle.ops.specs.declared.CigarKind.{CigarKind}
@@ -43,35 +42,12 @@ same-left r s m n p q = unique p q
 
 -- ---- fields
 
-pub ref-id : (b : List ℕ) → Same (intField refIdOf b)
-ref-id b = same
+-- each signed field, and each unsigned one
+pub int-field : (f : List ℕ → ℤ) (b : List ℕ) → Same (intField f b)
+int-field f b = same
 
-pub pos : (b : List ℕ) → Same (intField posOf b)
-pos b = same
-
-pub l-read-name : (b : List ℕ) → Same (natField nameLenOf b)
-l-read-name b = same
-
-pub bin : (b : List ℕ) → Same (natField storedBinOf b)
-bin b = same
-
-pub n-cigar-op : (b : List ℕ) → Same (natField opCountOf b)
-n-cigar-op b = same
-
-pub flags : (b : List ℕ) → Same (natField flagsOf b)
-flags b = same
-
-pub l-seq : (b : List ℕ) → Same (natField seqLenOf b)
-l-seq b = same
-
-pub mate-ref-id : (b : List ℕ) → Same (intField mateRefIdOf b)
-mate-ref-id b = same
-
-pub mate-pos : (b : List ℕ) → Same (intField matePosOf b)
-mate-pos b = same
-
-pub template-length : (b : List ℕ) → Same (intField templateLenOf b)
-template-length b = same
+pub nat-field : (f : List ℕ → ℕ) (b : List ℕ) → Same (natField f b)
+nat-field f b = same
 
 -- the part that is handed back, as a list
 pub cigar-raw-bytes : (b : List ℕ) → Same (cigarPart b)
