@@ -1,10 +1,6 @@
 -- The bin is told; the record is written only where there is room for the value.
-use Prim.Native.Nat.{ℕ}
 use mathlib.Core.Path.{_∙_}
-use mathlib.Core.List.{List}
 use borrow.Author.Needs.{needs}
-use Rattle.answers.specs.Answers.{tellNat}
-use Rattle.bin.specs.Bin.{setBin}
 use Rattle.given.proofs.ExportLaws.{short-filled, long-filled}
 use Rattle.exports.proofs.BinLaws.{bin-last6, bin-answer}
 use Rattle.exports.proofs.bin_calls.cigar_set_bin_from_raw_bam.Statement.{statement}
@@ -26,7 +22,7 @@ returns : tie.Need-returns
 returns c =
     let t = c .before .before .before .before .before .before in
     let b = t .before .before .before .args .rec .now in
-    short-filled tellNat 1 (λ (d : List ℕ). setBin b) b _ (bin-last6 b) (t .if1 .taken) (c .before .before .before .before .bin-from-raw-bam .ensures ∙ bin-answer b) (c .before .before .give-nat .ensures)
+    short-filled (bin-last6 b) (t .if1 .taken) (c .before .before .before .before .bin-from-raw-bam .ensures ∙ bin-answer b) (c .before .before .give-nat .ensures)
 
 set-bin-from-raw-bam-requires : tie.Need-set-bin-from-raw-bam-requires
 set-bin-from-raw-bam-requires c κs = search needs
@@ -44,7 +40,7 @@ returns-2 : tie.Need-returns-2
 returns-2 c =
     let t = c .before .before .before .before .before .before .before .before in
     let b = t .before .before .before .args .rec .now in
-    long-filled tellNat 1 (λ (d : List ℕ). setBin b) b _ (bin-last6 b) (t .if1 .left) (c .before .before .before .before .before .before .set-bin-from-raw-bam .ensures) (c .before .before .give-nat2 .ensures)
+    long-filled (bin-last6 b) (t .if1 .left) (c .before .before .before .before .before .before .set-bin-from-raw-bam .ensures) (c .before .before .give-nat2 .ensures)
 
 pub cigar-set-bin-from-raw-bam-spec : {M : Type 1} → statement M
 cigar-set-bin-from-raw-bam-spec =

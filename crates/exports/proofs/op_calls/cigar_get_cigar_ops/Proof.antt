@@ -1,8 +1,5 @@
 -- The ops are written only where there is room for the value.
-use mathlib.Core.Path.{_∙_}
 use borrow.Author.Needs.{needs}
-use Rattle.answers.specs.Answers.{tellCount}
-use Rattle.ops.specs.Ops.{getOps}
 use Rattle.given.proofs.ExportLaws.{short-filled, long-filled}
 use Rattle.exports.proofs.OpLaws.{ops-last6}
 use Rattle.exports.proofs.op_calls.cigar_get_cigar_ops.Statement.{statement}
@@ -24,7 +21,7 @@ returns : tie.Need-returns
 returns c =
     let t = c .before .before .before .before .before .before .before in
     let a = t .before .before .before .before .args in
-    short-filled tellCount 1 (getOps (a .rec .now)) (a .out .now) _ (ops-last6 (a .rec .now) (a .out .now)) (t .if1 .taken) (c .before .before .before .before .before .get-cigar-ops .ensures .answer) (c .before .before .give-count .ensures)
+    short-filled (ops-last6 (a .rec .now)) (t .if1 .taken) (c .before .before .before .before .before .get-cigar-ops .ensures .answer) (c .before .before .give-count .ensures)
 
 get-cigar-ops-requires-2 : tie.Need-get-cigar-ops-requires-2
 get-cigar-ops-requires-2 c κs = search needs
@@ -42,7 +39,7 @@ returns-2 : tie.Need-returns-2
 returns-2 c =
     let t = c .before .before .before .before .before .before .before .before in
     let a = t .before .before .before .before .args in
-    long-filled tellCount 1 (getOps (a .rec .now)) (a .out .now) _ (ops-last6 (a .rec .now) (a .out .now)) (t .if1 .left) (c .before .before .before .before .before .before .get-cigar-ops2 .ensures) (c .before .before .give-count2 .ensures)
+    long-filled (ops-last6 (a .rec .now)) (t .if1 .left) (c .before .before .before .before .before .before .get-cigar-ops2 .ensures) (c .before .before .give-count2 .ensures)
 
 pub cigar-get-cigar-ops-spec : {M : Type 1} → statement M
 cigar-get-cigar-ops-spec =

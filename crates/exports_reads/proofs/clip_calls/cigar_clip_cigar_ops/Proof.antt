@@ -2,7 +2,7 @@
 use mathlib.Core.Path.{sym, ap, _∙_}
 use borrow.Author.Needs.{needs}
 use Rattle.answers.proofs.Unique.{resettled}
-use Rattle.clip.specs.Answer.{clippedRecord, tellClipped}
+use Rattle.clip.specs.Answer.{clippedRecord}
 use Rattle.given.specs.Flags.{flagged}
 use Rattle.given.proofs.ExportLaws.{short-filled, long-filled}
 use Rattle.exports_reads.proofs.ClipLaws.{record-last6}
@@ -28,7 +28,7 @@ returns : tie.Need-returns
 returns c = let k = c .before .before .before .before .before in
     let f = k .before .before in
     let a = f .before .before .before .before .before .args in
-    short-filled tellClipped 2 (clippedRecord (a .rec .now) (a .amount) (flagged (a .start))) (a .out .now) _ (record-last6 (a .amount) (flagged (a .start)) (a .rec .now) (a .out .now)) (f .before .if1 .taken)
+    short-filled (record-last6 (a .amount) (flagged (a .start)) (a .rec .now)) (f .before .if1 .taken)
     (k .clip-cigar-ops .ensures .answer ∙ ap (λ b. clippedRecord (a .rec .now) (a .amount) b _ .answer) (f .flag .ensures)) (c .before .before .give-clipped .ensures)
 
 flag-requires-2 : tie.Need-flag-requires-2
@@ -50,7 +50,7 @@ returns-2 : tie.Need-returns-2
 returns-2 c = let k = c .before .before .before .before .before .before in
     let f = k .before .before in
     let a = f .before .before .before .before .before .args in
-    long-filled tellClipped 2 (clippedRecord (a .rec .now) (a .amount) (flagged (a .start))) (a .out .now) _ (record-last6 (a .amount) (flagged (a .start)) (a .rec .now) (a .out .now)) (f .before .if1 .left)
+    long-filled (record-last6 (a .amount) (flagged (a .start)) (a .rec .now)) (f .before .if1 .left)
     (resettled (ap (λ b. clippedRecord (a .rec .now) (a .amount) b (a .out .now)) (sym (f .flag2 .ensures))) (k .clip-cigar-ops2 .ensures)) (c .before .before .give-clipped2 .ensures)
 
 pub cigar-clip-cigar-ops-spec : {M : Type 1} → statement M

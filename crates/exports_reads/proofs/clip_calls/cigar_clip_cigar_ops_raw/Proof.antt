@@ -2,7 +2,7 @@
 use mathlib.Core.Path.{sym, ap, _∙_}
 use borrow.Author.Needs.{needs}
 use Rattle.answers.proofs.Unique.{resettled}
-use Rattle.clip.specs.Answer.{clipped, tellClipped}
+use Rattle.clip.specs.Answer.{clipped}
 use Rattle.given.specs.Flags.{flagged}
 use Rattle.given.proofs.ExportLaws.{short-filled, long-filled}
 use Rattle.exports_reads.proofs.ClipLaws.{list-last6}
@@ -28,7 +28,7 @@ returns : tie.Need-returns
 returns c = let k = c .before .before .before .before .before in
     let f = k .before .before in
     let a = f .before .before .before .before .before .args in
-    short-filled tellClipped 2 (clipped (a .ops .now) (a .amount) (flagged (a .start))) (a .out .now) _ (list-last6 (a .amount) (flagged (a .start)) (a .ops .now) (a .out .now)) (f .before .if1 .taken)
+    short-filled (list-last6 (a .amount) (flagged (a .start)) (a .ops .now)) (f .before .if1 .taken)
     (k .clip-cigar-ops-raw .ensures .answer ∙ ap (λ b. clipped (a .ops .now) (a .amount) b _ .answer) (f .flag .ensures)) (c .before .before .give-clipped .ensures)
 
 flag-requires-2 : tie.Need-flag-requires-2
@@ -50,7 +50,7 @@ returns-2 : tie.Need-returns-2
 returns-2 c = let k = c .before .before .before .before .before .before in
     let f = k .before .before in
     let a = f .before .before .before .before .before .args in
-    long-filled tellClipped 2 (clipped (a .ops .now) (a .amount) (flagged (a .start))) (a .out .now) _ (list-last6 (a .amount) (flagged (a .start)) (a .ops .now) (a .out .now)) (f .before .if1 .left)
+    long-filled (list-last6 (a .amount) (flagged (a .start)) (a .ops .now)) (f .before .if1 .left)
     (resettled (ap (λ b. clipped (a .ops .now) (a .amount) b (a .out .now)) (sym (f .flag2 .ensures))) (k .clip-cigar-ops-raw2 .ensures)) (c .before .before .give-clipped2 .ensures)
 
 pub cigar-clip-cigar-ops-raw-spec : {M : Type 1} → statement M

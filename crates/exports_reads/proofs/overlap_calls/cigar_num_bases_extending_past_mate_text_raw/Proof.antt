@@ -1,7 +1,5 @@
 -- The list is written only where there is room for the two values.
-use mathlib.Core.Path.{_∙_}
 use borrow.Author.Needs.{needs}
-use Rattle.overlap.specs.Overlap.{pastMateText, tellOverhang}
 use Rattle.given.proofs.ExportLaws.{short-filled, long-filled}
 use Rattle.exports_reads.proofs.OverlapLaws.{text-overhang-last6}
 use Rattle.exports_reads.proofs.overlap_calls.cigar_num_bases_extending_past_mate_text_raw.Statement.{
@@ -27,7 +25,7 @@ returns : tie.Need-returns
 returns c =
     let t = c .before .before .before .before .before .before .before in
     let a = t .before .before .before .before .before .args in
-    short-filled tellOverhang 2 (pastMateText (a .rec .now) (a .text .now)) (a .out .now) _ (text-overhang-last6 (a .rec .now) (a .text .now) (a .out .now)) (t .if1 .taken)
+    short-filled (text-overhang-last6 (a .rec .now) (a .text .now)) (t .if1 .taken)
     (c .before .before .before .before .before .num-bases-extending-past-mate-text-raw .ensures .answer) (c .before .before .give-overhang .ensures)
 
 num-bases-extending-past-mate-text-raw-requires-2 :
@@ -47,7 +45,7 @@ returns-2 : tie.Need-returns-2
 returns-2 c =
     let t = c .before .before .before .before .before .before .before .before in
     let a = t .before .before .before .before .before .args in
-    long-filled tellOverhang 2 (pastMateText (a .rec .now) (a .text .now)) (a .out .now) _ (text-overhang-last6 (a .rec .now) (a .text .now) (a .out .now)) (t .if1 .left)
+    long-filled (text-overhang-last6 (a .rec .now) (a .text .now)) (t .if1 .left)
     (c .before .before .before .before .before .before .num-bases-extending-past-mate-text-raw2 .ensures) (c .before .before .give-overhang2 .ensures)
 
 pub cigar-num-bases-extending-past-mate-text-raw-spec : {M : Type 1} → statement M

@@ -1,8 +1,5 @@
 -- The output is written only where there is room for the value.
-use mathlib.Core.Path.{_∙_}
 use borrow.Author.Needs.{needs}
-use Rattle.answers.specs.Answers.{tellCount}
-use Rattle.print.specs.Text.{printed}
 use Rattle.given.proofs.ExportLaws.{short-filled, long-filled}
 use Rattle.exports_reads.proofs.TextLaws.{print-last6}
 use Rattle.exports_reads.proofs.text_calls.cigar_cigar_to_bytes_into.Statement.{statement}
@@ -24,7 +21,7 @@ returns : tie.Need-returns
 returns c =
     let t = c .before .before .before .before .before .before .before in
     let a = t .before .before .before .before .args in
-    short-filled tellCount 1 (printed (a .rec .now)) (a .out .now) _ (print-last6 (a .rec .now) (a .out .now)) (t .if1 .taken) (c .before .before .before .before .before .cigar-to-bytes-into .ensures .answer) (c .before .before .give-count .ensures)
+    short-filled (print-last6 (a .rec .now)) (t .if1 .taken) (c .before .before .before .before .before .cigar-to-bytes-into .ensures .answer) (c .before .before .give-count .ensures)
 
 cigar-to-bytes-into-requires-2 : tie.Need-cigar-to-bytes-into-requires-2
 cigar-to-bytes-into-requires-2 c κs = search needs
@@ -42,7 +39,7 @@ returns-2 : tie.Need-returns-2
 returns-2 c =
     let t = c .before .before .before .before .before .before .before .before in
     let a = t .before .before .before .before .args in
-    long-filled tellCount 1 (printed (a .rec .now)) (a .out .now) _ (print-last6 (a .rec .now) (a .out .now)) (t .if1 .left) (c .before .before .before .before .before .before .cigar-to-bytes-into2 .ensures) (c .before .before .give-count2 .ensures)
+    long-filled (print-last6 (a .rec .now)) (t .if1 .left) (c .before .before .before .before .before .before .cigar-to-bytes-into2 .ensures) (c .before .before .give-count2 .ensures)
 
 pub cigar-cigar-to-bytes-into-spec : {M : Type 1} → statement M
 cigar-cigar-to-bytes-into-spec =

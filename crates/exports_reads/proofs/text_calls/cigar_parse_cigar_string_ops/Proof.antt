@@ -1,8 +1,5 @@
 -- The output is written only where there is room for the value.
-use mathlib.Core.Path.{_∙_}
 use borrow.Author.Needs.{needs}
-use Rattle.answers.specs.Answers.{tellCount}
-use Rattle.strict_text.specs.Parsed.{parsed}
 use Rattle.given.proofs.ExportLaws.{short-filled, long-filled}
 use Rattle.exports_reads.proofs.TextLaws.{parse-last6}
 use Rattle.exports_reads.proofs.text_calls.cigar_parse_cigar_string_ops.Statement.{statement}
@@ -24,7 +21,7 @@ returns : tie.Need-returns
 returns c =
     let t = c .before .before .before .before .before .before .before in
     let a = t .before .before .before .before .args in
-    short-filled tellCount 1 (parsed (a .text .now)) (a .out .now) _ (parse-last6 (a .text .now) (a .out .now)) (t .if1 .taken) (c .before .before .before .before .before .parse-cigar-string-ops .ensures .answer) (c .before .before .give-count .ensures)
+    short-filled (parse-last6 (a .text .now)) (t .if1 .taken) (c .before .before .before .before .before .parse-cigar-string-ops .ensures .answer) (c .before .before .give-count .ensures)
 
 parse-cigar-string-ops-requires-2 : tie.Need-parse-cigar-string-ops-requires-2
 parse-cigar-string-ops-requires-2 c κs = search needs
@@ -42,7 +39,7 @@ returns-2 : tie.Need-returns-2
 returns-2 c =
     let t = c .before .before .before .before .before .before .before .before in
     let a = t .before .before .before .before .args in
-    long-filled tellCount 1 (parsed (a .text .now)) (a .out .now) _ (parse-last6 (a .text .now) (a .out .now)) (t .if1 .left) (c .before .before .before .before .before .before .parse-cigar-string-ops2 .ensures) (c .before .before .give-count2 .ensures)
+    long-filled (parse-last6 (a .text .now)) (t .if1 .left) (c .before .before .before .before .before .before .parse-cigar-string-ops2 .ensures) (c .before .before .give-count2 .ensures)
 
 pub cigar-parse-cigar-string-ops-spec : {M : Type 1} → statement M
 cigar-parse-cigar-string-ops-spec =
