@@ -1,20 +1,22 @@
 -- On 0 ≤ beg < end ≤ 2^29 the answer of `reg2bin` is the smallest bin that holds the region.
-use Prim.Native.Nat.{ℕ, zero, suc, _+_, _-_, _*_, _/_, _%_, _≤_, _<_, _^_}
+use Prim.Native.Nat.{ℕ, _+_, _-_, _*_, _/_, _%_, _≤_, _<_, _^_}
 use mathlib.Core.Path.{_≡_, refl, sym, ap, _∙_, subst}
 use mathlib.Core.Bool.{Bool, true, false, cond}
+use mathlib.Core.List.{List, [], _∷_}
+use mathlib.Core.Logic.{_⊎_, inl, inr, ⊎-elim}
 use native.Mathlib.Omega.{arith}
-use native.Mathlib.Nat.{div-add-mod', mod-lt}
-use borrow.Author.Tests.{eqb-true, eqb-false, eq-eqb}
+use native.Mathlib.Nat.{div-add-mod', mod-lt, div-lt-iff-lt-mul, lt-of-lt-of-le, le-trans, le-of-eq}
+use borrow.Author.Tests.{eqb-true, eqb-false}
 use lib.Arith.{digits-div}
+use lib.Pow.{pow-pos}
 use lib.Dec.{eqb, lit<, lit≤}
-use lib.IntN.{ℤ, pos, _-ℤ_}
+use lib.IntN.{pos, _-ℤ_}
 use Rattle.signed.specs.Whole.{checked}
-use Rattle.signed.specs.declared.Sum.the-variants as Sum
-use Rattle.signed.proofs.Halves.{up, dn, minus, same}
+use Rattle.signed.proofs.Halves.{minus, same}
 use Rattle.signed.proofs.Ranges.{checked-in}
 use Rattle.answers.specs.declared.Nat.the-variants.{Number}
 use Rattle.signed.specs.Equal.{eqℤ}
-use Rattle.bin.specs.Bin.{shr, low16, firstAgreed, binOf, binTo, reg2bin}
+use Rattle.bin.specs.Bin.{Level as Rung, levels, low16, firstAgreed, binOf, binTo, reg2bin}
 use Rattle.sam.specs.Bins.{Level, l29, l26, l23, l20, l17, l14, Holds, SmallestBin}
 
 -- the ends agree after division by m exactly where one bin of size m holds the region
@@ -35,100 +37,70 @@ module _ (m beg end : ℕ) (pm : 0 < m) (h : beg < end) where
           let e : i * m + (x - i * m) ≡ x = omega arith in
           ap (λ (y : ℕ). y / m) (sym e) ∙ digits-div i (omega arith)
 
+-- the size of a list's first level; the coarsest level is behind the last
+abbrev finest : List Rung → ℕ
+finest [] = 2 ^ 29
+finest (l ∷ ls) = 2 ^ l .shift
+
+-- m is the size of a level of the list, or of the coarsest
+abbrev In : ℕ → List Rung → Type 0
+In m [] = m ≡ 2 ^ 29
+In m (l ∷ ls) = (m ≡ 2 ^ l .shift) ⊎ In m ls
+
+-- each level is the specification's, no larger than those behind it, and its numbers have 16 bits
+abbrev Rising : List Rung → Type 0
+Rising [] = Unit {0}
+Rising (l ∷ ls) = Level (2 ^ l .shift) (l .offset) × ((2 ^ 29 ≤ (65536 - l .offset) * 2 ^ l .shift) × ((2 ^ l .shift ≤ finest ls) × Rising ls))
+
+rising : Rising levels
+rising =
+    (l14, (lit≤ tt, (lit≤ tt, (l17, (lit≤ tt, (lit≤ tt, (l20, (lit≤ tt, (lit≤ tt, (l23, (lit≤ tt, (lit≤ tt, (l26, (lit≤ tt, (lit≤ tt, tt)))))))))))))))
+
+all-in : {m f : ℕ} → Level m f → In m levels
+all-in l14 = inl refl
+all-in l17 = inr (inl refl)
+all-in l20 = inr (inr (inl refl))
+all-in l23 = inr (inr (inr (inl refl)))
+all-in l26 = inr (inr (inr (inr (inl refl))))
+all-in l29 = inr (inr (inr (inr (inr refl))))
+
+finest-least : (ls : List Rung) (m : ℕ) → Rising ls → In m ls → finest ls ≤ m
+finest-least [] m r e = le-of-eq (sym e)
+finest-least (l ∷ ls) m r (inl e) = le-of-eq (sym e)
+finest-least (l ∷ ls) m r (inr k) = le-trans (r .1 .1 .0) (finest-least ls m (r .1 .1 .1) k)
+
 module _ (beg end : ℕ) (h : beg < end) (g : end ≤ 536870912) where
-  abbrev Agree : ℕ → Bool → Type 0
-  Agree m t = eqb (beg / m) ((end - 1) / m) ≡ t
+  -- a bin of this level is the smallest, where no finer level has one
+  found : {m f : ℕ} → Level m f → 0 < m → beg / m ≡ (end - 1) / m → (bin : ℕ) → bin ≡ f + beg / m → ((n g : ℕ) → Level n g → (i : ℕ) → Holds n i beg end → m ≤ n) → SmallestBin beg end bin
+  found {m} {f} l pm e bin n least = record { size = m; first = f; place = beg / m; level = l; number = n; holds = holds-same m beg end pm h e; least = least }
 
-  none : {X : Type 0} (m : ℕ) → 0 < m → Agree m false → (i : ℕ) → Holds m i beg end → X
-  none m pm a i k = absurd (eqb-false (beg / m) ((end - 1) / m) a (same-holds m beg end pm h i k))
+  -- no level that is finer than the list's holds the region
+  abbrev Left : List Rung → Type 0
+  Left ls = (m f : ℕ) → Level m f → (i : ℕ) → Holds m i beg end → In m ls
 
-  found : {m f : ℕ} → Level m f → 0 < m → Agree m true → (bin : ℕ) → bin ≡ f + beg / m → ((m' f' : ℕ) → Level m' f' → (i : ℕ) → Holds m' i beg end → m ≤ m') → SmallestBin beg end bin
-  found {m} {f} l pm a bin e least =
-      record { size = m; first = f; place = beg / m; level = l; number = e; holds = holds-same m beg end pm h (eqb-true (beg / m) ((end - 1) / m) a); least = least }
+  abbrev Agree : Rung → Bool → Type 0
+  Agree l t = eqb (beg / 2 ^ l .shift) ((end - 1) / 2 ^ l .shift) ≡ t
 
-  least-14 : {m f : ℕ} → Level m f → (i : ℕ) → Holds m i beg end → 16384 ≤ m
-  least-14 l29 i k = lit≤ tt
-  least-14 l26 i k = lit≤ tt
-  least-14 l23 i k = lit≤ tt
-  least-14 l20 i k = lit≤ tt
-  least-14 l17 i k = lit≤ tt
-  least-14 l14 i k = lit≤ tt
+  coarser : (l : Rung) (ls : List Rung) → Agree l false → Left (l ∷ ls) → Left ls
+  coarser l ls a left m f k i q =
+      ⊎-elim (λ e. absurd (eqb-false _ _ a (same-holds (2 ^ l .shift) beg end (pow-pos (l .shift)) h i (subst (λ (n : ℕ). Holds n i beg end) e q)))) (λ n. n) (left m f k i q)
 
-  least-17 : Agree 16384 false → {m f : ℕ} → Level m f → (i : ℕ) → Holds m i beg end → 131072 ≤ m
-  least-17 a14 l29 i k = lit≤ tt
-  least-17 a14 l26 i k = lit≤ tt
-  least-17 a14 l23 i k = lit≤ tt
-  least-17 a14 l20 i k = lit≤ tt
-  least-17 a14 l17 i k = lit≤ tt
-  least-17 a14 l14 i k = none 16384 (lit< tt) a14 i k
-
-  least-20 : Agree 16384 false → Agree 131072 false → {m f : ℕ} → Level m f → (i : ℕ) → Holds m i beg end → 1048576 ≤ m
-  least-20 a14 a17 l29 i k = lit≤ tt
-  least-20 a14 a17 l26 i k = lit≤ tt
-  least-20 a14 a17 l23 i k = lit≤ tt
-  least-20 a14 a17 l20 i k = lit≤ tt
-  least-20 a14 a17 l17 i k = none 131072 (lit< tt) a17 i k
-  least-20 a14 a17 l14 i k = none 16384 (lit< tt) a14 i k
-
-  least-23 : Agree 16384 false → Agree 131072 false → Agree 1048576 false → {m f : ℕ} → Level m f → (i : ℕ) → Holds m i beg end → 8388608 ≤ m
-  least-23 a14 a17 a20 l29 i k = lit≤ tt
-  least-23 a14 a17 a20 l26 i k = lit≤ tt
-  least-23 a14 a17 a20 l23 i k = lit≤ tt
-  least-23 a14 a17 a20 l20 i k = none 1048576 (lit< tt) a20 i k
-  least-23 a14 a17 a20 l17 i k = none 131072 (lit< tt) a17 i k
-  least-23 a14 a17 a20 l14 i k = none 16384 (lit< tt) a14 i k
-
-  least-26 : Agree 16384 false → Agree 131072 false → Agree 1048576 false → Agree 8388608 false → {m f : ℕ} → Level m f → (i : ℕ) → Holds m i beg end → 67108864 ≤ m
-  least-26 a14 a17 a20 a23 l29 i k = lit≤ tt
-  least-26 a14 a17 a20 a23 l26 i k = lit≤ tt
-  least-26 a14 a17 a20 a23 l23 i k = none 8388608 (lit< tt) a23 i k
-  least-26 a14 a17 a20 a23 l20 i k = none 1048576 (lit< tt) a20 i k
-  least-26 a14 a17 a20 a23 l17 i k = none 131072 (lit< tt) a17 i k
-  least-26 a14 a17 a20 a23 l14 i k = none 16384 (lit< tt) a14 i k
-
-  least-29 : Agree 16384 false → Agree 131072 false → Agree 1048576 false → Agree 8388608 false → Agree 67108864 false → {m f : ℕ} → Level m f → (i : ℕ) → Holds m i beg end → 536870912 ≤ m
-  least-29 a14 a17 a20 a23 a26 l29 i k = lit≤ tt
-  least-29 a14 a17 a20 a23 a26 l26 i k = none 67108864 (lit< tt) a26 i k
-  least-29 a14 a17 a20 a23 a26 l23 i k = none 8388608 (lit< tt) a23 i k
-  least-29 a14 a17 a20 a23 a26 l20 i k = none 1048576 (lit< tt) a20 i k
-  least-29 a14 a17 a20 a23 a26 l17 i k = none 131072 (lit< tt) a17 i k
-  least-29 a14 a17 a20 a23 a26 l14 i k = none 16384 (lit< tt) a14 i k
-
-  -- the cases, from the finest level
-  from-29 : Agree 16384 false → Agree 131072 false → Agree 1048576 false → Agree 8388608 false → Agree 67108864 false → SmallestBin beg end (low16 (pos 0))
-  unfolding low16
-  from-29 a14 a17 a20 a23 a26 =
-      found l29 (lit< tt) (eq-eqb (beg / 536870912) ((end - 1) / 536870912) (omega arith)) 0 (omega arith) (λ m f l i k. least-29 a14 a17 a20 a23 a26 l i k)
-
-  from-26 : Agree 16384 false → Agree 131072 false → Agree 1048576 false → Agree 8388608 false → (t : Bool) → Agree 67108864 t → SmallestBin beg end (low16 (cond t (pos (1 + beg / 67108864)) (pos 0)))
-  unfolding low16
-  from-26 a14 a17 a20 a23 true a = found l26 (lit< tt) a ((1 + beg / 67108864) % 65536) (omega arith) (λ m f l i k. least-26 a14 a17 a20 a23 l i k)
-  from-26 a14 a17 a20 a23 false a = from-29 a14 a17 a20 a23 a
-
-  from-23 : Agree 16384 false → Agree 131072 false → Agree 1048576 false → (t : Bool) → Agree 8388608 t → SmallestBin beg end (low16 (cond t (pos (9 + beg / 8388608)) (cond (eqb (beg / 67108864) ((end - 1) / 67108864)) (pos (1 + beg / 67108864)) (pos 0))))
-  unfolding low16
-  from-23 a14 a17 a20 true a = found l23 (lit< tt) a ((9 + beg / 8388608) % 65536) (omega arith) (λ m f l i k. least-23 a14 a17 a20 l i k)
-  from-23 a14 a17 a20 false a = from-26 a14 a17 a20 a (eqb (beg / 67108864) ((end - 1) / 67108864)) refl
-
-  from-20 : Agree 16384 false → Agree 131072 false → (t : Bool) → Agree 1048576 t → SmallestBin beg end (low16 (cond t (pos (73 + beg / 1048576)) (cond (eqb (beg / 8388608) ((end - 1) / 8388608)) (pos (9 + beg / 8388608)) (cond (eqb (beg / 67108864) ((end - 1) / 67108864)) (pos (1 + beg / 67108864)) (pos 0)))))
-  unfolding low16
-  from-20 a14 a17 true a = found l20 (lit< tt) a ((73 + beg / 1048576) % 65536) (omega arith) (λ m f l i k. least-20 a14 a17 l i k)
-  from-20 a14 a17 false a = from-23 a14 a17 a (eqb (beg / 8388608) ((end - 1) / 8388608)) refl
-
-  from-17 : Agree 16384 false → (t : Bool) → Agree 131072 t → SmallestBin beg end (low16 (cond t (pos (585 + beg / 131072)) (cond (eqb (beg / 1048576) ((end - 1) / 1048576)) (pos (73 + beg / 1048576)) (cond (eqb (beg / 8388608) ((end - 1) / 8388608)) (pos (9 + beg / 8388608)) (cond (eqb (beg / 67108864) ((end - 1) / 67108864)) (pos (1 + beg / 67108864)) (pos 0))))))
-  unfolding low16
-  from-17 a14 true a = found l17 (lit< tt) a ((585 + beg / 131072) % 65536) (omega arith) (λ m f l i k. least-17 a14 l i k)
-  from-17 a14 false a = from-20 a14 a (eqb (beg / 1048576) ((end - 1) / 1048576)) refl
-
-  from-14 : (t : Bool) → Agree 16384 t → SmallestBin beg end (low16 (cond t (pos (4681 + beg / 16384)) (cond (eqb (beg / 131072) ((end - 1) / 131072)) (pos (585 + beg / 131072)) (cond (eqb (beg / 1048576) ((end - 1) / 1048576)) (pos (73 + beg / 1048576)) (cond (eqb (beg / 8388608) ((end - 1) / 8388608)) (pos (9 + beg / 8388608)) (cond (eqb (beg / 67108864) ((end - 1) / 67108864)) (pos (1 + beg / 67108864)) (pos 0)))))))
-  unfolding low16
-  from-14 true a = found l14 (lit< tt) a ((4681 + beg / 16384) % 65536) (omega arith) (λ m f l i k. least-14 l i k)
-  from-14 false a = from-17 a (eqb (beg / 131072) ((end - 1) / 131072)) refl
+  -- the first agreement in such a list gives the smallest bin
+  first : (ls : List Rung) → Rising ls → Left ls → SmallestBin beg end (low16 (firstAgreed ls (pos beg) (pos (end - 1))))
+  unfolding firstAgreed eqℤ low16
+  first [] r left = found l29 (lit< tt) (omega arith) 0 (omega arith) (λ m f l i k. le-of-eq (sym (left m f l i k)))
+  first (l ∷ ls) r left = go (eqb (beg / 2 ^ l .shift) ((end - 1) / 2 ^ l .shift)) refl (first ls (r .1 .1 .1))
+    where
+      go : (t : Bool) → Agree l t → (Left ls → SmallestBin beg end (low16 (firstAgreed ls (pos beg) (pos (end - 1))))) → SmallestBin beg end (low16 (cond t (pos (l .offset + beg / 2 ^ l .shift)) (firstAgreed ls (pos beg) (pos (end - 1)))))
+      go true a next =
+          let b : beg < 2 ^ 29 = omega arith in
+          let q = div-lt-iff-lt-mul (pow-pos (l .shift)) .1 (lt-of-lt-of-le b (r .1 .0)) in
+          found (r .0) (pow-pos (l .shift)) (eqb-true _ _ a) _ (omega arith) (λ m f k i n. finest-least (l ∷ ls) m r (left m f k i n))
+      go false a next = next (coarser l ls a left)
 
   -- the bin that the code answers
   pub smallest : SmallestBin beg end (low16 (binOf (pos beg) (pos (end - 1))))
-  unfolding firstAgreed eqℤ
-  smallest = from-14 (eqb (beg / 16384) ((end - 1) / 16384)) refl
+  smallest = first levels rising (λ m f l i k. all-in l)
 
   pub answered : reg2bin (pos beg) (pos end) ≡ Number (low16 (binOf (pos beg) (pos (end - 1))))
   unfolding reg2bin binTo
