@@ -1,4 +1,4 @@
--- The masks of the code are the tables of the definitions: antt computes both for the 16 codes.
+-- The code's tests are the tables of the definitions: antt computes both for the 16 codes.
 use Prim.Native.Nat.{ℕ, _/_, _%_, _^_, _<_, _≤_}
 use mathlib.Core.Path.{_≡_, refl}
 use mathlib.Core.Bool.{false}
@@ -19,9 +19,9 @@ pub query-bit : (o : ℕ) → eqb (403 / 2 ^ (o % 16) % 2) 1 ≡ isQuery (o % 16
 unfolding isQuery
 query-bit o = below-same (λ d. eqb (403 / 2 ^ d % 2) 1) isQuery 16 (o % 16) refl (omega arith)
 
-pub clip-bit : (o : ℕ) → eqb (48 / 2 ^ (o % 16) % 2) 1 ≡ isClip (o % 16)
+pub clip-code : (o : ℕ) → eqb (o % 16 / 2) 2 ≡ isClip (o % 16)
 unfolding isClip
-clip-bit o = below-same (λ d. eqb (48 / 2 ^ d % 2) 1) isClip 16 (o % 16) refl (omega arith)
+clip-code o = below-same (λ d. eqb (d / 2) 2) isClip 16 (o % 16) refl (omega arith)
 
 pub read-bit : (c : ℕ) → c < 9 → eqb (387 / 2 ^ c % 2) 1 ≡ isRead c
 unfolding isRead

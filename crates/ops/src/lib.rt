@@ -192,11 +192,11 @@ pub fn consumes_read(code: u32) -> bool
     (387u32 >> code) % 2 == 1
 }
 
-// Whether an op is S or H: bit c of 48 is code c's.
+// Whether an op is S or H: the codes 4 and 5.
 pub fn is_clip(op: u32) -> bool
     ensures { λ r. ⌜ r ≡ isClip (op % 16) ⌝ }
 {
-    (48u32 >> (op % 16)) % 2 == 1
+    op % 16 / 2 == 2
 }
 
 // The bases of an op.

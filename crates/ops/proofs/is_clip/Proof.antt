@@ -1,14 +1,11 @@
--- The mask is the table.
-use Rattle.ops.proofs.CodeLaws.{clip-bit}
+-- The test is the table.
+use Rattle.ops.proofs.CodeLaws.{clip-code}
 use borrow.Author.Needs.{needs}
 use Rattle.ops.proofs.is_clip.Statement.{statement}
 use Rattle.ops.proofs.is_clip.Tie as tie
 
-shr-result : tie.Need-shr-result
-shr-result c = search needs
-
 returns : tie.Need-returns
-returns c = clip-bit (c .args .op)
+returns c = clip-code (c .args .op)
 
 pub is-clip-spec : {M : Type 1} → statement M
-is-clip-spec = tie.close (tie.spec shr-result returns)
+is-clip-spec = tie.close (tie.spec returns)
