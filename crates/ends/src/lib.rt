@@ -1,19 +1,17 @@
 // Document 01, module 7: unclipped ends, start and end of a record. Positions are counted from 0 in records, and from 1 in answers.
-mod sums;
 mod tails;
 
 ghost use mathlib.Core.Path.{_≡_};
 ghost use Prim.Native.Nat.{_≤_};
 ghost use lib.IntN.{pos};
 ghost use Rattle.signed.specs.declared.Sum.the-variants.{Number};
-ghost use Rattle.oplist.specs.Ops.{opsOf};
-ghost use Rattle.ends.specs.Sums.{total};
-ghost use Rattle.ends.specs.Ends.{provided, unclippedStart, unclippedEnd, fivePrime, toPlace0, toPlace1, oneBased, toFound1, asUnclipped, unclippedAt, unclippedOf, asRust, unclippedFrom, alignmentStart, alignmentEnd};
+ghost use Rattle.ends.specs.Sums.{_⊕_, _⊖_, total};
+ghost use Rattle.ends.specs.Ends.{provided, toPlace0, toPlace1, oneBased, toFound1, asUnclipped, unclippedOf, asRust, unclippedFrom, alignmentStart, alignmentEnd};
 use answers::Pos0;
 use answers::Pos1;
 use answers::Refusal;
-use oplist::Ops;
 use signed::Sum;
+use tails::Tail;
 
 // A place, counted from 0.
 pub enum Place0 {
@@ -68,12 +66,24 @@ pub fn one_based(p: Pos0) -> Place1
     to_place1(signed::checked_add(p.0, 1))
 }
 
-// Where the alignment at `at` would begin with its clips; counted as `at` is.
-fn start_from(words: &[u32], rec: &[u8], list: Ops, at: i32) -> Sum
-    ensures { λ r. ⌜ r ≡ unclippedStart at (opsOf (now (words .entry)) (now (rec .entry)) list) ⌝ }
+// Lengths that come to n.
+fn whole(n: u64) -> Sum
+    ensures { λ r. ⌜ r ≡ total n ⌝ }
 {
-    let clips = tails::leading_clips(words, rec, list);
-    sums::minus(Sum::Number(at), sums::whole(clips))
+    if 2147483647 < n {
+        return Sum::Over;
+    }
+    Sum::Number(n as i32)
+}
+
+// Where an alignment at `at` that begins with so many clipped bases would begin; counted as `at` is.
+fn start_from(at: i32, clips: u64) -> Sum
+    ensures { λ r. ⌜ r ≡ Number at ⊖ total clips ⌝ }
+{
+    let Sum::Number(n) = whole(clips) else {
+        return Sum::Over;
+    };
+    signed::checked_sub(at, n)
 }
 
 // The clips after the last reference op, where the Rust's sum of clips gets so far.
@@ -87,41 +97,32 @@ fn trailing(clips: u64, most: u64) -> Sum
     Sum::Number(clips as i32)
 }
 
-// Where the alignment at `at` would end with its clips; counted as `at` is.
-fn end_from(words: &[u32], rec: &[u8], list: Ops, at: i32) -> Sum
-    ensures { λ r. ⌜ r ≡ unclippedEnd at (opsOf (now (words .entry)) (now (rec .entry)) list) ⌝ }
+// Where an alignment at `at` would end with its clips, from what the walk to its end has met; counted as `at` is.
+fn end_from(at: i32, w: Tail) -> Sum
+    requires { ⌜ w .clips ≤ w .most ⌝ }
+    ensures { λ r. ⌜ r ≡ Number at ⊕ total (w .refs) ⊕ provided (total (w .most)) (Number (pos (w .clips))) ⊖ Number (pos 1) ⌝ }
 {
-    let w = tails::tail_of(words, rec, list);
-    let end = sums::plus(Sum::Number(at), sums::whole(w.refs));
-    let clipped = sums::plus(end, trailing(w.clips, w.most));
-    sums::minus(clipped, Sum::Number(1))
+    let Sum::Number(refs) = whole(w.refs) else {
+        return Sum::Over;
+    };
+    let Sum::Number(end) = signed::checked_add(at, refs) else {
+        return Sum::Over;
+    };
+    let Sum::Number(clips) = trailing(w.clips, w.most) else {
+        return Sum::Over;
+    };
+    let Sum::Number(clipped) = signed::checked_add(end, clips) else {
+        return Sum::Over;
+    };
+    signed::checked_sub(clipped, 1)
 }
 
-fn five_prime(words: &[u32], rec: &[u8], list: Ops, at: i32, reverse: bool) -> Sum
-    ensures { λ r. ⌜ r ≡ fivePrime reverse at (opsOf (now (words .entry)) (now (rec .entry)) list) ⌝ }
+fn as_unclipped(s: Sum) -> Unclipped
+    ensures { λ r. ⌜ r ≡ asUnclipped (toPlace1 s) ⌝ }
 {
-    if reverse {
-        return end_from(words, rec, list, at);
-    }
-    start_from(words, rec, list, at)
-}
-
-fn as_unclipped(p: Place1) -> Unclipped
-    ensures { λ r. ⌜ r ≡ asUnclipped p ⌝ }
-{
-    match p {
-        Place1::At(at) => Unclipped::At(at),
-        Place1::Refused(why) => Unclipped::Refused(why),
-    }
-}
-
-// The 5' end of ops that are aligned at `pos`.
-fn unclipped_at(words: &[u32], rec: &[u8], list: Ops, pos: Pos0, reverse: bool) -> Unclipped
-    ensures { λ r. ⌜ r ≡ unclippedAt (oneBased pos) reverse (opsOf (now (words .entry)) (now (rec .entry)) list) ⌝ }
-{
-    match one_based(pos) {
-        Place1::At(p) => as_unclipped(to_place1(five_prime(words, rec, list, p.0, reverse))),
-        Place1::Refused(why) => Unclipped::Refused(why),
+    match s {
+        Sum::Number(z) => Unclipped::At(Pos1(z)),
+        Sum::Over => Unclipped::Refused(Refusal::Overflow),
     }
 }
 
@@ -140,8 +141,13 @@ fn unclipped_5prime(bam: &[u8]) -> Unclipped
     if oplist::count(&[], bam, list) == 0 {
         return Unclipped::NoOps;
     }
-    let pos = Pos0(little::i32_at(bam, 4));
-    unclipped_at(&[], bam, list, pos, fields::is_reverse(flags))
+    let Sum::Number(at) = signed::checked_add(little::i32_at(bam, 4), 1) else {
+        return Unclipped::Refused(Refusal::Overflow);
+    };
+    if fields::is_reverse(flags) {
+        return as_unclipped(end_from(at, tails::tail_of(&[], bam, list)));
+    }
+    as_unclipped(start_from(at, tails::leading_clips(&[], bam, list)))
 }
 
 // A record's unclipped 5' position: 0 where it is unmapped, 2^31 - 1 where it has no ops or they overrun it. Refusals 1 and 4.
@@ -167,7 +173,10 @@ pub fn unclipped_5prime_raw(bam: &[u8], pos: Pos0, reverse: bool) -> Place0
     if oplist::count(&[], bam, list) == 0 {
         return Place0::At(pos);
     }
-    to_place0(five_prime(&[], bam, list, pos.0, reverse))
+    if reverse {
+        return to_place0(end_from(pos.0, tails::tail_of(&[], bam, list)));
+    }
+    to_place0(start_from(pos.0, tails::leading_clips(&[], bam, list)))
 }
 
 fn to_found1(p: Place1) -> Found1

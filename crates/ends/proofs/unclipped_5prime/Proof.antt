@@ -1,18 +1,56 @@
 -- By the tests; the place is that of the record's ops from its own `pos` and strand.
 use mathlib.Core.Path.{_≡_, ap, sym, _∙_}
-use mathlib.Core.Bool.{Bool}
+use mathlib.Core.Bool.{Bool, false}
 use mathlib.Core.List.{[]}
-use lib.IntN.{ℤ, pos}
+use lib.IntN.{ℤ, pos, _+ℤ_}
 use mir.Syntax.{w32}
 use mir.Val.{toZ, ofZ}
+use Rattle.signed.specs.Whole.{checked}
+use Rattle.signed.specs.declared.Sum.{Sum}
 use Rattle.sam.specs.Record.{posOf, flagsOf, isReverse, isUnmapped}
 use Rattle.oplist.specs.Ops.{opsOf}
-use Rattle.ends.specs.Ends.{oneBased, unclippedAt, unclippedOf}
-use Rattle.ends.proofs.CaseLaws.{is-unmapped, no-ops, is-placed, none-left, some-left}
+use Rattle.ends.specs.declared.Unclipped.{Unclipped}
+use Rattle.ends.specs.Ends.{fivePrime, noOps, toPlace1, asUnclipped, unclippedOf}
+use Rattle.ends.proofs.CaseLaws.{is-unmapped, no-ops, too-far, is-placed, none-left, some-left, forward, backward}
 use borrow.Author.Tests.{lt-ltb}
 use borrow.Author.Needs.{needs}
 use Rattle.ends.proofs.unclipped_5prime.Statement.{statement}
 use Rattle.ends.proofs.unclipped_5prime.Tie as tie
+
+abbrev at-place : Sum → Unclipped
+at-place s = asUnclipped (toPlace1 s)
+
+-- what the tests tell
+mapped : (c : tie.Else2) → isUnmapped (flagsOf (c .before .before .before .before .before .args .bam .now)) ≡ false
+mapped c = ap isUnmapped (sym (c .before .before .u16-at .ensures .0)) ∙ sym (c .before .is-unmapped .ensures) ∙ c .if2 .left
+
+has-ops : (c : tie.Else3) → noOps (c .before .before .before .before .before .before .before .before .before .args .bam .now) ≡ false
+has-ops c =
+    let k = c .before .before .before in
+    some-left (k .before .before .before .before .before .before .args .bam .now) _ _ (c .before .count .ensures .0) (k .of-record .ensures .0 _) (c .if3 .left)
+
+-- `pos` + 1
+next : (c : tie.After-checked-add) → c .checked-add .result ≡ checked (posOf (c .before .before .before .before .before .before .before .before .before .before .before .args .bam .now) +ℤ pos 1)
+next c =
+    let i = c .before in
+    let e : toZ w32 (ofZ w32 (i .i32-at .result)) ≡ i .i32-at .result = search needs in
+    simp e at (c .checked-add .ensures) ∙ ap (λ (z : ℤ). checked (z +ℤ pos 1)) (i .i32-at .ensures)
+
+-- the record's place, from its strand
+placed : (c : tie.After-is-reverse) → let k = c .before .before .before .before in let o = k .before .before .before .before .before in let b = o .before .before .before .before .before .before .args .bam .now in
+    at-place (fivePrime (c .is-reverse .result) (c .before .before .at .given .0 .0) (opsOf [] b (o .of-record .result))) ≡ unclippedOf b
+placed c =
+    let p = c .before .before in
+    let k = p .before .before in
+    let l = k .before .before in
+    let o = l .before .before .before in
+    let m = o .before in
+    let u = m .before .before in
+    let b = u .before .before .before .args .bam .now in
+    let z = p .at .given .0 .0 in
+    ap (λ (t : Bool). at-place (fivePrime t z (opsOf [] b (o .of-record .result)))) (c .is-reverse .ensures ∙ ap isReverse (u .u16-at .ensures .0))
+    ∙ ap (λ xs. at-place (fivePrime (isReverse (flagsOf b)) z xs)) (o .of-record .ensures .0 _)
+    ∙ is-placed b (u .before .if1 .left) (mapped m) (has-ops l) z (sym (next k) ∙ p .at .given .1)
 
 returns : tie.Need-returns
 unfolding unclippedOf
@@ -45,37 +83,77 @@ returns-3 c =
     let m = k .before in
     let u = m .before .before in
     let b = u .before .before .before .args .bam .now in
-    no-ops b (u .before .if1 .left) (ap isUnmapped (sym (u .u16-at .ensures .0)) ∙ sym (m .before .is-unmapped .ensures) ∙ m .if2 .left)
-    (none-left b _ _ (n .count .ensures .0) (k .of-record .ensures .0 _) (c .if3 .taken))
+    no-ops b (u .before .if1 .left) (mapped m) (none-left b _ _ (n .count .ensures .0) (k .of-record .ensures .0 _) (c .if3 .taken))
 
 i32-at-requires : tie.Need-i32-at-requires
 i32-at-requires c κs = search needs
 
-slice-aggregate-unclipped-at : tie.Need-slice-aggregate-unclipped-at
-slice-aggregate-unclipped-at c = search needs
+checked-add-requires : tie.Need-checked-add-requires
+checked-add-requires c κs = search needs
+
+enum-known-at : tie.Need-enum-known-at
+enum-known-at c = search needs
+
+enum-told : tie.Need-enum-told
+enum-told c = search needs
+
+returns-4 : tie.Need-returns-4
+returns-4 c =
+    let k = c .before .before in
+    let l = k .before .before in
+    let m = l .before .before .before .before in
+    let u = m .before .before in
+    too-far (u .before .before .before .args .bam .now) (u .before .if1 .left) (mapped m) (has-ops l) (sym (next k) ∙ c .enum-told .given .1)
 
 is-reverse-requires : tie.Need-is-reverse-requires
 is-reverse-requires c κs = search needs
 
-unclipped-at-requires : tie.Need-unclipped-at-requires
-unclipped-at-requires c κs = search needs
+slice-aggregate-tail-of : tie.Need-slice-aggregate-tail-of
+slice-aggregate-tail-of c = search needs
 
-returns-4 : tie.Need-returns-4
-returns-4 c =
-    let r = c .before in
-    let i = r .before .before in
-    let n = i .before .before in
-    let k = n .before .before in
-    let m = k .before in
-    let u = m .before .before in
-    let b = u .before .before .before .args .bam .now in
-    let x : toZ w32 (ofZ w32 (i .i32-at .result)) ≡ posOf b = let e : toZ w32 (ofZ w32 (i .i32-at .result)) ≡ i .i32-at .result = search needs in e ∙ i .i32-at .ensures in
-    c .unclipped-at .ensures
-    ∙ ap (λ (z : ℤ). unclippedAt (oneBased (record { 0 = z })) (r .is-reverse .result) (opsOf [] b (k .of-record .result))) x
-    ∙ ap (λ (t : Bool). unclippedAt (oneBased (record { 0 = posOf b })) t (opsOf [] b (k .of-record .result))) (r .is-reverse .ensures ∙ ap isReverse (u .u16-at .ensures .0))
-    ∙ ap (unclippedAt (oneBased (record { 0 = posOf b })) (isReverse (flagsOf b))) (k .of-record .ensures .0 _)
-    ∙ is-placed b (u .before .if1 .left) (ap isUnmapped (sym (u .u16-at .ensures .0)) ∙ sym (m .before .is-unmapped .ensures) ∙ m .if2 .left)
-    (some-left b _ _ (n .count .ensures .0) (k .of-record .ensures .0 _) (i .before .if3 .left))
+tail-of-requires : tie.Need-tail-of-requires
+tail-of-requires c κs = search needs
+
+end-from-requires : tie.Need-end-from-requires
+end-from-requires c κs = search needs
+
+as-unclipped-requires : tie.Need-as-unclipped-requires
+as-unclipped-requires c κs = search needs
+
+returns-5 : tie.Need-returns-5
+returns-5 c =
+    let w = c .before .before in
+    let t = w .before .before in
+    let r = t .before in
+    let z = r .before .before .at .given .0 .0 in
+    let e : toZ w32 (ofZ w32 z) ≡ z = search needs in
+    let f = w .tail-of .ensures in
+    c .as-unclipped .ensures
+    ∙ ap at-place (simp e at (c .before .end-from .ensures) ∙ backward z _ (r .is-reverse .result) (w .tail-of .result) (t .if4 .taken) (f .0) (f .1) (f .2))
+    ∙ placed r
+
+slice-aggregate-leading-clips : tie.Need-slice-aggregate-leading-clips
+slice-aggregate-leading-clips c = search needs
+
+leading-clips-requires : tie.Need-leading-clips-requires
+leading-clips-requires c κs = search needs
+
+start-from-requires : tie.Need-start-from-requires
+start-from-requires c κs = search needs
+
+as-unclipped-requires-2 : tie.Need-as-unclipped-requires-2
+as-unclipped-requires-2 c κs = search needs
+
+returns-6 : tie.Need-returns-6
+returns-6 c =
+    let w = c .before .before in
+    let t = w .before .before in
+    let r = t .before in
+    let z = r .before .before .at .given .0 .0 in
+    let e : toZ w32 (ofZ w32 z) ≡ z = search needs in
+    c .as-unclipped2 .ensures
+    ∙ ap at-place (simp e at (c .before .start-from .ensures) ∙ forward z _ (r .is-reverse .result) (w .leading-clips .result) (t .if4 .left) (w .leading-clips .ensures))
+    ∙ placed r
 
 pub unclipped-5prime-spec : {M : Type 1} → statement M
 unclipped-5prime-spec =
@@ -90,7 +168,18 @@ unclipped-5prime-spec =
     count-requires
     returns-3
     i32-at-requires
-    slice-aggregate-unclipped-at
+    checked-add-requires
+    enum-known-at
+    enum-told
+    returns-4
     is-reverse-requires
-    unclipped-at-requires
-    returns-4)
+    slice-aggregate-tail-of
+    tail-of-requires
+    end-from-requires
+    as-unclipped-requires
+    returns-5
+    slice-aggregate-leading-clips
+    leading-clips-requires
+    start-from-requires
+    as-unclipped-requires-2
+    returns-6)

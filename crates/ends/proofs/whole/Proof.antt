@@ -7,8 +7,8 @@ use mir.Facts.{toZ-pos}
 use mathlib.Core.Path.{ap, sym, _∙_}
 use native.Mathlib.Omega.{arith}
 use borrow.Author.Needs.{needs}
-use Rattle.ends.proofs.sums.whole.Statement.{statement}
-use Rattle.ends.proofs.sums.whole.Tie as tie
+use Rattle.ends.proofs.whole.Statement.{statement}
+use Rattle.ends.proofs.whole.Tie as tie
 
 returns : tie.Need-returns
 returns c = sym (checked-above (pos (c .before .args .n)) (omega arith))
