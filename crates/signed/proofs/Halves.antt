@@ -1,6 +1,6 @@
 -- A ℤ as two naturals, `up z` less `dn z`, so that `omega` can reason about it: each operation on ℤ is one linear fact of the halves, which goes into
 -- omega's list, and `same`, `leℤ`, `ltℤ`, `sfits32` .. turn a fact of the halves back into one of ℤ. Assumes nothing.
-use Prim.Native.Nat.{ℕ, zero, suc, _+_, _-_, _≤_, _<_, _^_}
+use Prim.Native.Nat.{ℕ, zero, suc, _+_, _-_, _%_, _≤_, _<_, _^_}
 use mathlib.Core.Path.{_≡_, refl, sym, ap, _∙_, subst}
 use mathlib.Core.Bool.{Bool, true, false, not, cond}
 use mathlib.Core.Logic.{_⊎_, inl, inr}
@@ -185,12 +185,7 @@ natural-high (pos n) f h = omega arith
 natural-high (negsuc n) f h = omega arith
 
 -- the 64 bits from the raised number
-pub bits-low : (z : ℤ) → SFits w32 z → raised z < 2147483648 → raised z + 18446744071562067968 ≡ twos64 z
+pub bits-raised : (z : ℤ) → SFits w32 z → (raised z + 18446744071562067968) % 2 ^ 64 ≡ twos64 z
 unfolding raised
-bits-low (pos n) f h = omega arith
-bits-low (negsuc n) f h = omega (arith, f .sfits)
-
-pub bits-high : (z : ℤ) → 2147483648 ≤ raised z → raised z - 2147483648 ≡ twos64 z
-unfolding raised
-bits-high (pos n) h = omega arith
-bits-high (negsuc n) h = omega arith
+bits-raised (pos n) f = omega (arith, f .sfits)
+bits-raised (negsuc n) f = omega (arith, f .sfits)

@@ -4,7 +4,8 @@ use mathlib.Core.Path.{_≡_, refl, sym, ap, _∙_}
 use native.Mathlib.Omega.{arith}
 use lib.IntN.{ℤ, pos, negsuc, _+ℤ_, _-ℤ_}
 use mir.Syntax.{w32, w64}
-use mir.Val.{SFits}
+use mir.Val.{SFits, toZ, ofZ}
+use mir.Facts.{toZ-ofZ, sfits-widen}
 use Rattle.signed.specs.declared.Side.the-variants.{Below, Within, Above}
 use Rattle.signed.specs.declared.Sum.the-variants.{Number, Over}
 use Rattle.signed.specs.Whole.{sideOf, sumAt, nearest, checked, clamp32}
@@ -57,3 +58,21 @@ module _ (a b : ℤ) (f : SFits w32 a) (g : SFits w32 b) where
   wide-sub =
       let p = minus a b in
       sfits64 (a -ℤ b) (omega (arith, top32 a f, low32 b g)) (omega (arith, low32 a f, top32 b g))
+
+-- an i32 that is read back from its bits and widened
+abbrev widened : ℤ → ℤ
+widened z = toZ w64 (ofZ w64 (toZ w32 (ofZ w32 z)))
+
+pub wide-cast : (z : ℤ) → SFits w32 z → SFits w64 (toZ w32 (ofZ w32 z))
+wide-cast z h = simp (toZ-ofZ h) (sfits-widen tt h)
+
+wide-is : (z : ℤ) → SFits w32 z → widened z ≡ z
+wide-is z h = toZ-ofZ (wide-cast z h) ∙ toZ-ofZ h
+
+-- an operation whose results an i64 holds gives the same on two that are widened
+module _ (op : ℤ → ℤ → ℤ) (holds : (a b : ℤ) → SFits w32 a → SFits w32 b → SFits w64 (op a b)) (a b : ℤ) (f : SFits w32 a) (g : SFits w32 b) where
+  pub wide-fits : SFits w64 (op (widened a) (widened b))
+  wide-fits = simp (wide-is a f, wide-is b g) (holds a b f g)
+
+  pub wide-back : toZ w64 (ofZ w64 (op (widened a) (widened b))) ≡ op a b
+  wide-back = simp (wide-is a f, wide-is b g) (toZ-ofZ (holds a b f g))

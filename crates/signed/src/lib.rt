@@ -47,15 +47,11 @@ pub fn of_bits(n: u32) -> i32
     }
 }
 
-// The 64 bits of a number in two's complement.
+// The 64 bits of a number in two's complement: 2^31 is taken off again.
 pub fn bits64(x: i32) -> u64
     ensures { λ r. ⌜ r ≡ twos64 x ⌝ }
 {
-    let u = raise(x);
-    if u < 2147483648 {
-        return u + 18446744071562067968;
-    }
-    u - 2147483648
+    std::num::wrapping_add_u64(raise(x), 18446744071562067968)
 }
 
 fn wide_sum(a: i32, b: i32) -> i64

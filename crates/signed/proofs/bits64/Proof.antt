@@ -1,31 +1,24 @@
--- From the raised number: a negative one is 2^64 less its distance from 0.
-use mathlib.Core.Path.{_≡_, sym}
-use native.Mathlib.Omega.{arith}
+-- The raised number less 2^31, modulo 2^64.
+use Prim.Native.Nat.{ℕ, _+_, _%_, _^_}
+use mathlib.Core.Path.{_≡_, ap, _∙_}
 use mir.Facts.{toZ-ofZ}
 use borrow.Author.Needs.{needs}
-use Rattle.signed.specs.Whole.{raised}
-use Rattle.signed.proofs.Halves.{bits-low, bits-high}
+use Rattle.signed.proofs.Halves.{bits-raised}
 use Rattle.signed.proofs.bits64.Statement.{statement}
 use Rattle.signed.proofs.bits64.Tie as tie
 
 raise-requires : tie.Need-raise-requires
 raise-requires c κs = search needs
 
-told : (c : tie.After-raise) → c .raise .result ≡ raised (c .before .args .x)
-told c = simp (toZ-ofZ (c .before .fits .x)) at (c .raise .ensures .0)
-
-add-result : tie.Need-add-result
-add-result c = search needs
+wrapping-add-u64-requires : tie.Need-wrapping-add-u64-requires
+wrapping-add-u64-requires c κs = search needs
 
 returns : tie.Need-returns
 returns c =
     let s = c .before .before in
-    omega (arith, told (c .before), bits-low (s .args .x) (s .fits .x) (omega (arith, told (c .before))))
-
-returns-2 : tie.Need-returns-2
-returns-2 c =
-    let s = c .before .before in
-    omega (arith, told (c .before), bits-high (s .args .x) (omega (arith, told (c .before))))
+    c .wrapping-add-u64 .ensures
+    ∙ ap (λ (n : ℕ). (n + 18446744071562067968) % 2 ^ 64) (simp (toZ-ofZ (s .fits .x)) at (c .before .raise .ensures .0))
+    ∙ bits-raised (s .args .x) (s .fits .x)
 
 pub bits64-spec : {M : Type 1} → statement M
-bits64-spec = tie.close (tie.spec raise-requires add-result returns returns-2)
+bits64-spec = tie.close (tie.spec raise-requires wrapping-add-u64-requires returns)
