@@ -1,5 +1,6 @@
 // Runs document 01's clipping examples and its edges, over a list and over a record that holds it.
 use clip::Clipped;
+use shown::record;
 
 // An op's code, as its letter stands in texts.
 const M: u32 = 0;
@@ -16,54 +17,17 @@ const H: u32 = 5;
 
 const P: u32 = 6;
 
-// A record with op i stored, and so many ops; as it is past its 7.
-fn with_op(record: [u8; 64], i: usize, op: u32) -> [u8; 64] {
-    if 7 <= i {
-        return record;
-    }
-    let mut r = record;
-    let at = 33 + 4 * i;
-    r[at] = (op % 256) as u8;
-    r[at + 1] = (op / 256 % 256) as u8;
-    r[at + 2] = (op / 65536 % 256) as u8;
-    r[at + 3] = (op / 16777216 % 256) as u8;
-    r[12] = (i + 1) as u8;
-    r
-}
-
-// A record whose name is its end alone, with up to 7 of the ops.
-fn record_of(words: &[u32]) -> [u8; 64] {
-    let mut r = [0u8; 64];
-    r[8] = 1;
+// A record with up to 15 of the ops.
+fn record_of(words: &[u32]) -> [u8; 96] {
+    let mut r = [0u8; 96];
+    r[8] = 4;
+    r[12] = (words.len() % 256) as u8;
     let mut i: usize = 0;
     while i < words.len() {
-        r = with_op(r, i, words[i]);
+        r = record::with_op(r, i, words[i]);
         i += 1;
     }
     r
-}
-
-// The first n ops of a list.
-fn first(words: &[u32], n: usize) {
-    if n <= words.len() {
-        shown::list(&words[..n]);
-    }
-}
-
-// The list written and the count; or the refusal, and what the output holds.
-fn answer(got: Clipped, out: &[u32]) {
-    match got {
-        Clipped::Done(n, count) => {
-            first(out, n as usize);
-            shown::text(b" ");
-            shown::natural(count);
-        }
-        Clipped::Refused(why) => {
-            shown::refused(why);
-            shown::text(b" leaves ");
-            shown::list(out);
-        }
-    }
 }
 
 fn question(words: &[u32], amount: u64, start: bool) {
@@ -81,11 +45,11 @@ fn question(words: &[u32], amount: u64, start: bool) {
 fn show_in(words: &[u32], amount: u64, start: bool, out: &mut [u32], again: &mut [u32]) {
     question(words, amount, start);
     let got = clip::clip_cigar_ops_raw(words, amount, start, out);
-    answer(got, out);
+    shown::clipped(got, out);
     shown::text(b"; in a record ");
     let r = record_of(words);
     let same = clip::clip_cigar_ops(&r, amount, start, again);
-    answer(same, again);
+    shown::clipped(same, again);
     shown::end();
 }
 
@@ -147,21 +111,19 @@ fn edges() {
     show_in_one(&[16 * 268435455 + M, 16 + 9], 0, true);
 }
 
-// The first n bytes of a record, clipped at the start by 3.
-fn cut(bam: &[u8], n: usize) {
+// A record, clipped at the start by 3.
+fn show_record(bam: &[u8]) {
     let mut out = [112u32; 2];
-    if n <= bam.len() {
-        let got = clip::clip_cigar_ops(&bam[..n], 3, true, &mut out);
-        answer(got, &out);
-        shown::end();
-    }
+    let got = clip::clip_cigar_ops(bam, 3, true, &mut out);
+    shown::clipped(got, &out);
+    shown::end();
 }
 
 // A record that is too short, and one whose ops don't end within it.
 fn damaged() {
     let r = record_of(&[16 * 5 + S, 16 * 20 + M]);
-    cut(&r, 31);
-    cut(&r, 40);
+    show_record(record::cut(&r, 31));
+    show_record(record::cut(&r, 43));
 }
 
 // Clips at the start by 3: the number of ops written, and the first three.
@@ -172,7 +134,7 @@ fn counted(words: &[u32]) {
         Clipped::Refused(why) => shown::refused(why),
     }
     shown::text(b", first ");
-    first(&out, 3);
+    shown::first(&out, 3);
     shown::end();
 }
 

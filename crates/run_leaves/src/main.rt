@@ -1,5 +1,5 @@
 // Runs document 01's record, short and damaged ones, and the edges of the leaves: fields, ops, lengths, bins.
-use lengths::Lengths;
+use shown::record;
 
 // The record of document 01's program up to its ops: pos 99, flags 0, l_seq 30, name `r`, ops 5S20M2D5M.
 fn example() -> [u8; 50] {
@@ -17,17 +17,6 @@ fn example() -> [u8; 50] {
     r
 }
 
-fn both(bam: &[u8]) {
-    match lengths::cigar_lengths(bam) {
-        Lengths::Both(refs, query) => {
-            shown::integer(refs);
-            shown::text(b" ");
-            shown::natural(query);
-        }
-        Lengths::Refused(why) => shown::refused(why),
-    }
-}
-
 // Ops, checked reference length, unchecked one, query length, both, stored and computed bin.
 fn show(bam: &[u8]) {
     let mut out = [0u32; 4];
@@ -42,7 +31,7 @@ fn show(bam: &[u8]) {
     shown::text(b", query ");
     shown::count(lengths::query_length(bam));
     shown::text(b", both ");
-    both(bam);
+    shown::lengths(lengths::cigar_lengths(bam));
     shown::text(b", bin ");
     shown::nat(fields::bin(bam));
     shown::text(b" is ");
@@ -50,18 +39,11 @@ fn show(bam: &[u8]) {
     shown::end();
 }
 
-// The first n bytes of a record.
-fn cut(bam: &[u8], n: usize) {
-    if n <= bam.len() {
-        show(&bam[..n]);
-    }
-}
-
 fn damaged() {
     let r = example();
-    cut(&r, 31);
-    cut(&r, 49);
-    cut(&r, 32);
+    show(record::cut(&r, 31));
+    show(record::cut(&r, 49));
+    show(record::cut(&r, 32));
     let mut far = example();
     far[7] = 127;
     far[6] = 255;

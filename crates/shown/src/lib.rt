@@ -1,9 +1,15 @@
-// Prints answers, for the programs that run examples.
+// Prints answers, and makes records, for the programs that run examples.
+pub mod record;
+
 use answers::Count;
 use answers::Flag;
 use answers::Int;
 use answers::Nat;
 use answers::Refusal;
+use clip::Clipped;
+use ends::Found1;
+use ends::Place1;
+use lengths::Lengths;
 
 pub fn text(words: &[u8]) {
     io::write_all(1, words);
@@ -66,6 +72,32 @@ pub fn flag(answer: Flag) {
     }
 }
 
+pub fn lengths(answer: Lengths) {
+    match answer {
+        Lengths::Both(refs, query) => {
+            integer(refs);
+            text(b" ");
+            natural(query);
+        }
+        Lengths::Refused(why) => refused(why),
+    }
+}
+
+pub fn place(answer: Place1) {
+    match answer {
+        Place1::At(at) => integer(at.0),
+        Place1::Refused(why) => refused(why),
+    }
+}
+
+pub fn found(answer: Found1) {
+    match answer {
+        Found1::At(at) => integer(at.0),
+        Found1::Nothing => text(b"none"),
+        Found1::Refused(why) => refused(why),
+    }
+}
+
 // An op as text; a code 9 to 15 as a number.
 fn op(word: u32) {
     natural((word / 16) as u64);
@@ -86,6 +118,43 @@ pub fn list(words: &[u32]) {
     let mut i: usize = 0;
     while i < words.len() {
         op(words[i]);
+        i += 1;
+    }
+}
+
+// The first n ops of a list.
+pub fn first(words: &[u32], n: usize) {
+    if n <= words.len() {
+        list(&words[..n]);
+    }
+}
+
+// The list written and the count; or the refusal, and what the output holds.
+pub fn clipped(answer: Clipped, out: &[u32]) {
+    match answer {
+        Clipped::Done(n, count) => {
+            first(out, n as usize);
+            text(b" ");
+            natural(count);
+        }
+        Clipped::Refused(why) => {
+            refused(why);
+            text(b" leaves ");
+            list(out);
+        }
+    }
+}
+
+fn byte(value: u8) {
+    text(b" ");
+    natural(value as u64);
+}
+
+// Bytes as numbers, each after a space.
+pub fn bytes(part: &[u8]) {
+    let mut i: usize = 0;
+    while i < part.len() {
+        byte(part[i]);
         i += 1;
     }
 }

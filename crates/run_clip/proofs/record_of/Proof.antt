@@ -14,6 +14,12 @@ abbrev μ-loop : tie.MeasureT-loop
 array-write-r : tie.Need-array-write-r Inv-loop μ-loop
 array-write-r c = search needs
 
+cast-r : tie.Need-cast-r Inv-loop μ-loop
+cast-r c = search needs
+
+array-write-r-2 : tie.Need-array-write-r-2 Inv-loop μ-loop
+array-write-r-2 c = search needs
+
 loop-holds : tie.Need-loop-holds Inv-loop μ-loop
 loop-holds c = search needs
 
@@ -45,6 +51,8 @@ record-of-spec =
     Inv-loop
     μ-loop
     array-write-r
+    cast-r
+    array-write-r-2
     loop-holds
     mul-with-op
     shared-slice-read-with-op
