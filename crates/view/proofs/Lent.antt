@@ -31,17 +31,20 @@ use Rattle.view.proofs.Thin.{Answer, Fits, mach, ofView, ofSlice, Promi
 abbrev pub outOf : Width → Slot 2
 outOf w = mutSliceOf (1 ∷ []) tt (plain (λ _. UInt w))
 
-abbrev lentTy : Width → Ty
+abbrev pub lentTy : Width → Ty
 lentTy w = sliceTy (tyRef (named 1) mut (tyInt w))
 
--- the lent slice is the k-th local; the view's slice, the lent slice's pointer and its copy for the call are the three locals after it
-abbrev lends : Width → (k p q r : ℕ) → Body → Body
-lends w k p q r next =
-    seq (assign (place p []) (rvOpd (copy (place 1 (field 0 ∷ []))))) (seq (assign (place q []) (addrOf (place k (field 0 ∷ deref (tyInt w) ∷ []))))
-    (seq (assign (place r []) (aggregate (copy (place q []) ∷ copy (place k (field 1 ∷ [])) ∷ []))) next))
+-- the lent slice is the k-th local: its pointer is copied to the q-th, and the slice to the r-th, for a call
+abbrev pub lends : Width → (k q r : ℕ) → Body → Body
+lends w k q r next = seq (assign (place q []) (addrOf (place k (field 0 ∷ deref (tyInt w) ∷ [])))) (seq (assign (place r []) (aggregate (copy (place q []) ∷ copy (place k (field 1 ∷ [])) ∷ []))) next)
 
-abbrev lentLocals : Width → List Local
-lentLocals w = local (lentTy w) valueLocal ∷ local sliceLocal valueLocal ∷ local (tyRef erased mut (tyInt w)) valueLocal ∷ local (sliceTy (tyRef erased mut (tyInt w))) valueLocal ∷ []
+-- the locals of the lent slice, of a type between, of the pointer and of the copy
+abbrev pub lentLocals : Width → Ty → List Local
+lentLocals w τ = local (lentTy w) valueLocal ∷ local τ valueLocal ∷ local (tyRef erased mut (tyInt w)) valueLocal ∷ local (sliceTy (tyRef erased mut (tyInt w))) valueLocal ∷ []
+
+-- the view's slice is copied to the p-th local
+abbrev opens : ℕ → Body → Body
+opens p next = seq (assign (place p []) (rvOpd (copy (place 1 (field 0 ∷ []))))) next
 
 -- ---- a method with no other parameter
 abbrev pub printFn : Ty → Width → Name → Fn
@@ -49,8 +52,8 @@ printFn τ w f = record {
   lifetimes = 2;
   outlives = [];
   params = 2;
-  locals = local τ valueLocal ∷ local (T′.mir (named 0)) valueLocal ∷ lentLocals w;
-  body = lends w 2 3 4 5 (seq (call f (copy (place 3 []) ∷ copy (place 5 []) ∷ []) (place 0 [])) return);
+  locals = local τ valueLocal ∷ local (T′.mir (named 0)) valueLocal ∷ lentLocals w sliceLocal;
+  body = opens 3 (lends w 2 4 5 (seq (call f (copy (place 3 []) ∷ copy (place 5 []) ∷ []) (place 0 [])) return));
 }
 
 abbrev pub prints-with : Width → List (Slot 2)
@@ -62,32 +65,40 @@ clipFn τ w f = record {
   lifetimes = 2;
   outlives = [];
   params = 4;
-  locals = local τ valueLocal ∷ local (T′.mir (named 0)) valueLocal ∷ local (tyInt w64) valueLocal ∷ local tyBool valueLocal ∷ lentLocals w;
-  body = lends w 4 5 6 7 (seq (call f (copy (place 5 []) ∷ copy (place 2 []) ∷ copy (place 3 []) ∷ copy (place 7 []) ∷ []) (place 0 [])) return);
+  locals = local τ valueLocal ∷ local (T′.mir (named 0)) valueLocal ∷ local (tyInt w64) valueLocal ∷ local tyBool valueLocal ∷ lentLocals w sliceLocal;
+  body = opens 5 (lends w 4 6 7 (seq (call f (copy (place 5 []) ∷ copy (place 2 []) ∷ copy (place 3 []) ∷ copy (place 7 []) ∷ []) (place 0 [])) return));
 }
 
 abbrev pub clips-with : Width → List (Slot 2)
 clips-with w = plain (λ _. u64) ∷ plain (λ _. bool) ∷ outOf w ∷ []
 
+-- the other parameters' machine values, and that what they own tells them
+module _ (w : Width) (κs : Lfts 2) where
+  abbrev pub print-vals : Spells (typesAt (prints-with w) κs)
+  print-vals = (slice-vals, tt)
+
+  abbrev pub print-tells : Tellss (typesAt (prints-with w) κs) (Ises (typesAt (prints-with w) κs)) print-vals
+  print-tells = (mut-slice-tells (named 1) (κs .1 .0) (UInt w), tt)
+
+  abbrev pub clip-vals : Spells (typesAt (clips-with w) κs)
+  clip-vals = (uint-vals w64, (bool-vals, (slice-vals, tt)))
+
+  abbrev pub clip-tells : Tellss (typesAt (clips-with w) κs) (Ises (typesAt (clips-with w) κs)) clip-vals
+  clip-tells = (uint-tells w64, (bool-tells, (mut-slice-tells (named 1) (κs .1 .0) (UInt w), tt)))
+
+-- a lent slice's machine value, and that it fits its local
+abbrev pub out : RefT (List ℕ) → Val
+out x = sliceVal (x .ptr) (length (x .now))
+
+pub lies : {M : Type 1} (𝓤 : URA M) (H : Heap 𝓤) (𝓜 : Model 𝓤 H) (𝓖 : GhostRules 𝓤 H) (w : Width) (κs : Lfts 2) (x : RefT (List ℕ)) → Is (typeAt (outOf w) κs) x (out x ∷ []) → Fits (lentTy w) (out x)
+lies 𝓤 H 𝓜 𝓖 w κs x is = mut-slice-lawful 𝓤 H (𝓖 .A) (givenOf 𝓤 H 𝓜 𝓖) (named 1) (κs .1 .0) (UInt w) .typed x (out x ∷ []) is .0
+
 module _ {M : Type 1} (𝓤 : URA M) (H : Heap 𝓤) (𝓜 : Model 𝓤 H) (𝓖 : GhostRules 𝓤 H) (𝓡 : Running 𝓤 H 𝓜) (Q : Answer 2) (w : Width) where
-  -- the lent slice's machine value, and that it fits its local
-  abbrev out : RefT (List ℕ) → Val
-  out x = sliceVal (x .ptr) (length (x .now))
-
-  lies : (κs : Lfts 2) (x : RefT (List ℕ)) → Is (typeAt (outOf w) κs) x (out x ∷ []) → Fits (lentTy w) (out x)
-  lies κs x is = mut-slice-lawful 𝓤 H (𝓖 .A) (givenOf 𝓤 H 𝓜 𝓖) (named 1) (κs .1 .0) (UInt w) .typed x (out x ∷ []) is .0
-
   module _ (E : Promise 𝓤 (ofSlice 1 (prints-with w) Q)) where
-    abbrev print-vals : (κs : Lfts 2) → Spells (typesAt (prints-with w) κs)
-    print-vals κs = (slice-vals, tt)
-
-    abbrev print-tells : (κs : Lfts 2) → Tellss (typesAt (prints-with w) κs) (Ises (typesAt (prints-with w) κs)) (print-vals κs)
-    print-tells κs = (mut-slice-tells (named 1) (κs .1 .0) (UInt w), tt)
-
-    print-walk : Walks 1 (prints-with w) Q 𝓤 H 𝓜 𝓖 𝓡 E (printFn (Q .ty) w) print-vals print-tells
+    print-walk : Walks 1 (prints-with w) Q 𝓤 H 𝓜 𝓖 𝓡 E (printFn (Q .ty) w) (print-vals w) (print-tells w)
     print-walk f C Λ fm known κs qs d a wt are =
         let o : Val = out (a .0) in
-        let fits-out : Fits (lentTy w) o = lies κs (a .0) (are .0) in
+        let fits-out : Fits (lentTy w) o = lies 𝓤 H 𝓜 𝓖 w κs (a .0) (are .0) in
         qed (givenOf 𝓤 H 𝓜 𝓖) (raw (onEntry 𝓤 H (𝓖 .A) (ofView 1 (prints-with w) Q) κs qs (d, a) (mach d ∷ [], (o ∷ [], tt))) ∷ []) ∵ enter ! C Λ (printFn (Q .ty) w f) (mach d ∷ o ∷ []) _ $
         alloc1 ! (λ l₀. alloc1 ! (λ l₁. alloc1 ! (λ l₂. alloc1 ! (λ l₃. alloc1 ! (λ l₄. alloc1 ! (λ l₅. alloc0 ! $ params1 ! $ pass1 ! (init ! 8 refl wt) $ pass1 ! (init ! 6 refl fits-out) $ pass0 ! $
         assigns ! (of-opd ! (load ! (from ! (fld ! refl (stop !))) (look-in ! 8 (sub ! 0 refl (whole !))))) (from ! (stop !)) (init ! 4 refl (tt, wt .1 .0)) $
@@ -99,21 +110,15 @@ module _ {M : Type 1} (𝓤 : URA M) (H : Heap 𝓤) (𝓜 : Model 𝓤 H) (𝓖
         move ! (11 ∷ 12 ∷ []) $ free1 ! $ move ! (9 ∷ 10 ∷ []) $ free1 ! $ move ! (7 ∷ 8 ∷ []) $ free1 ! $ move ! (5 ∷ 6 ∷ []) $ free1 ! $ move ! (3 ∷ 4 ∷ []) $ free1 ! $ move ! (1 ∷ 2 ∷ []) $ free1 ! $ free0 ! $ by ! (id⊢ 𝓤 _))))))))
 
     pub prints : Law 1 (prints-with w) Q 𝓤 H 𝓜 𝓖 𝓡 E (printFn (Q .ty) w)
-    prints = enters 1 (prints-with w) Q 𝓤 H 𝓜 𝓖 𝓡 E (printFn (Q .ty) w) print-vals print-tells print-walk
+    prints = enters 1 (prints-with w) Q 𝓤 H 𝓜 𝓖 𝓡 E (printFn (Q .ty) w) (print-vals w) (print-tells w) print-walk
 
   module _ (E : Promise 𝓤 (ofSlice 1 (clips-with w) Q)) where
-    abbrev clip-vals : (κs : Lfts 2) → Spells (typesAt (clips-with w) κs)
-    clip-vals κs = (uint-vals w64, (bool-vals, (slice-vals, tt)))
-
-    abbrev clip-tells : (κs : Lfts 2) → Tellss (typesAt (clips-with w) κs) (Ises (typesAt (clips-with w) κs)) (clip-vals κs)
-    clip-tells κs = (uint-tells w64, (bool-tells, (mut-slice-tells (named 1) (κs .1 .0) (UInt w), tt)))
-
-    clip-walk : Walks 1 (clips-with w) Q 𝓤 H 𝓜 𝓖 𝓡 E (clipFn (Q .ty) w) clip-vals clip-tells
+    clip-walk : Walks 1 (clips-with w) Q 𝓤 H 𝓜 𝓖 𝓡 E (clipFn (Q .ty) w) (clip-vals w) (clip-tells w)
     clip-walk f C Λ fm known κs qs d a wt are =
         let n : Val = vint w64 (a .0) in
         let b : Val = vbool (a .1 .0) in
         let o : Val = out (a .1 .1 .0) in
-        let fits-out : Fits (lentTy w) o = lies κs (a .1 .1 .0) (are .1 .1 .0) in
+        let fits-out : Fits (lentTy w) o = lies 𝓤 H 𝓜 𝓖 w κs (a .1 .1 .0) (are .1 .1 .0) in
         qed (givenOf 𝓤 H 𝓜 𝓖) (raw (onEntry 𝓤 H (𝓖 .A) (ofView 1 (clips-with w) Q) κs qs (d, a) (mach d ∷ [], (n ∷ [], (b ∷ [], (o ∷ [], tt))))) ∷ []) ∵ enter ! C Λ (clipFn (Q .ty) w f) (mach d ∷ n ∷ b ∷ o ∷ []) _ $
         alloc1 ! (λ l₀. alloc1 ! (λ l₁. alloc1 ! (λ l₂. alloc1 ! (λ l₃. alloc1 ! (λ l₄. alloc1 ! (λ l₅. alloc1 ! (λ l₆. alloc1 ! (λ l₇. alloc0 ! $ params1 ! $ pass1 ! (init ! 12 refl wt) $
         pass1 ! (init ! 10 refl (uint-lawful 𝓤 H (𝓖 .A) (givenOf 𝓤 H 𝓜 𝓖) w64 .typed (a .0) (n ∷ []) (are .0) .0)) $ pass1 ! (init ! 8 refl (bool-lawful 𝓤 H (𝓖 .A) (givenOf 𝓤 H 𝓜 𝓖) .typed (a .1 .0) (b ∷ []) (are .1 .0) .0)) $ pass1 ! (init ! 6 refl fits-out) $ pass0 ! $
@@ -129,4 +134,4 @@ module _ {M : Type 1} (𝓤 : URA M) (H : Heap 𝓤) (𝓜 : Model 𝓤 H) (𝓖
         move ! (7 ∷ 8 ∷ []) $ free1 ! $ move ! (5 ∷ 6 ∷ []) $ free1 ! $ move ! (3 ∷ 4 ∷ []) $ free1 ! $ move ! (1 ∷ 2 ∷ []) $ free1 ! $ free0 ! $ by ! (id⊢ 𝓤 _))))))))))
 
     pub clips : Law 1 (clips-with w) Q 𝓤 H 𝓜 𝓖 𝓡 E (clipFn (Q .ty) w)
-    clips = enters 1 (clips-with w) Q 𝓤 H 𝓜 𝓖 𝓡 E (clipFn (Q .ty) w) clip-vals clip-tells clip-walk
+    clips = enters 1 (clips-with w) Q 𝓤 H 𝓜 𝓖 𝓡 E (clipFn (Q .ty) w) (clip-vals w) (clip-tells w) clip-walk
