@@ -1,0 +1,18 @@
+-- `Lender`'s law of `RawRecordView::clip_cigar_ops`.
+use mir.Syntax.{w32}
+use Rattle.clip.proofs.Clipped as R
+use Rattle.clip.proofs.Clipped.Laws as R′
+use Rattle.view.proofs.RawRecordView.clip_cigar_ops as method
+use Rattle.view.proofs.RawRecordView.clip_cigar_ops.Met as theorem
+use Rattle.view.proofs.RawRecordView.clip_cigar_ops.Symbol as symbol
+use Rattle.view.proofs.Thin.{enum}
+use Rattle.run_view.proofs.Lender.{clips-asked}
+use Rattle.run_view.proofs.asked.clip_cigar_ops.Code as code
+use Rattle.run_view.proofs.asked.clip_cigar_ops.Key.{name}
+use Rattle.run_view.proofs.asked.clip_cigar_ops.Statement.{statement}
+
+pub clip-cigar-ops-spec : {M : Type 1} → statement M
+unfolding code.routine
+clip-cigar-ops-spec 𝓤 H 𝓜 𝓖 𝓡 =
+    clips-asked 𝓤 H 𝓜 𝓖 𝓡 (enum 𝓤 H 𝓜 𝓖 R.the-type R′.the-laws tt) w32 (λ κs a. method.clauses 𝓤 H (𝓖 .A) (𝓜 .mem) (𝓡 .run) κs a .ensures tt)
+    code.env name symbol.name symbol.routine code.calls-view·RawRecordView·new code.calls-view·RawRecordView·clip-cigar-ops (code.unfolded 𝓤 H 𝓜 𝓡) (theorem.met 𝓤 H 𝓜 𝓖 𝓡)
