@@ -10,8 +10,7 @@ use Rattle.lists.proofs.Tables.{below-same}
 use Rattle.sam.specs.Op.{lenOf, codeOf, isRef}
 use Rattle.strict_text.specs.Valid.{isEmpty, isSoft, isHard, allHard, anyRef, each, noZero, hardOutside, softOutside, known, validMapped}
 use Rattle.strict_text.specs.Pass.{codeClass, classOf, stepOf, acceptOf}
-use Rattle.strict_text.specs.declared.Class.{Class}
-use Rattle.strict_text.specs.declared.Class.the-variants.{Reference, Other, Soft, Hard, Unknown}
+use Rattle.strict_text.specs.Class.{Class, Class.Reference, Class.Other, Class.Soft, Class.Hard, Class.Unknown}
 use Rattle.strict_text.specs.declared.Place.{Place}
 use Rattle.strict_text.specs.declared.Place.the-variants.{Start, AfterHard, Inner, Good, EndSoft, EndHard, Wrong}
 use Rattle.strict_text.proofs.TextLaws.{false-true, both}
@@ -86,14 +85,14 @@ refB Soft = false
 refB Hard = false
 refB Unknown = false
 
-abbrev softB : Class → Bool
+abbrev pub softB : Class → Bool
 softB Reference = false
 softB Other = false
 softB Soft = true
 softB Hard = false
 softB Unknown = false
 
-abbrev hardB : Class → Bool
+abbrev pub hardB : Class → Bool
 hardB Reference = false
 hardB Other = false
 hardB Soft = false
@@ -111,11 +110,11 @@ pub class-ref : (c : ℕ) → c < 16 → refB (codeClass c) ≡ isRef c
 unfolding codeClass isRef
 class-ref c h = below-same (λ d. refB (codeClass d)) isRef 16 c refl h
 
-class-soft : (c : ℕ) → c < 16 → softB (codeClass c) ≡ eqb c 4
+pub class-soft : (c : ℕ) → c < 16 → softB (codeClass c) ≡ eqb c 4
 unfolding codeClass isRef
 class-soft c h = below-same (λ d. softB (codeClass d)) (λ d. eqb d 4) 16 c refl h
 
-class-hard : (c : ℕ) → c < 16 → hardB (codeClass c) ≡ eqb c 5
+pub class-hard : (c : ℕ) → c < 16 → hardB (codeClass c) ≡ eqb c 5
 unfolding codeClass isRef
 class-hard c h = below-same (λ d. hardB (codeClass d)) (λ d. eqb d 5) 16 c refl h
 
@@ -158,7 +157,7 @@ unfolding run
 wrong-run [] = refl
 wrong-run (o ∷ xs) = wrong-run xs
 
-step-unknown : (p : Place) → stepOf p Unknown ≡ Wrong
+pub step-unknown : (p : Place) → stepOf p Unknown ≡ Wrong
 step-unknown Start = refl
 step-unknown AfterHard = refl
 step-unknown Inner = refl
@@ -167,9 +166,13 @@ step-unknown EndSoft = refl
 step-unknown EndHard = refl
 step-unknown Wrong = refl
 
-unknown-run : (p : Place) (o : ℕ) (xs : List ℕ) → classOf o ≡ Unknown → acceptOf (run p (o ∷ xs)) ≡ false
+pub unknown-run : (p : Place) (o : ℕ) (xs : List ℕ) → classOf o ≡ Unknown → acceptOf (run p (o ∷ xs)) ≡ false
 unfolding run
 unknown-run p o xs e = rw (e, step-unknown p) (wrong-run xs)
+
+pub long-run : (p : Place) (o : ℕ) (xs : List ℕ) → 16 ≤ o → acceptOf (run p (o ∷ xs)) ≡ acceptOf (run (stepOf p (codeClass (codeOf o))) xs)
+unfolding run
+long-run p o xs h = ap (λ (k : Class). acceptOf (run (stepOf p k) xs)) (long-class o (omega arith))
 
 odd-run : (xs : List ℕ) (p : Place) → plain xs ≡ false → acceptOf (run p xs) ≡ false
 unfolding plain run

@@ -1,5 +1,6 @@
 pub mod TextLaws
 pub mod ClipLaws
+pub mod StepLaws
 pub mod PassLaws
 pub mod PutLaws
 pub mod ValidLaws

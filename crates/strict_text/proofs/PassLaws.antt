@@ -17,8 +17,7 @@ use Rattle.strict_text.specs.Text.{isRow, textOps}
 use Rattle.strict_text.specs.Valid.{validMapped}
 use Rattle.strict_text.specs.Parsed.{strict, measuredOps, measuredText}
 use Rattle.strict_text.specs.Pass.{OpAt, NoneAt, codeClass, classOf, stepOf, acceptOf, isWrong, refOf, tookOf, endOf, onTook, atStart, walkOf}
-use Rattle.strict_text.specs.declared.Class.{Class}
-use Rattle.strict_text.specs.declared.Class.the-variants.{Reference, Other, Soft, Hard, Unknown}
+use Rattle.strict_text.specs.Class.{Class, Class.Reference, Class.Other, Class.Soft, Class.Hard, Class.Unknown}
 use Rattle.strict_text.specs.declared.Place.{Place}
 use Rattle.strict_text.specs.declared.Place.the-variants.{Start, AfterHard, Inner, Good, EndSoft, EndHard, Wrong}
 use Rattle.strict_text.specs.declared.Seen.{Seen}
@@ -31,7 +30,7 @@ use Rattle.strict_text.proofs.ClipLaws.{refB, class-ref, long-class, sh
 
 -- ---- the reference bases
 
-ref-by : (k : Class) (n : ℕ) → refOf k n ≡ cond (refB k) n 0
+pub ref-by : (k : Class) (n : ℕ) → refOf k n ≡ cond (refB k) n 0
 ref-by Reference n = refl
 ref-by Other n = refl
 ref-by Soft n = refl
@@ -68,7 +67,7 @@ saturated n = go (leb n 2147483647) refl
 abbrev passed : Place → ℕ → ℕ → List ℕ → Measured
 passed p n refs xs = cond (acceptOf (run p xs)) (Measured.Ops (n + length xs) (pos (min (refs + sumOf refLen xs) 2147483647))) Measured.Bad
 
-wrong-accept : (q : Place) (xs : List ℕ) → isWrong q ≡ true → acceptOf (run q xs) ≡ false
+pub wrong-accept : (q : Place) (xs : List ℕ) → isWrong q ≡ true → acceptOf (run q xs) ≡ false
 wrong-accept Start xs e = absurd (false-true e)
 wrong-accept AfterHard xs e = absurd (false-true e)
 wrong-accept Inner xs e = absurd (false-true e)

@@ -10,8 +10,7 @@ use Rattle.sam.specs.Op.{lenOf, codeOf, opOf, isRef}
 use Rattle.strict_text.specs.Text.{rowFrom, opsFrom}
 use Rattle.strict_text.specs.declared.Token.{Token}
 use Rattle.strict_text.specs.declared.Token.the-variants as Token
-use Rattle.strict_text.specs.declared.Class.{Class}
-use Rattle.strict_text.specs.declared.Class.the-variants.{Reference, Other, Soft, Hard, Unknown}
+use Rattle.strict_text.specs.Class.{Class, Class.Reference, Class.Other, Class.Soft, Class.Hard, Class.Unknown}
 use Rattle.strict_text.specs.declared.Place.{Place}
 use Rattle.strict_text.specs.declared.Place.the-variants.{Start, AfterHard, Inner, Good, EndSoft, EndHard, Wrong}
 use Rattle.strict_text.specs.declared.Seen.{Seen}
@@ -91,6 +90,22 @@ isWrong Good = false
 isWrong EndSoft = false
 isWrong EndHard = false
 isWrong Wrong = true
+
+abbrev pub isPast : Place → Bool
+isPast Start = false
+isPast AfterHard = false
+isPast Inner = false
+isPast Good = false
+isPast EndSoft = true
+isPast EndHard = true
+isPast Wrong = true
+
+abbrev pub isInner : Class → Bool
+isInner Reference = true
+isInner Other = true
+isInner Soft = false
+isInner Hard = false
+isInner Unknown = false
 
 -- the reference bases of an op of this class
 abbrev pub refOf : Class → ℕ → ℕ

@@ -1,5 +1,6 @@
 // Document 01, module 5: the strict reader of CIGAR text, and whether an op list is a valid mapped CIGAR.
 ghost use mathlib.Core.Path.{_≡_};
+ghost use mathlib.Core.Bool.{cond};
 ghost use Prim.Native.Nat.{_+_, _≤_, _<_, min};
 ghost use lib.ListN.{length, take};
 ghost use Rattle.lists.specs.Lists.{splice};
@@ -7,7 +8,9 @@ ghost use Rattle.answers.specs.Settled.{Settled};
 ghost use Rattle.oplist.specs.Ops.{opsOf};
 ghost use Rattle.strict_text.specs.Text.{isDigit, letterCode, textOps};
 ghost use Rattle.strict_text.specs.Parsed.{measuredOps, measuredText, parsed, validity};
-ghost use Rattle.strict_text.specs.Pass.{classOf, codeClass, stepOf, acceptOf, isWrong, refOf, tookOf, endOf, TokenAt};
+ghost use Rattle.strict_text.specs.Valid.{validMapped};
+ghost use Rattle.strict_text.specs.Class.{Class, Class.Reference, Class.Other, Class.Soft, Class.Hard};
+ghost use Rattle.strict_text.specs.Pass.{codeClass, isInner, isPast, stepOf, acceptOf, isWrong, refOf, tookOf, endOf, TokenAt};
 use answers::Count;
 use answers::Flag;
 use answers::Refusal;
@@ -23,15 +26,6 @@ pub enum Measured {
 pub enum Token {
     Op(u32, u32, usize),
     Bad,
-}
-
-// What an op is to the rules. `Unknown`: length 0, or a code 9 to 15.
-pub enum Class {
-    Reference,
-    Other,
-    Soft,
-    Hard,
-    Unknown,
 }
 
 // Where the ops so far stand in H? S? inner S? H?: at the start, after H, past the leading clips without a reference op (`Inner`) or with one
@@ -116,76 +110,25 @@ fn token_at(text: &[u8], at: usize) -> Token
     Token::Bad
 }
 
-// The class of an op with this code.
-fn code_class(code: u32) -> Class
+// Whether a code is an inner op's, which is neither a clip nor unknown: bit c of 463 is code c's.
+fn is_inner(code: u32) -> bool
     requires { ⌜ code < 16 ⌝ }
-    ensures { λ r. ⌜ r ≡ codeClass code ⌝ }
+    ensures { λ r. ⌜ r ≡ isInner (codeClass code) ⌝ }
 {
-    if ops::consumes_ref(code) {
-        return Class::Reference;
-    }
-    if code == 4 {
-        return Class::Soft;
-    }
-    if code == 5 {
-        return Class::Hard;
-    }
-    if 8 < code {
-        return Class::Unknown;
-    }
-    Class::Other
+    (463u32 >> code) % 2 == 1
 }
 
-fn class_of(op: u32) -> Class
-    ensures { λ r. ⌜ r ≡ classOf op ⌝ }
-{
-    if op < 16 {
-        return Class::Unknown;
-    }
-    code_class(op % 16)
-}
-
-fn step(p: Place, k: Class) -> Place
-    ensures { λ r. ⌜ r ≡ stepOf p k ⌝ }
+fn is_past(p: Place) -> bool
+    ensures { λ r. ⌜ r ≡ isPast p ⌝ }
 {
     match p {
-        Place::Start => match k {
-            Class::Reference => Place::Good,
-            Class::Other => Place::Inner,
-            Class::Soft => Place::Inner,
-            Class::Hard => Place::AfterHard,
-            Class::Unknown => Place::Wrong,
-        },
-        Place::AfterHard => match k {
-            Class::Reference => Place::Good,
-            Class::Other => Place::Inner,
-            Class::Soft => Place::Inner,
-            Class::Hard => Place::Wrong,
-            Class::Unknown => Place::Wrong,
-        },
-        Place::Inner => match k {
-            Class::Reference => Place::Good,
-            Class::Other => Place::Inner,
-            Class::Soft => Place::Wrong,
-            Class::Hard => Place::Wrong,
-            Class::Unknown => Place::Wrong,
-        },
-        Place::Good => match k {
-            Class::Reference => Place::Good,
-            Class::Other => Place::Good,
-            Class::Soft => Place::EndSoft,
-            Class::Hard => Place::EndHard,
-            Class::Unknown => Place::Wrong,
-        },
-        Place::EndSoft => match k {
-            Class::Hard => Place::EndHard,
-            Class::Reference => Place::Wrong,
-            Class::Other => Place::Wrong,
-            Class::Soft => Place::Wrong,
-            Class::Unknown => Place::Wrong,
-        },
-        Place::EndHard => Place::Wrong,
-        Place::Wrong => Place::Wrong,
+        Place::Start => false,
+        Place::AfterHard => false,
+        Place::Inner => false,
+        Place::Good => false,
+        Place::EndSoft => true,
+        Place::EndHard => true,
+        Place::Wrong => true,
     }
 }
 
@@ -217,25 +160,84 @@ fn is_wrong(p: Place) -> bool
     }
 }
 
-// The reference bases of an op.
-fn ref_bases(k: Class, len: u32) -> u32
-    ensures { λ r. ⌜ (r ≡ refOf k len) × (r ≤ len) ⌝ }
+// The place after an inner op.
+fn after_inner(p: Place, reference: bool) -> Place
+    ensures { λ r. ⌜ r ≡ stepOf p (cond reference Reference Other) ⌝ }
 {
-    match k {
-        Class::Reference => len,
-        Class::Other => 0,
-        Class::Soft => 0,
-        Class::Hard => 0,
-        Class::Unknown => 0,
+    if is_past(p) {
+        return Place::Wrong;
+    }
+    if accept(p) {
+        return Place::Good;
+    }
+    if reference {
+        return Place::Good;
+    }
+    Place::Inner
+}
+
+fn after_soft(p: Place) -> Place
+    ensures { λ r. ⌜ r ≡ stepOf p Soft ⌝ }
+{
+    match p {
+        Place::Start => Place::Inner,
+        Place::AfterHard => Place::Inner,
+        Place::Inner => Place::Wrong,
+        Place::Good => Place::EndSoft,
+        Place::EndSoft => Place::Wrong,
+        Place::EndHard => Place::Wrong,
+        Place::Wrong => Place::Wrong,
     }
 }
 
-// The reference bases with an op more.
-fn further(refs: u32, k: Class, len: u32) -> u32
-    requires { ⌜ (refs ≤ 2147483647) × (len ≤ 268435455) ⌝ }
-    ensures { λ r. ⌜ r ≡ min (refs + refOf k len) 2147483647 ⌝ }
+fn after_hard(p: Place) -> Place
+    ensures { λ r. ⌜ r ≡ stepOf p Hard ⌝ }
 {
-    let sum = refs + ref_bases(k, len);
+    match p {
+        Place::Start => Place::AfterHard,
+        Place::AfterHard => Place::Wrong,
+        Place::Inner => Place::Wrong,
+        Place::Good => Place::EndHard,
+        Place::EndSoft => Place::EndHard,
+        Place::EndHard => Place::Wrong,
+        Place::Wrong => Place::Wrong,
+    }
+}
+
+// The place after an op with a length and this code. Most ops are inner ones, which one test of the code tells.
+fn step(p: Place, code: u32) -> Place
+    requires { ⌜ code < 16 ⌝ }
+    ensures { λ r. ⌜ r ≡ stepOf p (codeClass code) ⌝ }
+{
+    if is_inner(code) {
+        return after_inner(p, ops::consumes_ref(code));
+    }
+    if code == 4 {
+        return after_soft(p);
+    }
+    if code == 5 {
+        return after_hard(p);
+    }
+    Place::Wrong
+}
+
+// The reference bases of an op.
+fn ref_bases(code: u32, len: u32) -> u32
+    requires { ⌜ code < 16 ⌝ }
+    ensures { λ r. ⌜ (r ≡ refOf (codeClass code) len) × (r ≤ len) ⌝ }
+{
+    if ops::consumes_ref(code) {
+        return len;
+    }
+    0
+}
+
+// The reference bases with an op more.
+fn further(refs: u32, code: u32, len: u32) -> u32
+    requires { ⌜ (refs ≤ 2147483647) × (len ≤ 268435455) × (code < 16) ⌝ }
+    ensures { λ r. ⌜ r ≡ min (refs + refOf (codeClass code) len) 2147483647 ⌝ }
+{
+    let sum = refs + ref_bases(code, len);
     if 2147483647 < sum {
         return 2147483647;
     }
@@ -243,19 +245,19 @@ fn further(refs: u32, k: Class, len: u32) -> u32
 }
 
 // One op more.
-fn take_op(seen: Seen, len: u32, k: Class) -> Took
-    requires { ⌜ (seen .n < 18446744073709551615) × (seen .refs ≤ 2147483647) × (len ≤ 268435455) ⌝ }
-    ensures { λ r. ⌜ r ≡ tookOf seen len k ⌝ }
+fn take_op(seen: Seen, len: u32, code: u32) -> Took
+    requires { ⌜ (seen .n < 18446744073709551615) × (seen .refs ≤ 2147483647) × (len ≤ 268435455) × (code < 16) ⌝ }
+    ensures { λ r. ⌜ r ≡ tookOf seen len (codeClass code) ⌝ }
 {
     let p = seen.place;
-    let q = step(p, k);
+    let q = step(p, code);
     if is_wrong(q) {
         return Took::Stop;
     }
     Took::More(Seen {
         place: q,
         n: seen.n + 1,
-        refs: further(seen.refs, k, len),
+        refs: further(seen.refs, code, len),
     })
 }
 
@@ -284,7 +286,7 @@ pub fn measure(text: &[u8]) -> Measured
         let Token::Op(len, code, next) = token_at(text, i) else {
             return Measured::Bad;
         };
-        let Took::More(more) = take_op(seen, len, code_class(code)) else {
+        let Took::More(more) = take_op(seen, len, code) else {
             return Measured::Bad;
         };
         seen = more;
@@ -293,26 +295,38 @@ pub fn measure(text: &[u8]) -> Measured
     ending(seen)
 }
 
-// The same pass over an op list.
+// Whether the ops that lie at a place are a valid mapped CIGAR. The place comes as numbers, which the compiler sees through.
+fn valid(words: &[u32], rec: &[u8], inside: bool, at: usize, n: u32) -> bool
+    ensures { λ r. ⌜ r ≡ validMapped (opsOf (now (words .entry)) (now (rec .entry)) (record { inside = inside; at = at; n = n })) ⌝ }
+{
+    let list = Ops { inside, at, n };
+    let count = oplist::count(words, rec, list);
+    let mut p = Place::Start;
+    let mut i: usize = 0;
+    while i < count {
+        let op = oplist::op_at(words, rec, list, i);
+        if op < 16 {
+            return false;
+        }
+        p = step(p, op % 16);
+        if is_wrong(p) {
+            return false;
+        }
+        i += 1;
+    }
+    accept(p)
+}
+
+// The same of an op list.
 pub fn measure_ops(words: &[u32], rec: &[u8], list: Ops) -> Measured
     ensures { λ r. ⌜ r ≡ measuredOps (opsOf (now (words .entry)) (now (rec .entry)) list) ⌝ }
 {
-    let n = oplist::count(words, rec, list);
-    let mut seen = Seen {
-        place: Place::Start,
-        n: 0,
-        refs: 0,
-    };
-    let mut i: usize = 0;
-    while i < n {
-        let op = oplist::op_at(words, rec, list, i);
-        let Took::More(more) = take_op(seen, op / 16, class_of(op)) else {
-            return Measured::Bad;
-        };
-        seen = more;
-        i += 1;
+    if !valid(words, rec, list.inside, list.at, list.n) {
+        return Measured::Bad;
     }
-    ending(seen)
+    let n = oplist::count(words, rec, list);
+    let total = lengths::sums(words, rec, list);
+    Measured::Ops(n as u64, lengths::saturated(total.refs))
 }
 
 // Writes the ops of a text, up to its end or its first wrong byte, as far as there is room.
@@ -358,8 +372,6 @@ pub fn is_valid_mapped_cigar(ops: &[u32]) -> Flag
     if oplist::MOST_OPS < ops.len() {
         return Flag::Refused(Refusal::TooManyOps);
     }
-    let Measured::Ops(_, _) = measure_ops(ops, &[], oplist::lent(ops)) else {
-        return Flag::Is(false);
-    };
-    Flag::Is(true)
+    let list = oplist::lent(ops);
+    Flag::Is(valid(ops, &[], list.inside, list.at, list.n))
 }

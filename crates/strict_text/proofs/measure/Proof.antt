@@ -30,10 +30,8 @@ found c =
 
 -- what the pass made of it
 took : (c : tie.After-take-op Inv-loop μ-loop) (r : Took) → c .take-op .result ≡ r
-    → tookOf (c .before .before .before .before .before .before .before .loop .seen) (c .before .before .before .len .given .0 .0) (codeClass (c .before .before .before .len .given .0 .1 .0)) ≡ r
-took c r e =
-    let m = c .before .before .before in
-    ap (tookOf (m .before .before .before .before .loop .seen) (m .len .given .0 .0)) (sym (c .before .code-class .ensures)) ∙ sym (c .take-op .ensures) ∙ e
+    → tookOf (c .before .before .before .before .before .before .loop .seen) (c .before .before .len .given .0 .0) (codeClass (c .before .before .len .given .0 .1 .0)) ≡ r
+took c r e = sym (c .take-op .ensures) ∙ e
 
 loop-holds : tie.Need-loop-holds Inv-loop μ-loop
 loop-holds c = (omega arith, omega arith, omega arith, refl)
@@ -54,13 +52,10 @@ returns c =
     let n = subst (TokenAt text (l .loop .i)) (c .enum-told .given .1) (c .before .before .token-at .ensures) in
     sym (pass-none text (l .loop .i) (l .loop .seen) n) ∙ l .loop .inv .3 ∙ left-measured text
 
-code-class-requires : tie.Need-code-class-requires Inv-loop μ-loop
-code-class-requires c κs = let f = found (c .before) in omega arith
-
 take-op-requires : tie.Need-take-op-requires Inv-loop μ-loop
 take-op-requires c κs =
-    let f = found (c .before .before) in
-    (omega arith, omega arith, omega arith)
+    let f = found (c .before) in
+    (omega arith, omega arith, omega arith, omega arith)
 
 enum-known-more : tie.Need-enum-known-more Inv-loop μ-loop
 enum-known-more c = search needs
@@ -71,18 +66,18 @@ enum-told-2 c = search needs
 returns-2 : tie.Need-returns-2 Inv-loop μ-loop
 returns-2 c =
     let k = c .before .before in
-    let m = k .before .before .before in
+    let m = k .before .before in
     let l = m .before .before .before .before in
     let text = l .before .before .args .text .now in
     sym (pass-stop text (l .loop .i) (l .loop .seen) _ _ _ (found m) (took k _ (c .enum-told2 .given .1))) ∙ l .loop .inv .3 ∙ left-measured text
 
 loop-less : tie.Need-loop-less Inv-loop μ-loop
-loop-less c = let f = found (c .before .before .before .before .before .before) in omega arith
+loop-less c = let f = found (c .before .before .before .before .before) in omega arith
 
 loop-again : tie.Need-loop-again Inv-loop μ-loop
 loop-again c =
     let k = c .before .before .before in
-    let m = k .before .before .before in
+    let m = k .before .before in
     let l = m .before .before .before .before in
     let text = l .before .before .args .text .now in
     let t = c .before .more .given .0 .0 in
@@ -115,7 +110,6 @@ measure-spec =
     enum-known-len
     enum-told
     returns
-    code-class-requires
     take-op-requires
     enum-known-more
     enum-told-2

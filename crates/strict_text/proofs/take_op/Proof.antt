@@ -1,11 +1,11 @@
 -- The place moves, the op is counted, and its reference bases are added.
 use borrow.Author.Needs.{needs}
 use mathlib.Core.Path.{_≡_, sym, ap, _∙_}
-use Rattle.strict_text.specs.Pass.{stepOf, isWrong}
+use Rattle.strict_text.specs.Pass.{codeClass, stepOf, isWrong}
 use Rattle.strict_text.proofs.take_op.Statement.{statement}
 use Rattle.strict_text.proofs.take_op.Tie as tie
 
-moved : (c : tie.After-is-wrong) → isWrong (stepOf (c .before .before .args .seen .place) (c .before .before .args .k)) ≡ c .is-wrong .result
+moved : (c : tie.After-is-wrong) → isWrong (stepOf (c .before .before .args .seen .place) (codeClass (c .before .before .args .code))) ≡ c .is-wrong .result
 moved c = ap isWrong (sym (c .before .step .ensures)) ∙ sym (c .is-wrong .ensures)
 
 step-requires : tie.Need-step-requires

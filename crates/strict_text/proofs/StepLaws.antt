@@ -1,0 +1,100 @@
+-- The place after an op, by the tests that the code makes: whether the op is an inner one, whether the place is past the inner ops.
+use Prim.Native.Nat.{ℕ, _/_, _%_, _^_, _<_}
+use mathlib.Core.Path.{_≡_, refl, sym, ap, _∙_}
+use mathlib.Core.Bool.{Bool, true, false, cond}
+use lib.Dec.{eqb}
+use borrow.Author.Tests.{eq-eqb, ne-eqb}
+use Rattle.lists.proofs.Tables.{below-same}
+use Rattle.sam.specs.Op.{isRef}
+use Rattle.strict_text.specs.Class.{Class, Class.Reference, Class.Other, Class.Soft, Class.Hard, Class.Unknown}
+use Rattle.strict_text.specs.Pass.{codeClass, isInner, isPast, stepOf, acceptOf, isWrong}
+use Rattle.strict_text.specs.declared.Place.{Place}
+use Rattle.strict_text.specs.declared.Place.the-variants.{Start, AfterHard, Inner, Good, EndSoft, EndHard, Wrong}
+use Rattle.strict_text.proofs.TextLaws.{false-true}
+use Rattle.strict_text.proofs.ClipLaws.{refB, softB, hardB, class-ref, class-soft, class-hard, step-unknown}
+
+-- the mask of the inner codes
+pub inner-bit : (c : ℕ) → c < 16 → eqb (463 / 2 ^ c % 2) 1 ≡ isInner (codeClass c)
+unfolding codeClass isRef
+inner-bit c h = below-same (λ d. eqb (463 / 2 ^ d % 2) 1) (λ d. isInner (codeClass d)) 16 c refl h
+
+-- ---- an inner op
+
+abbrev pub innerClass : Bool → Class
+innerClass reference = cond reference Reference Other
+
+pub past-inner : (p : Place) (b : Bool) → isPast p ≡ true → Wrong ≡ stepOf p (innerClass b)
+past-inner Start b e = absurd (false-true e)
+past-inner AfterHard b e = absurd (false-true e)
+past-inner Inner b e = absurd (false-true e)
+past-inner Good b e = absurd (false-true e)
+past-inner EndSoft true e = refl
+past-inner EndSoft false e = refl
+past-inner EndHard b e = refl
+past-inner Wrong b e = refl
+
+pub good-inner : (p : Place) (b : Bool) → isPast p ≡ false → acceptOf p ≡ true → Good ≡ stepOf p (innerClass b)
+good-inner Start b e f = absurd (false-true f)
+good-inner AfterHard b e f = absurd (false-true f)
+good-inner Inner b e f = absurd (false-true f)
+good-inner Good true e f = refl
+good-inner Good false e f = refl
+good-inner EndSoft b e f = absurd (false-true (sym e))
+good-inner EndHard b e f = absurd (false-true (sym e))
+good-inner Wrong b e f = absurd (false-true f)
+
+pub first-inner : (p : Place) (b : Bool) → isPast p ≡ false → acceptOf p ≡ false → cond b Good Inner ≡ stepOf p (innerClass b)
+first-inner Start true e f = refl
+first-inner Start false e f = refl
+first-inner AfterHard true e f = refl
+first-inner AfterHard false e f = refl
+first-inner Inner true e f = refl
+first-inner Inner false e f = refl
+first-inner Good b e f = absurd (false-true (sym f))
+first-inner EndSoft b e f = absurd (false-true (sym f))
+first-inner EndHard b e f = absurd (false-true (sym f))
+first-inner Wrong b e f = absurd (false-true (sym e))
+
+-- ---- which class a code has
+
+inner-is : (k : Class) → isInner k ≡ true → innerClass (refB k) ≡ k
+inner-is Reference e = refl
+inner-is Other e = refl
+inner-is Soft e = absurd (false-true e)
+inner-is Hard e = absurd (false-true e)
+inner-is Unknown e = absurd (false-true e)
+
+soft-is : (k : Class) → softB k ≡ true → Soft ≡ k
+soft-is Reference e = absurd (false-true e)
+soft-is Other e = absurd (false-true e)
+soft-is Soft e = refl
+soft-is Hard e = absurd (false-true e)
+soft-is Unknown e = absurd (false-true e)
+
+hard-is : (k : Class) → hardB k ≡ true → Hard ≡ k
+hard-is Reference e = absurd (false-true e)
+hard-is Other e = absurd (false-true e)
+hard-is Soft e = absurd (false-true e)
+hard-is Hard e = refl
+hard-is Unknown e = absurd (false-true e)
+
+rest-is : (k : Class) → isInner k ≡ false → softB k ≡ false → hardB k ≡ false → Unknown ≡ k
+rest-is Reference e f g = absurd (false-true (sym e))
+rest-is Other e f g = absurd (false-true (sym e))
+rest-is Soft e f g = absurd (false-true (sym f))
+rest-is Hard e f g = absurd (false-true (sym g))
+rest-is Unknown e f g = refl
+
+module _ (c : ℕ) (h : c < 16) where
+  pub code-inner : isInner (codeClass c) ≡ true → innerClass (isRef c) ≡ codeClass c
+  code-inner e = ap innerClass (sym (class-ref c h)) ∙ inner-is (codeClass c) e
+
+  pub code-soft : c ≡ 4 → Soft ≡ codeClass c
+  code-soft e = soft-is (codeClass c) (class-soft c h ∙ eq-eqb c 4 e)
+
+  pub code-hard : c ≡ 5 → Hard ≡ codeClass c
+  code-hard e = hard-is (codeClass c) (class-hard c h ∙ eq-eqb c 5 e)
+
+  pub code-rest : (p : Place) → isInner (codeClass c) ≡ false → (c ≡ 4 → ⊥) → (c ≡ 5 → ⊥) → Wrong ≡ stepOf p (codeClass c)
+  code-rest p e f g =
+      sym (step-unknown p) ∙ ap (stepOf p) (rest-is (codeClass c) e (class-soft c h ∙ ne-eqb c 4 f) (class-hard c h ∙ ne-eqb c 5 g))

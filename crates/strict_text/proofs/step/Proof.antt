@@ -1,0 +1,67 @@
+-- The tests of the code are those of its class.
+use Prim.Native.Nat.{_%_}
+use mathlib.Core.Path.{_≡_, sym, ap, _∙_}
+use native.Mathlib.Omega.{arith}
+use borrow.Author.Needs.{needs}
+use Rattle.sam.specs.Op.{isRef}
+use Rattle.strict_text.specs.Pass.{stepOf}
+use Rattle.strict_text.proofs.StepLaws.{innerClass, code-inner, code-soft, code-hard, code-rest}
+use Rattle.strict_text.proofs.step.Statement.{statement}
+use Rattle.strict_text.proofs.step.Tie as tie
+
+is-inner-requires : tie.Need-is-inner-requires
+is-inner-requires c κs = search needs
+
+consumes-ref-requires : tie.Need-consumes-ref-requires
+consumes-ref-requires c κs = search needs
+
+after-inner-requires : tie.Need-after-inner-requires
+after-inner-requires c κs = search needs
+
+returns : tie.Need-returns
+returns c =
+    let t = c .before .before in
+    let s = t .before .before in
+    let a = s .args in
+    c .after-inner .ensures
+    ∙ ap (λ k. stepOf (a .p) k)
+    (ap innerClass (c .before .consumes-ref .ensures ∙ ap isRef {x = a .code % 16} {y = a .code} (omega (arith, s .pre)))
+    ∙ code-inner (a .code) (s .pre) (sym (t .before .is-inner .ensures) ∙ t .if1 .taken))
+
+after-soft-requires : tie.Need-after-soft-requires
+after-soft-requires c κs = search needs
+
+returns-2 : tie.Need-returns-2
+returns-2 c =
+    let t = c .before in
+    let s = t .before .before .before in
+    c .after-soft .ensures ∙ ap (stepOf (s .args .p)) (code-soft (s .args .code) (s .pre) (t .if2 .taken))
+
+after-hard-requires : tie.Need-after-hard-requires
+after-hard-requires c κs = search needs
+
+returns-3 : tie.Need-returns-3
+returns-3 c =
+    let t = c .before in
+    let s = t .before .before .before .before in
+    c .after-hard .ensures ∙ ap (stepOf (s .args .p)) (code-hard (s .args .code) (s .pre) (t .if3 .taken))
+
+returns-4 : tie.Need-returns-4
+returns-4 c =
+    let e = c .before .before in
+    let s = e .before .before in
+    code-rest (s .args .code) (s .pre) (s .args .p) (sym (e .before .is-inner .ensures) ∙ e .if1 .left) (c .before .if2 .left) (c .if3 .left)
+
+pub step-spec : {M : Type 1} → statement M
+step-spec =
+    tie.close
+    (tie.spec
+    is-inner-requires
+    consumes-ref-requires
+    after-inner-requires
+    returns
+    after-soft-requires
+    returns-2
+    after-hard-requires
+    returns-3
+    returns-4)
