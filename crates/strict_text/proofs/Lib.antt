@@ -1,4 +1,5 @@
 pub mod TextLaws
+pub mod LetterLaws
 pub mod ClipLaws
 pub mod StepLaws
 pub mod PassLaws

@@ -37,6 +37,15 @@ abbrev pub TokenAt : List ℕ → ℕ → Token → Type 0
 TokenAt s i (Token.Op len code next) = OpAt s i len code next
 TokenAt s i Token.Bad = NoneAt s i
 
+-- the short form of the reader tells an op, or nothing
+abbrev pub ShortAt : List ℕ → ℕ → Token → Type 0
+ShortAt s i (Token.Op len code next) = OpAt s i len code next
+ShortAt s i Token.Bad = Unit {0}
+
+-- sixteen codes, from the lowest four bits on: those of the bytes from 61 on, then from 77 on
+abbrev pub codeWord : ℕ → ℕ
+codeWord place = cond (ltb place 16) 11065724273788819863 11068028851955788080
+
 unfoldable pub codeClass : ℕ → Class
 codeClass c = cond (isRef c) Reference (cond (eqb c 4) Soft (cond (eqb c 5) Hard (cond (ltb 8 c) Unknown Other)))
 

@@ -23,21 +23,24 @@ abbrev μ-loop : tie.MeasureT-loop
 
 -- the op that was read at i
 found : (c : tie.After-len Inv-loop μ-loop)
-    → OpAt (c .before .before .before .before .before .before .args .text .now) (c .before .before .before .before .loop .i) (c .len .given .0 .0) (c .len .given .0 .1 .0) (c .len .given .0 .1 .1 .0)
+    → OpAt (c .before .before .before .before .before .before .before .args .text .now) (c .before .before .before .before .before .loop .i) (c .len .given .0 .0) (c .len .given .0 .1 .0) (c .len .given .0 .1 .1 .0)
 found c =
-    let l = c .before .before .before .before in
+    let l = c .before .before .before .before .before in
     subst (TokenAt (l .before .before .args .text .now) (l .loop .i)) (c .len .given .1) (c .before .before .token-at .ensures)
 
 -- what the pass made of it
 took : (c : tie.After-take-op Inv-loop μ-loop) (r : Took) → c .take-op .result ≡ r
-    → tookOf (c .before .before .before .before .before .before .loop .seen) (c .before .before .len .given .0 .0) (codeClass (c .before .before .len .given .0 .1 .0)) ≡ r
+    → tookOf (c .before .before .before .before .before .before .before .loop .seen) (c .before .before .len .given .0 .0) (codeClass (c .before .before .len .given .0 .1 .0)) ≡ r
 took c r e = sym (c .take-op .ensures) ∙ e
 
 loop-holds : tie.Need-loop-holds Inv-loop μ-loop
 loop-holds c = (omega arith, omega arith, omega arith, refl)
 
+short-token-requires : tie.Need-short-token-requires Inv-loop μ-loop
+short-token-requires c κs = omega arith
+
 token-at-requires : tie.Need-token-at-requires Inv-loop μ-loop
-token-at-requires c κs = omega arith
+token-at-requires c κs = (omega arith, c .short-token .ensures)
 
 enum-known-len : tie.Need-enum-known-len Inv-loop μ-loop
 enum-known-len c = search needs
@@ -47,7 +50,7 @@ enum-told c = search needs
 
 returns : tie.Need-returns Inv-loop μ-loop
 returns c =
-    let l = c .before .before .before .before in
+    let l = c .before .before .before .before .before in
     let text = l .before .before .args .text .now in
     let n = subst (TokenAt text (l .loop .i)) (c .enum-told .given .1) (c .before .before .token-at .ensures) in
     sym (pass-none text (l .loop .i) (l .loop .seen) n) ∙ l .loop .inv .3 ∙ left-measured text
@@ -67,7 +70,7 @@ returns-2 : tie.Need-returns-2 Inv-loop μ-loop
 returns-2 c =
     let k = c .before .before in
     let m = k .before .before in
-    let l = m .before .before .before .before in
+    let l = m .before .before .before .before .before in
     let text = l .before .before .args .text .now in
     sym (pass-stop text (l .loop .i) (l .loop .seen) _ _ _ (found m) (took k _ (c .enum-told2 .given .1))) ∙ l .loop .inv .3 ∙ left-measured text
 
@@ -78,7 +81,7 @@ loop-again : tie.Need-loop-again Inv-loop μ-loop
 loop-again c =
     let k = c .before .before .before in
     let m = k .before .before in
-    let l = m .before .before .before .before in
+    let l = m .before .before .before .before .before in
     let text = l .before .before .args .text .now in
     let t = c .before .more .given .0 .0 in
     let e = took k _ (c .before .more .given .1) in
@@ -106,6 +109,7 @@ measure-spec =
     Inv-loop
     μ-loop
     loop-holds
+    short-token-requires
     token-at-requires
     enum-known-len
     enum-told

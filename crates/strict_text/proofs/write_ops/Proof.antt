@@ -26,9 +26,9 @@ abbrev μ-loop : tie.MeasureT-loop
 
 -- the op that was read at i
 found : (c : tie.After-len Inv-loop μ-loop)
-    → OpAt (c .before .before .before .before .before .before .before .args .text .now) (c .before .before .before .before .loop .i) (c .len .given .0 .0) (c .len .given .0 .1 .0) (c .len .given .0 .1 .1 .0)
+    → OpAt (c .before .before .before .before .before .before .before .before .args .text .now) (c .before .before .before .before .before .loop .i) (c .len .given .0 .0) (c .len .given .0 .1 .0) (c .len .given .0 .1 .1 .0)
 found c =
-    let l = c .before .before .before .before in
+    let l = c .before .before .before .before .before in
     subst (TokenAt (l .before .before .before .args .text .now) (l .loop .i)) (c .len .given .1) (c .before .before .token-at .ensures)
 
 -- where nothing is left to store, all is stored
@@ -46,8 +46,11 @@ loop-holds c =
       ap (λ (k : ℕ). sets (a .out .now) 0 (take k (textOps (a .text .now)))) {x = length (a .out .now) - 0} {y = length (a .out .now)} (omega arith),
     )
 
+short-token-requires : tie.Need-short-token-requires Inv-loop μ-loop
+short-token-requires c κs = omega arith
+
 token-at-requires : tie.Need-token-at-requires Inv-loop μ-loop
-token-at-requires c κs = omega arith
+token-at-requires c κs = (omega arith, c .short-token .ensures)
 
 enum-known-len : tie.Need-enum-known-len Inv-loop μ-loop
 enum-known-len c = search needs
@@ -56,21 +59,21 @@ enum-told : tie.Need-enum-told Inv-loop μ-loop
 enum-told c = search needs
 
 same-length : tie.Need-same-length Inv-loop μ-loop
-same-length c = c .before .before .before .before .loop .inv .2
+same-length c = c .before .before .before .before .before .loop .inv .2
 
 returns : tie.Need-returns Inv-loop μ-loop
 returns c =
-    let l = c .before .before .before .before in
+    let l = c .before .before .before .before .before in
     let a = l .before .before .before .args in
     let n = subst (TokenAt (a .text .now) (l .loop .i)) (c .enum-told .given .1) (c .before .before .token-at .ensures) in
     stored l (put-none (l .loop .out) (length (a .out .now)) (l .loop .at) _ (n .ops))
 
 same-length-2 : tie.Need-same-length-2 Inv-loop μ-loop
-same-length-2 c = c .before .before .before .before .before .before .loop .inv .2
+same-length-2 c = c .before .before .before .before .before .before .before .loop .inv .2
 
 returns-2 : tie.Need-returns-2 Inv-loop μ-loop
 returns-2 c =
-    let l = c .before .before .before .before .before .before in
+    let l = c .before .before .before .before .before .before .before in
     let a = l .before .before .before .args in
     stored l (put-full (l .loop .out) (length (a .out .now)) (l .loop .at) _ (omega arith))
 
@@ -95,7 +98,7 @@ loop-less c = let o = found (c .before .before) in omega arith
 loop-again : tie.Need-loop-again Inv-loop μ-loop
 loop-again c =
     let m = c .before .before in
-    let l = m .before .before .before .before in
+    let l = m .before .before .before .before .before in
     let a = l .before .before .before .args in
     let o = found m in (
       o .inside,
@@ -120,6 +123,7 @@ write-ops-spec =
     Inv-loop
     μ-loop
     loop-holds
+    short-token-requires
     token-at-requires
     enum-known-len
     enum-told
