@@ -2,15 +2,15 @@
 -- that the strict reader accepts does, mate text's leading clips, reference length and trailing clips are those of the list.
 use Prim.Native.Nat.{ℕ, _≤_}
 use mathlib.Core.Path.{_≡_}
-use mathlib.Core.List.{List, [], _∷_}
+use mathlib.Core.List.{List}
 use Rattle.lists.specs.Lists.{sumOf}
 use Rattle.sam.specs.Op.{lenOf, refLen}
 use Rattle.ops.specs.Clips.{leadingClips, trailingClips}
+use Rattle.strict_text.specs.Meaning.{Each}
 use Rattle.mate_text.specs.Mate.{mateLeading, mateReference, mateTrailing}
 
 abbrev pub Short : List ℕ → Type 0
-Short [] = Unit {0}
-Short (o ∷ os) = (lenOf o ≤ 268435455) × Short os
+Short ops = Each (λ o. lenOf o ≤ 268435455) ops
 
 pub record Agree (s ops : List ℕ) : Type 0 where
   pub leading : mateLeading s ≡ leadingClips ops

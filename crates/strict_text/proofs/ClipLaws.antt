@@ -5,7 +5,8 @@ use mathlib.Core.Bool.{Bool, true, false, cond, not, _&&_, _||_, and-true, and-f
 use mathlib.Core.List.{List, [], _∷_, _++_}
 use native.Mathlib.Omega.{arith}
 use lib.Dec.{ltb, eqb}
-use borrow.Author.Tests.{lt-ltb, le-ltb, ltb-true, ltb-false}
+use lib.ListN.{getD}
+use borrow.Author.Tests.{lt-ltb, le-ltb, ltb-true, ltb-false, eqb-true}
 use Rattle.lists.proofs.Tables.{below-same}
 use Rattle.sam.specs.Op.{lenOf, codeOf, isRef}
 use Rattle.strict_text.specs.Valid.{isEmpty, isSoft, isHard, allHard, anyRef, each, noZero, hardOutside, softOutside, known, validMapped}
@@ -78,33 +79,41 @@ valid-is xs =
 
 -- ---- the class of an op, as the rules' tests
 
+abbrev number : Class → ℕ
+number Reference = 0
+number Other = 1
+number Soft = 2
+number Hard = 3
+number Unknown = 4
+
+abbrev numbered : ℕ → Class
+numbered n = getD (Reference ∷ Other ∷ Soft ∷ Hard ∷ []) n Unknown
+
+numbered-number : (k : Class) → numbered (number k) ≡ k
+numbered-number Reference = refl
+numbered-number Other = refl
+numbered-number Soft = refl
+numbered-number Hard = refl
+numbered-number Unknown = refl
+
+-- the class of a number
+abbrev has : ℕ → Class → Bool
+has n k = eqb (number k) n
+
+pub has-is : (n : ℕ) (k : Class) → has n k ≡ true → numbered n ≡ k
+has-is n k e = ap numbered (sym (eqb-true (number k) n e)) ∙ numbered-number k
+
 abbrev pub refB : Class → Bool
-refB Reference = true
-refB Other = false
-refB Soft = false
-refB Hard = false
-refB Unknown = false
+refB = has 0
 
 abbrev pub softB : Class → Bool
-softB Reference = false
-softB Other = false
-softB Soft = true
-softB Hard = false
-softB Unknown = false
+softB = has 2
 
 abbrev pub hardB : Class → Bool
-hardB Reference = false
-hardB Other = false
-hardB Soft = false
-hardB Hard = true
-hardB Unknown = false
+hardB = has 3
 
 abbrev unknownB : Class → Bool
-unknownB Reference = false
-unknownB Other = false
-unknownB Soft = false
-unknownB Hard = false
-unknownB Unknown = true
+unknownB = has 4
 
 pub class-ref : (c : ℕ) → c < 16 → refB (codeClass c) ≡ isRef c
 unfolding codeClass isRef
@@ -131,20 +140,13 @@ pub short-class : (o : ℕ) → lenOf o ≡ 0 → classOf o ≡ Unknown
 unfolding classOf
 short-class o h = rw (lt-ltb o 16 (omega arith))
 
-is-unknown : (k : Class) → unknownB k ≡ true → k ≡ Unknown
-is-unknown Reference e = absurd (false-true e)
-is-unknown Other e = absurd (false-true e)
-is-unknown Soft e = absurd (false-true e)
-is-unknown Hard e = absurd (false-true e)
-is-unknown Unknown e = refl
-
 odd-class : (o : ℕ) → 9 ≤ codeOf o → classOf o ≡ Unknown
 unfolding classOf
 odd-class o h = go (ltb o 16)
   where
     go : (t : Bool) → cond t Unknown (codeClass (codeOf o)) ≡ Unknown
     go true = refl
-    go false = is-unknown (codeClass (codeOf o)) (class-known (codeOf o) (omega arith) ∙ lt-ltb 8 (codeOf o) (omega arith))
+    go false = sym (has-is 4 (codeClass (codeOf o)) (class-known (codeOf o) (omega arith) ∙ lt-ltb 8 (codeOf o) (omega arith)))
 
 -- ---- the pass by its last place
 

@@ -11,7 +11,7 @@ use Rattle.strict_text.specs.Pass.{codeClass, isInner, isPast, stepOf, a
 use Rattle.strict_text.specs.declared.Place.{Place}
 use Rattle.strict_text.specs.declared.Place.the-variants.{Start, AfterHard, Inner, Good, EndSoft, EndHard, Wrong}
 use Rattle.strict_text.proofs.TextLaws.{false-true}
-use Rattle.strict_text.proofs.ClipLaws.{refB, softB, hardB, class-ref, class-soft, class-hard, step-unknown}
+use Rattle.strict_text.proofs.ClipLaws.{has-is, refB, softB, hardB, class-ref, class-soft, class-hard, step-unknown}
 
 -- the mask of the inner codes
 pub inner-bit : (c : ℕ) → c < 16 → eqb (463 / 2 ^ c % 2) 1 ≡ isInner (codeClass c)
@@ -64,20 +64,6 @@ inner-is Soft e = absurd (false-true e)
 inner-is Hard e = absurd (false-true e)
 inner-is Unknown e = absurd (false-true e)
 
-soft-is : (k : Class) → softB k ≡ true → Soft ≡ k
-soft-is Reference e = absurd (false-true e)
-soft-is Other e = absurd (false-true e)
-soft-is Soft e = refl
-soft-is Hard e = absurd (false-true e)
-soft-is Unknown e = absurd (false-true e)
-
-hard-is : (k : Class) → hardB k ≡ true → Hard ≡ k
-hard-is Reference e = absurd (false-true e)
-hard-is Other e = absurd (false-true e)
-hard-is Soft e = absurd (false-true e)
-hard-is Hard e = refl
-hard-is Unknown e = absurd (false-true e)
-
 rest-is : (k : Class) → isInner k ≡ false → softB k ≡ false → hardB k ≡ false → Unknown ≡ k
 rest-is Reference e f g = absurd (false-true (sym e))
 rest-is Other e f g = absurd (false-true (sym e))
@@ -90,10 +76,10 @@ module _ (c : ℕ) (h : c < 16) where
   code-inner e = ap innerClass (sym (class-ref c h)) ∙ inner-is (codeClass c) e
 
   pub code-soft : c ≡ 4 → Soft ≡ codeClass c
-  code-soft e = soft-is (codeClass c) (class-soft c h ∙ eq-eqb c 4 e)
+  code-soft e = has-is 2 (codeClass c) (class-soft c h ∙ eq-eqb c 4 e)
 
   pub code-hard : c ≡ 5 → Hard ≡ codeClass c
-  code-hard e = hard-is (codeClass c) (class-hard c h ∙ eq-eqb c 5 e)
+  code-hard e = has-is 3 (codeClass c) (class-hard c h ∙ eq-eqb c 5 e)
 
   pub code-rest : (p : Place) → isInner (codeClass c) ≡ false → (c ≡ 4 → ⊥) → (c ≡ 5 → ⊥) → Wrong ≡ stepOf p (codeClass c)
   code-rest p e f g =
