@@ -1,5 +1,6 @@
 pub mod Places
 pub mod ReachLaws
+pub mod Mirror
 pub mod OverhangLaws
 pub mod Most
 pub mod Meaning

@@ -30,7 +30,7 @@ abbrev pub Unheld : ℤ → ℤ → List ℕ → Type 0
 Unheld t p xs = (ltZ t (pos 2147483647) ≡ true) ⊎ (leZ (p +ℤ pos (sumOf refLen xs)) (pos 2147483647) ≡ true)
 
 -- an op over both has as many query as reference bases
-both-len : (o : ℕ) → isQuery (codeOf o) ≡ true → 0 < refLen o → queryLen o ≡ refLen o
+pub both-len : (o : ℕ) → isQuery (codeOf o) ≡ true → 0 < refLen o → queryLen o ≡ refLen o
 unfolding queryLen refLen
 both-len o e h = go (isRef (codeOf o)) refl
   where
@@ -38,11 +38,11 @@ both-len o e h = go (isRef (codeOf o)) refl
     go true f = rw (e, f)
     go false f = absurd (let z : refLen o ≡ 0 = rw f in omega arith)
 
-gap-len : (o : ℕ) → isQuery (codeOf o) ≡ false → queryLen o ≡ 0
+pub gap-len : (o : ℕ) → isQuery (codeOf o) ≡ false → queryLen o ≡ 0
 unfolding queryLen
 gap-len o e = rw e
 
-places : (on t p k : ℕ) (xs : List ℕ) → on ≤ 1 → t ≡ p + k → (t < 4294967295) ⊎ (p + sumOf refLen xs ≤ 4294967295) → upToPlace on t p xs ≡ upTo on xs k
+pub places : (on t p k : ℕ) (xs : List ℕ) → on ≤ 1 → t ≡ p + k → (t < 4294967295) ⊎ (p + sumOf refLen xs ≤ 4294967295) → upToPlace on t p xs ≡ upTo on xs k
 unfolding upToPlace upTo sumOf
 places on t p k [] h e u = refl
 places on t p k (o ∷ xs) h e u =

@@ -1,25 +1,29 @@
 // Document 01, module 10: the query bases that a read has past its mate, over op lists wherever they lie.
 ghost use mathlib.Core.Path.{_≡_};
 ghost use Prim.Native.Nat.{_+_, _-_, _≤_, _<_, min};
-ghost use mathlib.Core.Bool.{_&&_};
+ghost use mathlib.Core.Bool.{cond, false, _&&_};
 ghost use lib.IntN.{pos, _+ℤ_, _-ℤ_};
-ghost use lib.Dec.{ltb};
+ghost use lib.Dec.{ltb, leb};
+ghost use lib.ListN.{length};
 ghost use lib.Signed.{ltZ};
 ghost use Rattle.lists.specs.Lists.{facing, sumOf};
-ghost use Rattle.signed.specs.Whole.{natural, clamp32};
+ghost use Rattle.signed.specs.Whole.{natural, raised, clamp32};
 ghost use Rattle.sam.specs.Op.{codeOf, isQuery, queryLen, refLen};
 ghost use Rattle.oplist.specs.Ops.{opsOf};
+ghost use Rattle.lookup.specs.Lookup.{upTo};
 ghost use Rattle.overhang.specs.Reach.{basesUpTo, clippedBases};
-ghost use Rattle.overhang.specs.Overhang.{endAt, endOf, gapTo, earlierOf, laterOf, forwardOverhang, reverseOverhang, overhangOf, basesExtending};
+ghost use Rattle.overhang.specs.Overhang.{endAt, endOf, gapTo, earlierOf, laterOf, overhangOf, basesExtending};
+ghost use Rattle.overhang.specs.Sides.{shortOf, meetAt, clipGap, pastOf, roomPast, Free};
 use answers::Count;
 use answers::Pos1;
 use answers::Refusal;
 use oplist::Ops;
 
-// Where an alignment ends, and its query bases.
+// Where an alignment lies: its first and last position, and its reference bases.
 pub struct Extent {
+    pub start: Pos1,
     pub end: Pos1,
-    pub query: u64,
+    pub refs: u64,
 }
 
 // Whether a stands before b.
@@ -103,6 +107,16 @@ fn reaches_past(op: u32, span: u64) -> bool
     false
 }
 
+// The query bases over the first n reference bases of an op that has more.
+fn covered(op: u32, n: u64) -> u64
+    ensures { λ r. ⌜ (r ≡ cond (isQuery (codeOf op)) (n + 0) 0) × (r ≤ n) ⌝ }
+{
+    if ops::consumes_query(op) {
+        return n;
+    }
+    0
+}
+
 // n places on; the last place is that of the largest number of an i32.
 fn place_after(place: u64, n: u64) -> u64
     requires { ⌜ (place < 4294967296) × (n < 268435456) ⌝ }
@@ -141,10 +155,15 @@ fn bases_up_to(words: &[u32], rec: &[u8], list: Ops, start: Pos1, target: Pos1, 
     bases
 }
 
-// The soft clipped bases at one end.
-fn soft_clip(words: &[u32], rec: &[u8], list: Ops, start: bool) -> u64
-    ensures { λ r. ⌜ r ≡ clippedBases (facing start (opsOf (now (words .entry)) (now (rec .entry)) list)) ⌝ }
+// The soft clipped bases at one end. Here and below a list's place is given as numbers, which the compiler sees through.
+fn clip_at(words: &[u32], rec: &[u8], inside: bool, at: usize, m: u32, start: bool) -> u64
+    ensures { λ r. ⌜ r ≡ clippedBases (facing start (opsOf (now (words .entry)) (now (rec .entry)) (record { inside = inside; at = at; n = m }))) ⌝ }
 {
+    let list = Ops {
+        inside: inside,
+        at: at,
+        n: m,
+    };
     let n = oplist::count(words, rec, list);
     let mut bases: u64 = 0;
     let mut i: usize = 0;
@@ -159,78 +178,182 @@ fn soft_clip(words: &[u32], rec: &[u8], list: Ops, start: bool) -> u64
     bases
 }
 
-// The last position and the query bases of an alignment from `start` on.
-fn extent_of(words: &[u32], rec: &[u8], list: Ops, start: Pos1) -> Extent
-    ensures { λ r. ⌜ (r .end .0 ≡ endOf (start .0) (opsOf (now (words .entry)) (now (rec .entry)) list)) × (r .query ≡ sumOf queryLen (opsOf (now (words .entry)) (now (rec .entry)) list)) ⌝ }
+// The query bases over the first `room` reference bases, as seen from one end.
+fn within_at(
+    words: &[u32],
+    rec: &[u8],
+    inside: bool,
+    at: usize,
+    m: u32,
+    start: bool,
+    room: u64,
+) -> u64
+    ensures { λ r. ⌜ r ≡ upTo 0 (facing start (opsOf (now (words .entry)) (now (rec .entry)) (record { inside = inside; at = at; n = m }))) room ⌝ }
 {
+    let list = Ops {
+        inside: inside,
+        at: at,
+        n: m,
+    };
+    let n = oplist::count(words, rec, list);
+    let mut left = room;
+    let mut bases: u64 = 0;
+    let mut i: usize = 0;
+    while i < n {
+        let op = oplist::op_from(words, rec, list, start, i);
+        let span = ops::ref_len(op);
+        if left < span {
+            return bases + covered(op, left);
+        }
+        bases += ops::query_len(op);
+        left -= span;
+        i += 1;
+    }
+    bases
+}
+
+// The extent of an alignment from `start` on.
+fn extent_at(words: &[u32], rec: &[u8], inside: bool, at: usize, n: u32, start: Pos1) -> Extent
+    ensures { λ r. ⌜ (r .start .0 ≡ start .0) × (r .end .0 ≡ endOf (r .start .0) (opsOf (now (words .entry)) (now (rec .entry)) (record { inside = inside; at = at; n = n }))) ⌝ }
+    ensures { λ r. ⌜ (r .refs ≡ sumOf refLen (opsOf (now (words .entry)) (now (rec .entry)) (record { inside = inside; at = at; n = n }))) × (r .refs ≤ 1152921504606846976) ⌝ }
+{
+    let list = Ops {
+        inside: inside,
+        at: at,
+        n: n,
+    };
     let total = lengths::sums(words, rec, list);
     Extent {
+        start: start,
         end: alignment_end(start, total.refs),
-        query: total.query,
+        refs: total.refs,
     }
 }
 
-// The forward read: what it has at its right end past its mate.
-fn forward_overhang(
-    this: Pos1,
-    words: &[u32],
-    rec: &[u8],
-    list: Ops,
-    mate: Pos1,
-    mate_words: &[u32],
-    mate_rec: &[u8],
-    mate_list: Ops,
-) -> u64
-    ensures { λ r. ⌜ r ≡ forwardOverhang (this .0) (opsOf (now (words .entry)) (now (rec .entry)) list) (mate .0) (opsOf (now («mate_words» .entry)) (now («mate_rec» .entry)) «mate_list») ⌝ }
+// The same of a list wherever it lies.
+fn soft_clip(words: &[u32], rec: &[u8], list: Ops, start: bool) -> u64
+    ensures { λ r. ⌜ r ≡ clippedBases (facing start (opsOf (now (words .entry)) (now (rec .entry)) list)) ⌝ }
 {
-    let own = extent_of(words, rec, list, this);
-    let other = extent_of(mate_words, mate_rec, mate_list, mate);
-    let end = own.end;
-    let mate_end = other.end;
-    if precedes(end, mate) {
-        let far = after(mate_end, soft_clip(mate_words, mate_rec, mate_list, false));
-        return more(soft_clip(words, rec, list, false), gap(far, end));
-    }
-    if precedes(mate_end, this) {
-        return 0;
-    }
-    let last = earlier(end, mate_end);
-    let past = more(own.query, bases_up_to(words, rec, list, this, last, 1));
-    let mate_past = more(
-        other.query,
-        bases_up_to(mate_words, mate_rec, mate_list, mate, last, 1),
-    );
-    more(past, mate_past)
+    clip_at(words, rec, list.inside, list.at, list.n, start)
 }
 
-// The reverse read: what it has at its left end past its mate.
-fn reverse_overhang(
-    this: Pos1,
-    words: &[u32],
-    rec: &[u8],
-    list: Ops,
-    mate: Pos1,
-    mate_words: &[u32],
-    mate_rec: &[u8],
-    mate_list: Ops,
-) -> u64
-    ensures { λ r. ⌜ r ≡ reverseOverhang (this .0) (opsOf (now (words .entry)) (now (rec .entry)) list) (mate .0) (opsOf (now («mate_words» .entry)) (now («mate_rec» .entry)) «mate_list») ⌝ }
+fn within(words: &[u32], rec: &[u8], list: Ops, start: bool, room: u64) -> u64
+    ensures { λ r. ⌜ r ≡ upTo 0 (facing start (opsOf (now (words .entry)) (now (rec .entry)) list)) room ⌝ }
 {
-    let own = extent_of(words, rec, list, this);
-    let other = extent_of(mate_words, mate_rec, mate_list, mate);
-    let end = own.end;
-    let mate_end = other.end;
-    if precedes(mate_end, this) {
-        let far = ahead(mate, soft_clip(mate_words, mate_rec, mate_list, true));
-        return more(soft_clip(words, rec, list, true), gap(this, far));
+    within_at(words, rec, list.inside, list.at, list.n, start, room)
+}
+
+fn extent_of(words: &[u32], rec: &[u8], list: Ops, start: Pos1) -> Extent
+    ensures { λ r. ⌜ (r .start .0 ≡ start .0) × (r .end .0 ≡ endOf (r .start .0) (opsOf (now (words .entry)) (now (rec .entry)) list)) ⌝ }
+    ensures { λ r. ⌜ (r .refs ≡ sumOf refLen (opsOf (now (words .entry)) (now (rec .entry)) list)) × (r .refs ≤ 1152921504606846976) ⌝ }
+{
+    extent_at(words, rec, list.inside, list.at, list.n, start)
+}
+
+// The same of a lent list.
+fn lent_clip(words: &[u32], start: bool) -> u64
+    requires { ⌜ length (now words) ≤ 4294967295 ⌝ }
+    ensures { λ r. ⌜ r ≡ clippedBases (facing start (now (words .entry))) ⌝ }
+{
+    clip_at(words, &[], false, 0, words.len() as u32, start)
+}
+
+fn lent_within(words: &[u32], start: bool, room: u64) -> u64
+    requires { ⌜ length (now words) ≤ 4294967295 ⌝ }
+    ensures { λ r. ⌜ r ≡ upTo 0 (facing start (now (words .entry))) room ⌝ }
+{
+    within_at(words, &[], false, 0, words.len() as u32, start, room)
+}
+
+fn lent_extent(words: &[u32], start: Pos1) -> Extent
+    requires { ⌜ length (now words) ≤ 4294967295 ⌝ }
+    ensures { λ r. ⌜ (r .start .0 ≡ start .0) × (r .end .0 ≡ endOf (r .start .0) (now (words .entry))) ⌝ }
+    ensures { λ r. ⌜ (r .refs ≡ sumOf refLen (now (words .entry))) × (r .refs ≤ 1152921504606846976) ⌝ }
+{
+    extent_at(words, &[], false, 0, words.len() as u32, start)
+}
+
+// Whether a read ends, on the side that is measured, before its mate begins.
+fn stops_short(reverse: bool, own: Extent, other: Extent) -> bool
+    ensures { λ r. ⌜ r ≡ shortOf reverse (own .start .0) (own .end .0) (other .start .0) (other .end .0) ⌝ }
+{
+    if reverse {
+        return precedes(other.end, own.start);
     }
-    if precedes(end, mate) {
-        return 0;
+    precedes(own.end, other.start)
+}
+
+// The positions from where a read ends to its mate's end with `clip` bases more, on the side that is measured.
+fn clip_gap(reverse: bool, own: Extent, other: Extent, clip: u64) -> u64
+    ensures { λ r. ⌜ r ≡ clipGap reverse (own .start .0) (own .end .0) (other .start .0) (other .end .0) clip ⌝ }
+{
+    if reverse {
+        return gap(own.start, ahead(other.start, clip));
     }
-    let first = later(this, mate);
-    let own_before = bases_up_to(words, rec, list, this, first, 0);
-    let mate_before = bases_up_to(mate_words, mate_rec, mate_list, mate, first, 0);
-    more(own_before, mate_before)
+    gap(after(other.end, clip), own.end)
+}
+
+// The shared position that a read is measured from.
+fn meeting(reverse: bool, own: Extent, other: Extent) -> Pos1
+    ensures { λ r. ⌜ r .0 ≡ meetAt reverse (own .start .0) (own .end .0) (other .start .0) (other .end .0) ⌝ }
+{
+    if reverse {
+        return later(own.start, other.start);
+    }
+    earlier(own.end, other.end)
+}
+
+// Whether an alignment ends before the position after `place`.
+fn ends_by(e: Extent, place: u64) -> bool
+    requires { ⌜ e .refs ≤ 1152921504606846976 ⌝ }
+    ensures { λ r. ⌜ r ≡ leb (raised (e .start .0) + e .refs) place ⌝ }
+{
+    if place < signed::raise(e.start.0) + e.refs {
+        return false;
+    }
+    true
+}
+
+// Whether a position may be held within an i32 on the way to the target, so that the reference bases up to it don't tell where it lies.
+fn is_held(reverse: bool, own: Extent, other: Extent, target: Pos1) -> bool
+    requires { ⌜ (own .refs ≤ 1152921504606846976) × (other .refs ≤ 1152921504606846976) ⌝ }
+    ensures { λ r. ⌜ (r ≡ false → Free reverse (target .0) (own .start .0) (own .refs) × Free reverse (target .0) (other .start .0) (other .refs)) ⌝ }
+{
+    let place = signed::raise(target.0);
+    if place == 4294967295 {
+        return true;
+    }
+    if reverse {
+        return false;
+    }
+    if ends_by(own, place) {
+        return true;
+    }
+    ends_by(other, place)
+}
+
+// The reference bases of an alignment past the target, on the side that is measured.
+fn room_past(reverse: bool, e: Extent, target: Pos1) -> u64
+    requires { ⌜ e .refs ≤ 1152921504606846976 ⌝ }
+    ensures { λ r. ⌜ r ≡ roomPast reverse (target .0) (e .start .0) (e .refs) ⌝ }
+{
+    let place = signed::raise(target.0);
+    let start = signed::raise(e.start.0);
+    if reverse {
+        return more(place, start);
+    }
+    more(start + e.refs, place + 1)
+}
+
+// The query bases past the target, on the side that is measured, by the walk that holds its positions.
+fn held_past(words: &[u32], rec: &[u8], list: Ops, start: Pos1, target: Pos1, reverse: bool) -> u64
+    ensures { λ r. ⌜ r ≡ pastOf reverse (target .0) (start .0) (opsOf (now (words .entry)) (now (rec .entry)) list) ⌝ }
+{
+    if reverse {
+        return bases_up_to(words, rec, list, start, target, 0);
+    }
+    let total = lengths::sums(words, rec, list);
+    more(total.query, bases_up_to(words, rec, list, start, target, 1))
 }
 
 // The query bases that a read has past its mate, with the ops of each wherever they lie.
@@ -247,27 +370,79 @@ pub fn overhang(
 ) -> u64
     ensures { λ r. ⌜ r ≡ overhangOf reverse (this .0) (opsOf (now (words .entry)) (now (rec .entry)) list) (mate .0) (opsOf (now («mate_words» .entry)) (now («mate_rec» .entry)) «mate_list») ⌝ }
 {
-    if reverse {
-        return reverse_overhang(
-            this,
-            words,
-            rec,
-            list,
-            mate,
+    let own = extent_of(words, rec, list, this);
+    let other = extent_of(mate_words, mate_rec, mate_list, mate);
+    if stops_short(reverse, own, other) {
+        let clip = soft_clip(mate_words, mate_rec, mate_list, reverse);
+        return more(
+            soft_clip(words, rec, list, reverse),
+            clip_gap(reverse, own, other, clip),
+        );
+    }
+    if stops_short(!reverse, own, other) {
+        return 0;
+    }
+    let target = meeting(reverse, own, other);
+    if is_held(reverse, own, other, target) {
+        let mate_past = held_past(
             mate_words,
             mate_rec,
             mate_list,
+            other.start,
+            target,
+            reverse,
+        );
+        return more(
+            held_past(words, rec, list, own.start, target, reverse),
+            mate_past,
         );
     }
-    forward_overhang(
-        this,
-        words,
-        rec,
-        list,
-        mate,
-        mate_words,
-        mate_rec,
-        mate_list,
+    let room = room_past(reverse, own, target);
+    let mate_room = room_past(reverse, other, target);
+    more(
+        within(words, rec, list, reverse, room),
+        within(mate_words, mate_rec, mate_list, reverse, mate_room),
+    )
+}
+
+// The same of two lent lists. Where a position may be held it asks the walk above, which is slower.
+fn lent_overhang(reverse: bool, this: Pos1, words: &[u32], mate: Pos1, mate_words: &[u32]) -> u64
+    requires { ⌜ (length (now words) ≤ 4294967295) × (length (now «mate_words») ≤ 4294967295) ⌝ }
+    ensures { λ r. ⌜ r ≡ overhangOf reverse (this .0) (now (words .entry)) (mate .0) (now («mate_words» .entry)) ⌝ }
+{
+    let own = lent_extent(words, this);
+    let other = lent_extent(mate_words, mate);
+    if stops_short(reverse, own, other) {
+        let clip = lent_clip(mate_words, reverse);
+        return more(
+            lent_clip(words, reverse),
+            clip_gap(reverse, own, other, clip),
+        );
+    }
+    if stops_short(!reverse, own, other) {
+        return 0;
+    }
+    let target = meeting(reverse, own, other);
+    if is_held(reverse, own, other, target) {
+        let list = oplist::lent(words);
+        let mate_list = oplist::lent(mate_words);
+        return overhang(
+            reverse,
+            this,
+            words,
+            &[],
+            list,
+            mate,
+            mate_words,
+            &[],
+            mate_list,
+        );
+    }
+    let room = room_past(reverse, own, target);
+    let mate_room = room_past(reverse, other, target);
+    more(
+        lent_within(words, reverse, room),
+        lent_within(mate_words, reverse, mate_room),
     )
 }
 
@@ -287,17 +462,5 @@ pub fn bases_extending_past_mate_ops(
     if oplist::MOST_OPS < mate_ops.len() {
         return Count::Refused(Refusal::TooManyOps);
     }
-    let list = oplist::lent(this_ops);
-    let mate_list = oplist::lent(mate_ops);
-    Count::Number(overhang(
-        is_reverse,
-        this_pos,
-        this_ops,
-        &[],
-        list,
-        mate_pos,
-        mate_ops,
-        &[],
-        mate_list,
-    ))
+    Count::Number(lent_overhang(is_reverse, this_pos, this_ops, mate_pos, mate_ops))
 }

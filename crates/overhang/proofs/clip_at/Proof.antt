@@ -10,17 +10,17 @@ use Rattle.overhang.specs.Reach.{clippedBases}
 use Rattle.overhang.proofs.ReachLaws.{clips-done, clips-out, clips-turn}
 use borrow.Author.Needs.{needs}
 use native.Mathlib.Omega.{arith}
-use Rattle.overhang.proofs.soft_clip.Statement.{statement}
-use Rattle.overhang.proofs.soft_clip.Tie as tie
+use Rattle.overhang.proofs.clip_at.Statement.{statement}
+use Rattle.overhang.proofs.clip_at.Tie as tie
 
 abbrev Inv-loop : tie.InvT-loop
-Inv-loop words rec list start n bases₀ i₀ bases i =
+Inv-loop words rec inside at m start list n bases₀ i₀ bases i =
     (i ≤ n)
     × (bases ≤ 268435456 * i)
-    × (bases + clippedBases (drop i (facing start (opsOf words rec list))) ≡ clippedBases (facing start (opsOf words rec list)))
+    × (bases + clippedBases (drop i (facing start (opsOf words rec (record { inside = inside; at = at; n = m })))) ≡ clippedBases (facing start (opsOf words rec (record { inside = inside; at = at; n = m }))))
 
 abbrev μ-loop : tie.MeasureT-loop
-μ-loop words rec list start n bases₀ i₀ bases i = n - i
+μ-loop words rec inside at m start list n bases₀ i₀ bases i = n - i
 
 count-requires : tie.Need-count-requires Inv-loop μ-loop
 count-requires c κs = search needs
@@ -38,7 +38,7 @@ returns : tie.Need-returns Inv-loop μ-loop
 returns c =
     let k = c .before .before .before .before in
     let a = k .before .before .before .before .args in
-    let xs = opsOf (a .words .now) (a .rec .now) (a .list) in
+    let xs = opsOf (a .words .now) (a .rec .now) (record { inside = a .inside; at = a .at; n = a .m }) in
     let l = length-facing (a .start) xs in
     let z = clips-out (facing (a .start) xs) (k .loop .i) _ (c .before .before .op-from .ensures) (omega arith) (sym (c .before .is-clip .ensures) ∙ not-true _ (c .if1 .taken)) in
     omega arith
@@ -59,7 +59,7 @@ loop-again : tie.Need-loop-again Inv-loop μ-loop
 loop-again c =
     let k = c .before .before .before .before .before in
     let a = k .before .before .before .before .args in
-    let xs = opsOf (a .words .now) (a .rec .now) (a .list) in
+    let xs = opsOf (a .words .now) (a .rec .now) (record { inside = a .inside; at = a .at; n = a .m }) in
     let l = length-facing (a .start) xs in
     let z = clips-turn (facing (a .start) xs) (k .loop .i) _ (c .before .before .before .op-from .ensures) (omega arith) (sym (c .before .before .is-clip .ensures) ∙ not-false _ (c .before .if1 .left)) in
     (omega arith, omega arith, omega arith)
@@ -68,13 +68,13 @@ returns-2 : tie.Need-returns-2 Inv-loop μ-loop
 returns-2 c =
     let k = c .before in
     let a = k .before .before .before .before .args in
-    let xs = opsOf (a .words .now) (a .rec .now) (a .list) in
+    let xs = opsOf (a .words .now) (a .rec .now) (record { inside = a .inside; at = a .at; n = a .m }) in
     let l = length-facing (a .start) xs in
     let z = clips-done (facing (a .start) xs) (k .loop .i) (omega arith) in
     omega arith
 
-pub soft-clip-spec : {M : Type 1} → statement M
-soft-clip-spec =
+pub clip-at-spec : {M : Type 1} → statement M
+clip-at-spec =
     tie.close
     (tie.spec
     Inv-loop
