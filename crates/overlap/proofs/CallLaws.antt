@@ -1,7 +1,7 @@
 -- The ways out of each call, over plain lists: one test after another, as the definitions have them.
 use Prim.Native.Nat.{ℕ, _≤_, _<_}
-use mathlib.Core.Path.{_≡_, ap, _∙_}
-use mathlib.Core.Bool.{Bool, true, false}
+use mathlib.Core.Path.{_≡_, refl, ap, _∙_}
+use mathlib.Core.Bool.{Bool, true, false, cond}
 use mathlib.Core.List.{List}
 use native.Mathlib.Omega.{arith}
 use lib.IntN.{ℤ, pos}
@@ -96,13 +96,18 @@ module _ (b ys : List ℕ) where
       unfolding pastMateCigar measuredOps
       cigar-bad e = simp (le-ltb (length b) 32 h, le-ltb mostOps (length ys) k, ops-bad (validMapped ys) _ _ e)
 
+      -- a pair that is not FR, whether or not the list is valid
+      pub cigar-apart : isFrWithMate b (clamp32 (pos (sumOf refLen ys))) ≡ false → Count.Number 0 ≡ pastMateCigar b ys
+      unfolding pastMateCigar overhangAt placedBy placedPair
+      cigar-apart e = simp (le-ltb (length b) 32 h, le-ltb mostOps (length ys) k, e) (go (validMapped ys))
+        where
+          go : (v : Bool) → Count.Number 0 ≡ cond v (Count.Number 0) (Count.Number 0)
+          go true = refl
+          go false = refl
+
       pub cigar-is : {r : Count} {p : Placed} {xs : List ℕ} (n : ℕ) (z : ℤ) → measuredOps ys ≡ Measured.Ops n z → p ≡ placedBy b ys → xs ≡ ys → r ≡ overhangAt p b xs → r ≡ pastMateCigar b ys
       unfolding pastMateCigar measuredOps
       cigar-is n z e p x q = simp (le-ltb (length b) 32 h, le-ltb mostOps (length ys) k, ops-some (validMapped ys) _ _ _ _ e .0) (rw (← p, ← x) q)
-
-pub span-of-ops : (ys : List ℕ) (n : ℕ) (z : ℤ) → measuredOps ys ≡ Measured.Ops n z → clamp32 (pos (sumOf refLen ys)) ≡ z
-unfolding measuredOps
-span-of-ops ys n z e = ops-some (validMapped ys) _ _ _ _ e .2
 
 -- ---- the mate's text
 

@@ -141,14 +141,14 @@ pub fn num_bases_extending_past_mate_cigar_raw(bam: &[u8], mate_ops: &[u32]) -> 
         return Count::Refused(Refusal::TooManyOps);
     }
     let list = oplist::lent(mate_ops);
-    let Measured::Ops(_, span) = strict_text::measure_ops(mate_ops, &[], list) else {
+    let total = lengths::sums(mate_ops, &[], list);
+    if !pairs::fr_with_mate(bam, lengths::saturated(total.refs)) {
+        return Count::Number(0);
+    }
+    let Measured::Ops(_, _) = strict_text::measure_ops(mate_ops, &[], list) else {
         return Count::Number(0);
     };
-    let placed = placed_pair(
-        pairs::fr_with_mate(bam, span),
-        bam,
-        Pos0(little::i32_at(bam, 24)),
-    );
+    let placed = placed_pair(true, bam, Pos0(little::i32_at(bam, 24)));
     overhang_at(placed, bam, mate_ops, &[], list)
 }
 
