@@ -1,9 +1,9 @@
-use mathlib.Core.Path.{_≡_, ap, sym, _∙_}
-use mir.Syntax.{w32}
-use mir.Val.{toZ, ofZ}
+-- Equal bits of the two shifts are equal numbers.
+use mathlib.Core.Path.{_≡_}
 use mir.Facts.{toZ-ofZ}
 use Rattle.bin.specs.Bin.{shr}
-use Rattle.bin.proofs.Shifts.{shr-fits, bits-eq}
+use Rattle.signed.proofs.EqualLaws.{bits-eq}
+use Rattle.bin.proofs.Shifts.{shr-fits}
 use borrow.Author.Needs.{needs}
 use Rattle.bin.proofs.agree.Statement.{statement}
 use Rattle.bin.proofs.agree.Tie as tie
