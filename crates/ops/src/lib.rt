@@ -168,18 +168,18 @@ pub fn named(code: u32) -> Lettered
     }
 }
 
-// Whether an op or a code, taken modulo 16, consumes the reference: bit c of 397 is code c's.
+// Whether an op or a code, taken modulo 16, consumes the reference: bit c of 0x018d is code c's, and the mask has it twice.
 pub fn consumes_ref(op: u32) -> bool
     ensures { λ r. ⌜ r ≡ isRef (op % 16) ⌝ }
 {
-    (397u32 >> (op % 16)) % 2 == 1
+    (0x018d018du32 >> (op % 32)) % 2 == 1
 }
 
-// Whether an op or a code, taken modulo 16, consumes the query: bit c of 403 is code c's.
+// Whether an op or a code, taken modulo 16, consumes the query: bit c of 0x0193 is code c's, and the mask has it twice.
 pub fn consumes_query(op: u32) -> bool
     ensures { λ r. ⌜ r ≡ isQuery (op % 16) ⌝ }
 {
-    (403u32 >> (op % 16)) % 2 == 1
+    (0x01930193u32 >> (op % 32)) % 2 == 1
 }
 
 // Whether a code, taken whole, is M, I, = or X: bit c of 387 is code c's.
