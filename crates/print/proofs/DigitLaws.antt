@@ -8,7 +8,7 @@ use native.Mathlib.Omega.{arith}
 use lib.ListN.{length, set, drop, getD, length-append}
 use lib.Seq.{sets, set-comm}
 use lib.Dec.{ltb}
-use borrow.Author.Tests.{lt-ltb, le-ltb}
+use borrow.Author.Tests.{lt-ltb, le-ltb, ltb-true, ltb-false}
 use Rattle.lists.proofs.Walks.{step, done}
 use Rattle.sam.specs.Op.{lenOf, codeOf}
 use Rattle.ops.specs.Ops.{letterOf}
@@ -43,6 +43,18 @@ digits-turn j n at l =
     sym (set-sets (digits j (n / 10)) l at (at + j) (48 + n % 10) (omega arith))
     ∙ ap (λ (k : ℕ). set (sets l at (digits j (n / 10))) (at + k) (48 + n % 10)) (sym e)
     ∙ sym (sets-append (digits j (n / 10)) ((48 + n % 10) ∷ []) l at)
+
+-- the digits of a number below 10000, by how many powers it has got to
+pub short-width : (n : ℕ) → n < 10000 → Width n (1 + cond (ltb n 10) 0 1 + cond (ltb n 100) 0 1 + cond (ltb n 1000) 0 1)
+short-width n h = go (ltb n 10) (ltb n 100) (ltb n 1000) refl refl refl
+  where
+    go : (t u v : Bool) → ltb n 10 ≡ t → ltb n 100 ≡ u → ltb n 1000 ≡ v → Width n (1 + cond t 0 1 + cond u 0 1 + cond v 0 1)
+    go true true true p q r = let l = ltb-true n 10 p in record { some = omega arith; most = omega arith; below = omega arith; least = λ k. omega arith }
+    go false true true p q r = let g = ltb-false n 10 p in let l = ltb-true n 100 q in record { some = omega arith; most = omega arith; below = omega arith; least = λ k. omega arith }
+    go false false true p q r = let g = ltb-false n 100 q in let l = ltb-true n 1000 r in record { some = omega arith; most = omega arith; below = omega arith; least = λ k. omega arith }
+    go false false false p q r = let g = ltb-false n 1000 r in record { some = omega arith; most = omega arith; below = omega arith; least = λ k. omega arith }
+    go true false v p q r = let l = ltb-true n 10 p in let g = ltb-false n 100 q in absurd (omega arith)
+    go t true false p q r = let l = ltb-true n 100 q in let g = ltb-false n 1000 r in absurd (omega arith)
 
 dec-digits : (k f n : ℕ) → k ≤ f → n < 10 ^ suc k → (0 < k → 10 ^ k ≤ n) → dec (suc f) n ≡ digits (suc k) n
 unfolding dec digits

@@ -1,6 +1,8 @@
 // Document 01, module 4: the text of a record's ops, in lent memory.
 ghost use mathlib.Core.Path.{_≡_};
 ghost use Prim.Native.Nat.{_+_, _≤_};
+ghost use mathlib.Core.Bool.{cond};
+ghost use lib.Dec.{ltb};
 ghost use lib.ListN.{length};
 ghost use lib.Seq.{sets};
 ghost use Rattle.answers.specs.Settled.{Settled};
@@ -17,18 +19,19 @@ pub enum Room {
     BadCode,
 }
 
-// How many decimal digits n has.
+// 1 where n has got to m.
+fn reached(n: u32, m: u32) -> usize
+    ensures { λ r. ⌜ (r ≡ cond (ltb n m) 0 1) × (r ≤ 1) ⌝ }
+{
+    if n < m { 0 } else { 1 }
+}
+
+// How many decimal digits n has. Most lengths have up to four, whose number no branch tells: it is hard to foresee.
 fn width(n: u32) -> usize
     ensures { λ r. ⌜ Width n r ⌝ }
 {
-    if n < 10 {
-        1
-    } else if n < 100 {
-        2
-    } else if n < 1000 {
-        3
-    } else if n < 10000 {
-        4
+    if n < 10000 {
+        1 + reached(n, 10) + reached(n, 100) + reached(n, 1000)
     } else if n < 100000 {
         5
     } else if n < 1000000 {
