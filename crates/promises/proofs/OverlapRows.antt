@@ -70,7 +70,7 @@ sums-over p m = by-sides (ltZ p (negsuc 2147483647)) (ltZ (pos 2147483647) p) (l
     by-sides false false false true = refl
     by-sides false false false false = refl
 
-placed-over : (fr : Bool) (b : List ℕ) (m : ℤ) → isOver (placedPair fr b m) ≡ (fr && anyOutside ((posOf b +ℤ pos 1) ∷ (m +ℤ pos 1) ∷ []))
+pub placed-over : (fr : Bool) (b : List ℕ) (m : ℤ) → isOver (placedPair fr b m) ≡ (fr && anyOutside ((posOf b +ℤ pos 1) ∷ (m +ℤ pos 1) ∷ []))
 unfolding placedPair oneBased both
 placed-over true b m = sums-over (posOf b +ℤ pos 1) (m +ℤ pos 1)
 placed-over false b m = refl

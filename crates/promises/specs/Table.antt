@@ -1,9 +1,10 @@
 -- Document 01, "Numbers and their bounds": a refusal is "given exactly when" its row holds, and of several the first in the call's order; it "carries its number, no value, and every lent buffer is unchanged".
 use Prim.Native.Nat.{ℕ}
 use mathlib.Core.Path.{_≡_}
-use mathlib.Core.Bool.{Bool, true, cond, not, _&&_}
+use mathlib.Core.Bool.{Bool, true, false, cond, not, _&&_}
 use mathlib.Core.List.{List, [], _∷_}
 use lib.Dec.{eqb}
+use lib.ListN.{length, take, drop}
 use Rattle.answers.specs.Answers.{Told}
 use Rattle.answers.specs.Settled.{Outcome}
 
@@ -39,3 +40,14 @@ pub record Gives (t : Told) (rows : List Row) : Type 0 where
 pub record GivesKept {A : Type 0} (tell : A → Told) (want : Outcome A) (d : List ℕ) (rows : List Row) : Type 0 where
   pub gives : Gives (tell (want .answer)) rows
   pub kept : refuses rows ≡ true → want .left ≡ d
+
+-- "An accepted output fills its first n places; the places after them are unchanged": the n elements of ys stand in d
+pub record Fills (d ys left : List ℕ) : Type 0 where
+  pub first-places : take (length ys) left ≡ ys
+  pub other-places : drop (length ys) left ≡ drop (length ys) d
+  pub as-many : length left ≡ length d
+
+-- where no row holds, a call with an output d answers a, and d holds ys
+pub record Accepts {A : Type 0} (want : Outcome A) (d : List ℕ) (rows : List Row) (a : A) (ys : List ℕ) : Type 0 where
+  pub answer : refuses rows ≡ false → want .answer ≡ a
+  pub fills : refuses rows ≡ false → Fills d ys (want .left)
