@@ -29,9 +29,9 @@ use Rattle.lengths.specs.Lengths.{asInt, refLength, queryLength, saturatedLengt
 use Rattle.lengths.specs.declared.Lengths.{Lengths}
 use Rattle.lengths.specs.declared.Lengths.the-variants as Lengths
 use Rattle.bin.specs.Bin.{binTo, reg2bin, spanOf, binUpTo, recordBin, withBin, setBin}
-use Rattle.promises.specs.Table.{Row, _when_, Gives, GivesKept}
+use Rattle.promises.specs.Table.{Row, _when_, Gives, GivesKept, GivesFilled}
 use Rattle.promises.specs.Rows.{over, anyOutside, recordRows, opsRows, newRows, listRows, lengthRows, checkedRows, bothRows, regionRows, binRows}
-use Rattle.promises.proofs.RowLaws.{number-alone, answer, row, row-either, row-unless, row-sum, kept-row, kept-answer}
+use Rattle.promises.proofs.RowLaws.{number-alone, answer, row, row-either, row-unless, row-sum, kept-row, last-row}
 
 -- ---- fields
 
@@ -75,11 +75,11 @@ pub op-new : (k : CigarKind) (n : ℕ) → Gives (tellOp (newOp k n)) (newRows n
 unfolding newOp
 op-new k n = row-either tellOp (eqb n 0) (ltb 268435455 n) (NewOp.Refused BadLength) _ 10 refl (answer refl refl)
 
-pub get-cigar-ops : (b d : List ℕ) → GivesKept tellCount (getOps b d) d (opsRows b d)
+pub get-cigar-ops : (b d : List ℕ) → GivesFilled tellCount (getOps b d) d (opsRows b d) (Count.Number (length (recordOps b))) (recordOps b)
 unfolding getOps
 get-cigar-ops b d =
-    kept-row tellCount (ltb (length b) 32) (Count.Refused ShortRecord) _ d 1 refl
-    (kept-row tellCount (ltb (length d) (length (recordOps b))) (Count.Refused NoRoom) _ d 6 refl (kept-answer tellCount refl))
+    kept-row tellCount (ltb (length b) 32) (Count.Refused ShortRecord) 1 refl refl
+    (last-row tellCount (recordOps b) (Count.Refused NoRoom) _ refl refl)
 
 -- ---- lengths
 

@@ -4,7 +4,6 @@ pub mod TextRows
 pub mod EndRows
 pub mod ClipRows
 pub mod OverlapRows
-pub mod AcceptRows
 pub mod Settles
 pub mod Demand3
 pub mod SamLaws

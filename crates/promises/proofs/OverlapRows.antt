@@ -24,12 +24,12 @@ use Rattle.strict_text.specs.Valid.{validMapped}
 use Rattle.strict_text.specs.Parsed.{strict}
 use Rattle.pairs.specs.Pairs.{isFrWithMate, isPrimaryFr}
 use Rattle.overhang.specs.Overhang.{basesExtending}
-use Rattle.overlap.specs.Overlap.{oppositePair, frPair, primaryFrPair, bothPlaces, placedPair, isOver, overhangAt, placedBy, pastMateCigar, pastMateRecord, listLeft, pastMateText, tellOverhang}
+use Rattle.overlap.specs.Overlap.{oppositePair, frPair, primaryFrPair, bothPlaces, placedPair, isOver, basesAt, overhangAt, placedBy, pastMateCigar, pastMateRecord, listLeft, pastMateText, tellOverhang}
 use Rattle.overlap.specs.declared.Overhang.{Overhang}
 use Rattle.overlap.specs.declared.Overhang.the-variants as Overhang
-use Rattle.promises.specs.Table.{_when_, Gives, GivesKept}
+use Rattle.promises.specs.Table.{_when_, Gives, GivesFilled}
 use Rattle.promises.specs.Rows.{anyOutside, noRoom, placeRow, recordRows, twoRows, extendingRows, mateCigarRows, mateRecordRows, mateTextRows}
-use Rattle.promises.proofs.RowLaws.{answer, row, row-where, kept-row, kept-where, kept-answer}
+use Rattle.promises.proofs.RowLaws.{answer, row, row-where, kept-row, kept-where, last-row}
 
 -- ---- the pair tests
 
@@ -70,7 +70,7 @@ sums-over p m = by-sides (ltZ p (negsuc 2147483647)) (ltZ (pos 2147483647) p) (l
     by-sides false false false true = refl
     by-sides false false false false = refl
 
-pub placed-over : (fr : Bool) (b : List ℕ) (m : ℤ) → isOver (placedPair fr b m) ≡ (fr && anyOutside ((posOf b +ℤ pos 1) ∷ (m +ℤ pos 1) ∷ []))
+placed-over : (fr : Bool) (b : List ℕ) (m : ℤ) → isOver (placedPair fr b m) ≡ (fr && anyOutside ((posOf b +ℤ pos 1) ∷ (m +ℤ pos 1) ∷ []))
 unfolding placedPair oneBased both
 placed-over true b m = sums-over (posOf b +ℤ pos 1) (m +ℤ pos 1)
 placed-over false b m = refl
@@ -95,17 +95,19 @@ num-bases-extending-past-mate-vs-mate-raw b m =
     (row tellCount (ltb (length m) 32) (Count.Refused ShortRecord) _ 1 refl (overhang-rows (isPrimaryFr b m) b (recordOps m) (posOf m)))
 
 -- 4, then 6, before the list is written
-list-rows : (fr : Bool) (b xs d : List ℕ) (m : ℤ) → GivesKept tellOverhang (listLeft (placedPair fr b m) b xs d) d (placeRow fr (posOf b) m ∷ noRoom d (length xs) ∷ [])
+list-rows : (fr : Bool) (b xs d : List ℕ) (m : ℤ)
+    → GivesFilled tellOverhang (listLeft (placedPair fr b m) b xs d) d (placeRow fr (posOf b) m ∷ noRoom d (length xs) ∷ []) (Overhang.Bases (basesAt (placedPair fr b m) b xs) (length xs)) xs
 unfolding listLeft
 list-rows fr b xs d m =
-    subst (λ t. GivesKept tellOverhang (listLeft (placedPair fr b m) b xs d) d ((4 when t) ∷ noRoom d (length xs) ∷ [])) (placed-over fr b m)
-    (kept-row tellOverhang (isOver (placedPair fr b m)) (Overhang.Refused Overflow) _ d 4 refl
-    (kept-row tellOverhang (ltb (length d) (length xs)) (Overhang.Refused NoRoom) _ d 6 refl (kept-answer tellOverhang refl)))
+    subst (λ t. GivesFilled tellOverhang (listLeft (placedPair fr b m) b xs d) d ((4 when t) ∷ noRoom d (length xs) ∷ []) (Overhang.Bases (basesAt (placedPair fr b m) b xs) (length xs)) xs) (placed-over fr b m)
+    (kept-row tellOverhang (isOver (placedPair fr b m)) (Overhang.Refused Overflow) 4 refl refl (last-row tellOverhang xs (Overhang.Refused NoRoom) _ refl refl))
 
-pub num-bases-extending-past-mate-text-raw : (b s d : List ℕ) → GivesKept tellOverhang (pastMateText b s d) d (mateTextRows b s d)
+-- an answer leaves the parsed list in the first places; a text that the strict reader refuses answers 0 and leaves the room as it was
+pub num-bases-extending-past-mate-text-raw : (b s d : List ℕ)
+    → GivesFilled tellOverhang (pastMateText b s d) d (mateTextRows b s d) (cond (strict s) (Overhang.Bases (basesAt (placedBy b (textOps s)) b (textOps s)) (length (textOps s))) (Overhang.Bases 0 0)) (cond (strict s) (textOps s) [])
 unfolding pastMateText placedBy
 num-bases-extending-past-mate-text-raw b s d =
-    kept-row tellOverhang (ltb (length b) 32) (Overhang.Refused ShortRecord) _ d 1 refl
-    (kept-where tellOverhang (strict s) (Overhang.Bases 0 0) _ d refl
-    (kept-row tellOverhang (ltb 65535 (length (textOps s))) (Overhang.Refused TooManyOps) _ d 3 refl
+    kept-row tellOverhang (ltb (length b) 32) (Overhang.Refused ShortRecord) 1 refl refl
+    (kept-where tellOverhang (strict s) (Overhang.Bases 0 0) refl
+    (kept-row tellOverhang (ltb 65535 (length (textOps s))) (Overhang.Refused TooManyOps) 3 refl refl
     (list-rows (isFrWithMate b (clamp32 (pos (sumOf refLen (textOps s))))) b (textOps s) d (matePosOf b))))

@@ -1,19 +1,25 @@
 -- One row of the refusal table: a test of the definition, and the refusal that it gives.
-use Prim.Native.Nat.{ℕ}
+use Prim.Native.Nat.{ℕ, _+_, _≤_}
 use mathlib.Core.Path.{_≡_, refl, sym, subst, ap, _∙_}
 use mathlib.Core.Bool.{Bool, true, false, cond, not, _||_}
-use mathlib.Core.List.{List, [], _∷_}
-use lib.Dec.{T, eqb}
+use mathlib.Core.List.{List, [], _∷_, _++_}
+use native.Mathlib.Omega.{arith}
+use borrow.Author.Tests.{ltb-false}
+use lib.Dec.{T, eqb, ltb}
+use lib.ListN.{length, take, drop}
+use lib.Seq.{take-at, drop-at}
 use lib.IntN.{ℤ, pos, negsuc}
 use lib.Signed.{ltZ}
+use Rattle.lists.specs.Lists.{splice}
+use Rattle.lists.proofs.ListLaws.{length-splice}
 use Rattle.signed.specs.Whole.{checked, sideOf, sumAt}
 use Rattle.signed.specs.declared.Side.the-variants.{Below, Within, Above}
 use Rattle.signed.specs.declared.Sum.{Sum}
 use Rattle.signed.specs.declared.Sum.the-variants.{Number, Over}
 use Rattle.answers.specs.Answers.{Told}
 use Rattle.answers.specs.Settled.{Outcome, keeps}
-use Rattle.promises.specs.Table.{Row, _when_, only, first, Gives, GivesKept}
-use Rattle.promises.specs.Rows.{anyOutside, over}
+use Rattle.promises.specs.Table.{Row, _when_, only, first, refuses, Gives, Fills, GivesFilled}
+use Rattle.promises.specs.Rows.{anyOutside, over, noRoom}
 
 -- rows under a condition that holds are these rows, and under one that doesn't hold give nothing
 only-first : (t : Bool) (rows : List Row) → first (only t rows) ≡ cond t (first rows) 0
@@ -68,16 +74,63 @@ module _ {A : Type 0} (tell : A → Told) where
       by-side false true = refusal p refl
       by-side false false = like refl q
 
-  -- the same with memory d lent: a refusal keeps it
-  pub kept-row : (t : Bool) (a : A) (x : Outcome A) (d : List ℕ) (n : ℕ) {rows : List Row} → tell a ≡ number-alone n → GivesKept tell x d rows → GivesKept tell (cond t (keeps a d) x) d (n when t ∷ rows)
-  kept-row true a x d n p q = record { gives = refusal p refl; kept = λ e. refl }
-  kept-row false a x d n p q = record { gives = like refl (q .gives); kept = q .kept }
+-- ---- with an output d lent
 
-  -- an answer that keeps it too, where the test fails, so that the rows behind are due only where it holds
-  pub kept-where : (t : Bool) (a : A) (x : Outcome A) (d : List ℕ) {rows : List Row} → tell a .number ≡ 0 → GivesKept tell x d rows → GivesKept tell (cond (not t) (keeps a d) x) d (only t rows)
-  kept-where true a x d {rows} p q = record { gives = like (sym (only-first true rows)) (q .gives); kept = λ e. q .kept (ap (λ n. not (eqb n 0)) (sym (only-first true rows)) ∙ e) }
-  kept-where false a x d {rows} p q = record { gives = answer p (sym (only-first false rows)); kept = λ e. refl }
+splice-fills : (d ys : List ℕ) → length ys ≤ length d → Fills d ys (splice d 0 ys)
+unfolding splice
+splice-fills d ys h =
+    let n = length ys in
+    let e : 0 + n ≡ n = omega arith in
+    let l : splice d 0 ys ≡ ys ++ drop n d = ap (λ (k : ℕ). ys ++ drop k d) e in
+    record {
+      first-places = ap (take n) l ∙ take-at ys (drop n d) n refl;
+      other-places = ap (drop n) l ∙ drop-at ys (drop n d) n refl;
+      as-many = length-splice d 0 ys (omega arith);
+    }
 
-  -- past the last row, an answer
-  pub kept-answer : {x : Outcome A} {d : List ℕ} → tell (x .answer) .number ≡ 0 → GivesKept tell x d []
-  kept-answer p = record { gives = answer p refl; kept = λ (e : false ≡ true). absurd (subst T (sym e) tt) }
+module _ {A : Type 0} (tell : A → Told) {d : List ℕ} where
+  -- a refusal keeps the output, where its row is the first that holds
+  kept-refusal : (a : A) {n : ℕ} {rows : List Row} {b : A} {ys : List ℕ} → tell a ≡ number-alone n → n ≡ first rows → eqb n 0 ≡ false → GivesFilled tell (keeps a d) d rows b ys
+  kept-refusal a {n} {rows} p e some =
+      record { refusal = record { gives = refusal p e; kept = λ h. refl }; answer = λ h. absurd (no h); fills = λ h. absurd (no h) }
+    where
+      no : refuses rows ≡ false → ⊥
+      no h = subst T (sym (ap not some) ∙ ap (λ m. not (eqb m 0)) e ∙ h) tt
+
+  like-filled : {x : Outcome A} {rows rows' : List Row} {b : A} {ys : List ℕ} → first rows ≡ first rows' → GivesFilled tell x d rows b ys → GivesFilled tell x d rows' b ys
+  like-filled e q =
+      record {
+        refusal = record { gives = like e (q .refusal .gives); kept = λ h. q .refusal .kept (ap (λ n. not (eqb n 0)) e ∙ h) };
+        answer = λ h. q .answer (ap (λ n. not (eqb n 0)) e ∙ h);
+        fills = λ h. q .fills (ap (λ n. not (eqb n 0)) e ∙ h);
+      }
+
+  pub kept-row : (t : Bool) (a : A) (n : ℕ) {x : Outcome A} {rows : List Row} {b : A} {ys : List ℕ} → tell a ≡ number-alone n → eqb n 0 ≡ false
+      → GivesFilled tell x d rows b ys → GivesFilled tell (cond t (keeps a d) x) d (n when t ∷ rows) b ys
+  kept-row true a n p some q = kept-refusal a p refl some
+  kept-row false a n p some q = like-filled refl q
+
+  -- an answer that keeps the output too, where the test fails, so that the rows behind are due only where it holds
+  pub kept-where : (t : Bool) (a : A) {x : Outcome A} {rows : List Row} {b : A} {ys : List ℕ} → tell a .number ≡ 0
+      → GivesFilled tell x d rows b ys → GivesFilled tell (cond (not t) (keeps a d) x) d (only t rows) (cond t b a) (cond t ys [])
+  kept-where true a {rows = rows} p q = like-filled (sym (only-first true rows)) q
+  kept-where false a {rows = rows} p q =
+      record {
+        refusal = record { gives = answer p (sym (only-first false rows)); kept = λ h. refl };
+        answer = λ h. refl;
+        fills = λ h. record { first-places = refl; other-places = refl; as-many = refl };
+      }
+
+  -- the last row, and past it the list ys
+  pub last-row : (ys : List ℕ) (a b : A) → tell a ≡ number-alone 6 → tell b .number ≡ 0
+      → GivesFilled tell (cond (ltb (length d) (length ys)) (keeps a d) (record { answer = b; left = splice d 0 ys })) d (noRoom d (length ys) ∷ []) b ys
+  last-row ys a b p z = go (ltb (length d) (length ys)) refl
+    where
+      go : (t : Bool) → ltb (length d) (length ys) ≡ t → GivesFilled tell (cond t (keeps a d) (record { answer = b; left = splice d 0 ys })) d ((6 when t) ∷ []) b ys
+      go true e = kept-refusal a p refl refl
+      go false e =
+          record {
+            refusal = record { gives = answer z refl; kept = λ (h : false ≡ true). absurd (subst T (sym h) tt) };
+            answer = λ h. refl;
+            fills = λ h. splice-fills d ys (ltb-false (length d) (length ys) e);
+          }

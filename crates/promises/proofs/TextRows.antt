@@ -14,23 +14,23 @@ use Rattle.answers.specs.declared.Flag.the-variants as Flag
 use Rattle.print.specs.Text.{anyBad, textOf, printed}
 use Rattle.strict_text.specs.Text.{textOps}
 use Rattle.strict_text.specs.Parsed.{strict, parsed, validity}
-use Rattle.promises.specs.Table.{Gives, GivesKept}
+use Rattle.promises.specs.Table.{Gives, GivesFilled}
 use Rattle.promises.specs.Rows.{listRows, printRows, textRows}
-use Rattle.promises.proofs.RowLaws.{answer, row, kept-row, kept-answer}
+use Rattle.promises.proofs.RowLaws.{answer, row, kept-row, last-row}
 
-pub cigar-to-bytes-into : (b d : List ℕ) → GivesKept tellCount (printed b d) d (printRows b d)
+pub cigar-to-bytes-into : (b d : List ℕ) → GivesFilled tellCount (printed b d) d (printRows b d) (Count.Number (length (textOf (recordOps b)))) (textOf (recordOps b))
 unfolding printed
 cigar-to-bytes-into b d =
-    kept-row tellCount (ltb (length b) 32) (Count.Refused ShortRecord) _ d 1 refl
-    (kept-row tellCount (anyBad (recordOps b)) (Count.Refused BadCode) _ d 7 refl
-    (kept-row tellCount (ltb (length d) (length (textOf (recordOps b)))) (Count.Refused NoRoom) _ d 6 refl (kept-answer tellCount refl)))
+    kept-row tellCount (ltb (length b) 32) (Count.Refused ShortRecord) 1 refl refl
+    (kept-row tellCount (anyBad (recordOps b)) (Count.Refused BadCode) 7 refl refl
+    (last-row tellCount (textOf (recordOps b)) (Count.Refused NoRoom) _ refl refl))
 
-pub parse-cigar-string-ops : (s d : List ℕ) → GivesKept tellCount (parsed s d) d (textRows s d)
+pub parse-cigar-string-ops : (s d : List ℕ) → GivesFilled tellCount (parsed s d) d (textRows s d) (Count.Number (length (textOps s))) (textOps s)
 unfolding parsed
 parse-cigar-string-ops s d =
-    kept-row tellCount (not (strict s)) (Count.Refused NotACigar) _ d 5 refl
-    (kept-row tellCount (ltb 65535 (length (textOps s))) (Count.Refused TooManyOps) _ d 3 refl
-    (kept-row tellCount (ltb (length d) (length (textOps s))) (Count.Refused NoRoom) _ d 6 refl (kept-answer tellCount refl)))
+    kept-row tellCount (not (strict s)) (Count.Refused NotACigar) 5 refl refl
+    (kept-row tellCount (ltb 65535 (length (textOps s))) (Count.Refused TooManyOps) 3 refl refl
+    (last-row tellCount (textOps s) (Count.Refused NoRoom) _ refl refl))
 
 pub is-valid-mapped-cigar : (xs : List ℕ) → Gives (tellFlag (validity xs)) (listRows xs)
 unfolding validity

@@ -47,7 +47,8 @@ pub record Fills (d ys left : List ℕ) : Type 0 where
   pub other-places : drop (length ys) left ≡ drop (length ys) d
   pub as-many : length left ≡ length d
 
--- where no row holds, a call with an output d answers a, and d holds ys
-pub record Accepts {A : Type 0} (want : Outcome A) (d : List ℕ) (rows : List Row) (a : A) (ys : List ℕ) : Type 0 where
+-- a call with an output d: where no row holds it answers a, and d holds ys
+pub record GivesFilled {A : Type 0} (tell : A → Told) (want : Outcome A) (d : List ℕ) (rows : List Row) (a : A) (ys : List ℕ) : Type 0 where
+  pub refusal : GivesKept tell want d rows
   pub answer : refuses rows ≡ false → want .answer ≡ a
   pub fills : refuses rows ≡ false → Fills d ys (want .left)
