@@ -33,7 +33,7 @@ past-short : (size : ℕ) (f : List ℕ → Head) (s : List ℕ) → length s < 
 unfolding past
 past-short size f s h = simp (lt-ltb (length s) size h)
 
-past-long : (size : ℕ) (f : List ℕ → Head) (s : List ℕ) → size ≤ length s → past size f s ≡ f (drop size s)
+pub past-long : (size : ℕ) (f : List ℕ → Head) (s : List ℕ) → size ≤ length s → past size f s ≡ f (drop size s)
 unfolding past
 past-long size f s h = simp (le-ltb (length s) size h)
 
@@ -75,7 +75,7 @@ past-both a b f s = go (ltb (length s) a) refl (ltb (length s) (a + b)) refl (le
 
 -- ---- numbers that are read
 
-number-in : (f : ℕ → List ℕ → Head) (s ys : List ℕ) → 4 ≤ length s → number f (s ++ ys) ≡ f (le32 s 0) (drop 4 s ++ ys)
+pub number-in : (f : ℕ → List ℕ → Head) (s ys : List ℕ) → 4 ≤ length s → number f (s ++ ys) ≡ f (le32 s 0) (drop 4 s ++ ys)
 unfolding number
 number-in f s ys h =
     let l = length-append s ys in

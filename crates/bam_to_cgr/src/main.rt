@@ -2,9 +2,11 @@
 // crate `bam_header`; this only reads and writes, in blocks. What is wrong is said in words on standard error, and a head that is damaged leaves standard output empty.
 ghost use mathlib.Core.Path.{_≡_};
 ghost use mathlib.Core.Bool.{true, false};
-ghost use Prim.Native.Nat.{_+_, _≤_, _<_};
+ghost use mathlib.Core.List.{List, _++_};
+ghost use Prim.Native.Nat.{ℕ, _+_, _≤_, _<_};
 ghost use lib.ListN.{length};
-ghost use Rattle.frames.specs.Stream.{isMarked};
+ghost use Rattle.bam_header.specs.Header.{Head.Records};
+ghost use Rattle.bam_to_cgr.specs.Converted.{converted};
 ghost use Rattle.bam_header.specs.Inner.{isBegun};
 use bam_header::Place;
 
@@ -21,7 +23,7 @@ struct State {
 
 // The mark and version that `report` looks for.
 fn mark() -> [u8; 5]
-    ensures { λ r. ⌜ isMarked r ≡ true ⌝ }
+    ensures { λ r. ⌜ ((s : List ℕ) → r ++ s ≡ converted (Records s)) ⌝ }
 {
     [b'C', b'G', b'R', 1, 0]
 }

@@ -1,0 +1,30 @@
+-- SAM specification 4.2, the other way round: the bytes that stand before the records, of a text and references. What `Header` reads is held to them.
+use Prim.Native.Nat.{ℕ, _/_, _%_, _<_}
+use mathlib.Core.List.{List, [], _∷_, _++_}
+use lib.ListN.{length}
+
+-- "name", with the NUL that ends it, and "l_ref"
+pub record Reference : Type 0 where
+  pub name : List ℕ
+  pub size : ℕ
+
+-- "uint32_t", little-endian
+abbrev pub uint32 : ℕ → List ℕ
+uint32 n = n % 256 ∷ n / 256 % 256 ∷ n / 256 / 256 % 256 ∷ n / 256 / 256 / 256 % 256 ∷ []
+
+-- "l_name; name; l_ref"
+unfoldable pub reference : Reference → List ℕ
+reference r = uint32 (length (r .name)) ++ (r .name ++ uint32 (r .size))
+
+unfoldable pub allOf : List Reference → List ℕ
+allOf [] = []
+allOf (r ∷ rs) = reference r ++ allOf rs
+
+-- "magic; l_text; text; n_ref", and the references
+unfoldable pub written : List ℕ → List Reference → List ℕ
+written text refs = 66 ∷ 65 ∷ 77 ∷ 1 ∷ (uint32 (length text) ++ (text ++ (uint32 (length refs) ++ allOf refs)))
+
+-- the sizes of names are numbers of 32 bits
+abbrev pub Small : List Reference → Type 0
+Small [] = Unit
+Small (r ∷ rs) = (length (r .name) < 4294967296) × Small rs
