@@ -192,6 +192,9 @@ def command(program):
 
 def build(*programs):
     missing = [p for p in programs if not os.path.exists(os.path.join(TOP, 'target', 'bin', p))]
+    for p in missing:
+        if os.path.exists(os.path.join(TOP, 'target', 'stamp', p)):
+            os.remove(os.path.join(TOP, 'target', 'stamp', p))
     if missing:
         subprocess.run(['rt', 'check', *missing], cwd=TOP, check=True, stdout=subprocess.DEVNULL)
 
