@@ -2,19 +2,19 @@
 ghost use mathlib.Core.Path.{_≡_};
 ghost use mathlib.Core.Bool.{true, false};
 ghost use mathlib.Core.List.{List};
-ghost use Prim.Native.Nat.{ℕ, _+_, _-_, _≤_, _<_, min};
+ghost use Prim.Native.Nat.{ℕ, _<_, min};
 ghost use lib.ListN.{length};
 ghost use Rattle.bam_header.specs.Header.{isBam, texted};
 ghost use Rattle.bam_header.specs.Inner.{isRecords, fromPlace, behindNumber, isReady, isBegun, Gone, Went};
 
-// What comes next in a header: the size of its text, the number of its references, or the references that are left, each behind its name's size.
+// What comes next in a head: the size of its text, the number of its references, or the references that are left, each behind its name's size.
 pub enum Part {
     TextSize,
     Count,
     Names(u32),
 }
 
-// Where a header was left: so many bytes are to be skipped before that part.
+// Where a head was left: so many bytes are to be skipped before that part.
 pub struct Place {
     pub skip: u64,
     pub part: Part,

@@ -1,6 +1,4 @@
 -- A test after the other, as the definition has them.
-use mathlib.Core.Bool.{_&&_}
-use native.Mathlib.Omega.{arith}
 use borrow.Author.Tests.{lt-ltb, le-ltb, eq-eqb, ne-eqb}
 use Rattle.bam_header.specs.Header.{isBam}
 use Rattle.bam_header.proofs.HeadLaws.{magic-last}
