@@ -4,9 +4,10 @@ ghost use mathlib.Core.Path.{_≡_};
 ghost use mathlib.Core.Bool.{true, false};
 ghost use mathlib.Core.List.{List, _++_};
 ghost use Prim.Native.Nat.{ℕ, _+_, _≤_, _<_};
-ghost use lib.ListN.{length};
+ghost use lib.ListN.{length, take};
 ghost use Rattle.bam_header.specs.Header.{Head.Records};
 ghost use Rattle.bam_to_cgr.specs.Converted.{converted};
+ghost use Rattle.bam_to_cgr.specs.Turns.{Turned};
 ghost use Rattle.bam_header.specs.Inner.{isBegun};
 use bam_header::Place;
 
@@ -33,6 +34,7 @@ fn refill(block: &mut [u8], left: usize) -> usize
     requires { ⌜ 65536 ≡ length (now block) ⌝ }
     requires { ⌜ left ≤ 65536 ⌝ }
     ensures { λ r. ⌜ (left ≤ r) × (r ≤ 65536) ⌝ }
+    ensures { λ _. ⌜ take left (now (block .exit)) ≡ take left (now (block .entry)) ⌝ }
 {
     let part = &mut block[left..];
     let got = libc::read(0, part);
@@ -54,6 +56,7 @@ fn turn(s: State, block: &mut [u8]) -> State
     requires { ⌜ 65536 ≡ length (now block) ⌝ }
     requires { ⌜ (s .used ≤ s .have) × (s .have ≤ 65536) × (s .have < s .used + 4) ⌝ }
     ensures { λ r. ⌜ (r .used ≤ r .have) × (r .have ≤ 65536) × (r .going ≡ true → r .have < r .used + 4) ⌝ }
+    ensures { λ r. ⌜ Turned s (now (block .entry)) r (now (block .exit)) ⌝ }
 {
     let left = s.have - s.used;
     frames::shift(block, s.used, s.have);

@@ -41,7 +41,7 @@ loop-less c = omega arith
 
 loop-again : tie.Need-loop-again Inv-loop μ-loop
 loop-again c =
-    let t = c .before .before .before .before .turn .ensures in
+    let t = c .before .before .before .before .turn .ensures .0 in
     (omega arith, t .0, t .1, t .2 (not-false _ (c .if1 .left)), omega arith)
 
 same-length-2 : tie.Need-same-length-2 Inv-loop μ-loop

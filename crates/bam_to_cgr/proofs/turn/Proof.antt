@@ -1,4 +1,5 @@
 -- The bytes used are among those at hand, and where a head goes on under four are left.
+use mathlib.Core.Path.{_∙_}
 use native.Mathlib.Omega.{arith}
 use lib.ListN.{length-take}
 use borrow.Author.Needs.{needs}
@@ -34,7 +35,10 @@ returns c =
     let k = c .before .before in
     let l = slice-aggregate-read-on (k .before) in
     let w = k .read-on .ensures in
-    (omega (arith, w .gone .within), k .before .before .before .before .before .refill .ensures .1, λ e. omega (arith, w .short (c .goes-on .ensures e)))
+    let f = k .before .before .before .before .before in (
+      (omega (arith, w .gone .within), f .refill .ensures .0 .1, λ e. omega (arith, w .short (c .goes-on .ensures e))),
+      record { kept = f .refill .ensures .1 ∙ f .before .before .before .before .shift .ensures; went = w },
+    )
 
 pub turn-spec : {M : Type 1} → statement M
 turn-spec =
