@@ -3,6 +3,7 @@
 ghost use Prim.Native.Nat.{_≤_};
 use answers::Pos1;
 use overlap::Overhang;
+use shown::record;
 
 const M: u32 = 0;
 
@@ -169,34 +170,16 @@ fn many_ops() {
 
 // ---- records
 
-fn put32(rec: [u8; 41], at: usize, v: u32) -> [u8; 41]
-    requires { ⌜ at ≤ 37 ⌝ }
-{
-    let mut r = rec;
-    r[at] = (v % 256) as u8;
-    r[at + 1] = (v / 256 % 256) as u8;
-    r[at + 2] = (v / 65536 % 256) as u8;
-    r[at + 3] = (v / 16777216) as u8;
-    r
-}
-
 // A record of two ops, at `pos`, its mate at `mate`.
-fn record(flags: u32, pos: u32, mate: u32, length: u32, a: u32, b: u32) -> [u8; 41] {
-    let mut r = [0u8; 41];
-    r[8] = 1;
-    r[12] = 2;
-    r[14] = (flags % 256) as u8;
-    r = put32(r, 4, pos);
-    r = put32(r, 24, mate);
-    r = put32(r, 28, length);
-    r = put32(r, 33, a);
-    put32(r, 37, b)
+fn of_two(flags: u32, pos: u32, mate: u32, length: u32, a: u32, b: u32) -> [u8; 96] {
+    let r = record::with_op(record::with_op(record::new(pos, flags, 2), 0, a), 1, b);
+    record::with_word(record::with_word(r, 24, mate), 28, length)
 }
 
-// The same, with one op more than it holds.
-fn overrun(rec: [u8; 41]) -> [u8; 41] {
+// The same, with more ops than it holds.
+fn overrun(rec: [u8; 96]) -> [u8; 96] {
     let mut r = rec;
-    r[12] = 3;
+    r[12] = 16;
     r
 }
 
@@ -211,7 +194,7 @@ fn pair(name: &[u8], rec: &[u8]) {
 
 // A forward record, paired and not.
 fn forward(name: &[u8], flags: u32, length: u32) {
-    let rec = record(flags, 99, 199, length, op(20, M), op(5, S));
+    let rec = of_two(flags, 99, 199, length, op(20, M), op(5, S));
     pair(name, &rec);
 }
 
@@ -227,7 +210,7 @@ fn forward_pairs() {
 
 // A reverse record, its mate at `mate`.
 fn reverse(name: &[u8], pos: u32, mate: u32, a: u32) {
-    let rec = record(REVERSE, pos, mate, 0, a, op(5, S));
+    let rec = of_two(REVERSE, pos, mate, 0, a, op(5, S));
     pair(name, &rec);
 }
 
@@ -249,9 +232,9 @@ fn reverse_pairs() {
 }
 
 fn overruns() {
-    let cut = overrun(record(REVERSE, 99, 98, 0, op(10, M), op(5, S)));
+    let cut = overrun(of_two(REVERSE, 99, 98, 0, op(10, M), op(5, S)));
     pair(b"reverse, own ops past the record", &cut);
-    let own = record(FORWARD, 99, 99, 0, op(20, M), op(0, M));
+    let own = of_two(FORWARD, 99, 99, 0, op(20, M), op(0, M));
     both(b"mate ops past its record", &own, &cut);
     let wide = overrun(own);
     cigar(
@@ -276,8 +259,8 @@ fn both(name: &[u8], a: &[u8], b: &[u8]) {
 
 // A record 20M and its mate 10M5S.
 fn two(name: &[u8], flags: u32, pos: u32, mate_flags: u32, mate_pos: u32) {
-    let own = record(flags, pos, mate_pos, 0, op(20, M), op(0, M));
-    let mate = record(mate_flags, mate_pos, pos, 0, op(10, M), op(5, S));
+    let own = of_two(flags, pos, mate_pos, 0, op(20, M), op(0, M));
+    let mate = of_two(mate_flags, mate_pos, pos, 0, op(10, M), op(5, S));
     both(name, &own, &mate);
 }
 
@@ -292,7 +275,7 @@ fn two_records() {
     two(b"the forward one not paired", FORWARD - 1, 99, REVERSE, 99);
     two(b"the reverse one not paired", FORWARD, 99, REVERSE - 1, 99);
     two(b"reverse at 2147483648", FORWARD, 0, REVERSE, TOP_BITS);
-    let own = record(FORWARD, 99, 99, 0, op(20, M), op(0, M));
+    let own = of_two(FORWARD, 99, 99, 0, op(20, M), op(0, M));
     both(b"one of 31 bytes", &own, &[0u8; 31]);
 }
 
@@ -307,7 +290,7 @@ fn cigar(name: &[u8], rec: &[u8], mate: &[u32]) {
 
 // A record 20M at 100, its mate where it is said.
 fn against(name: &[u8], flags: u32, mate_pos: u32, mate: &[u32]) {
-    let own = record(flags, 99, mate_pos, 0, op(20, M), op(0, M));
+    let own = of_two(flags, 99, mate_pos, 0, op(20, M), op(0, M));
     cigar(name, &own, mate);
 }
 
@@ -375,7 +358,7 @@ fn answer(got: Overhang) {
 fn read(name: &[u8], flags: u32, mate_pos: u32, words: &[u8], room: usize)
     requires { ⌜ room ≤ 3 ⌝ }
 {
-    let own = record(flags, 99, mate_pos, 0, op(20, M), op(0, M));
+    let own = of_two(flags, 99, mate_pos, 0, op(20, M), op(0, M));
     text(name, &own, words, room);
 }
 

@@ -3,57 +3,15 @@
 ghost use mathlib.Core.Path.{_≡_};
 ghost use Prim.Native.Nat.{_≤_};
 ghost use lib.ListN.{length};
-use answers::Count;
 use answers::Flag;
-use answers::Refusal;
+use shown::record;
 use strict_text::Measured;
-
-fn print_refused(why: Refusal) {
-    io::write_all(1, b"refused ");
-    io::print_decimal(1, answers::number(why) as u64);
-}
-
-fn print_count(answer: Count) {
-    match answer {
-        Count::Number(n) => {
-            io::print_decimal(1, n);
-        }
-        Count::Refused(why) => print_refused(why),
-    }
-}
-
-// The first n bytes.
-fn first(bytes: &[u8], n: usize) -> &[u8] {
-    if bytes.len() < n {
-        return &bytes[..0];
-    }
-    &bytes[..n]
-}
 
 // ---- printing
 
-// Puts an op into a record whose ops start at 34.
-fn put_op(rec: &mut [u8; 50], i: usize, op: u32)
-    requires { ⌜ i ≤ 3 ⌝ }
-{
-    let at = 34 + 4 * i;
-    rec[at] = (op % 256) as u8;
-    rec[at + 1] = (op / 256 % 256) as u8;
-    rec[at + 2] = (op / 65536 % 256) as u8;
-    rec[at + 3] = (op / 16777216) as u8;
-}
-
-// A record with a name of two bytes and four ops.
-fn record(a: u32, b: u32, c: u32, d: u32) -> [u8; 50] {
-    let mut rec = [0u8; 50];
-    rec[8] = 2;
-    rec[12] = 4;
-    rec[32] = b'r';
-    put_op(&mut rec, 0, a);
-    put_op(&mut rec, 1, b);
-    put_op(&mut rec, 2, c);
-    put_op(&mut rec, 3, d);
-    rec
+fn of_four(a: u32, b: u32, c: u32, d: u32) -> [u8; 96] {
+    let two = record::with_op(record::with_op(record::new(0, 0, 4), 0, a), 1, b);
+    record::with_op(record::with_op(two, 2, c), 3, d)
 }
 
 // Prints the text of the record's ops into the first places of 16.
@@ -61,39 +19,39 @@ fn show_text(name: &[u8], rec: &[u8], room: usize)
     requires { ⌜ room ≤ 16 ⌝ }
 {
     let mut out = [b'.'; 16];
-    io::write_all(1, name);
-    io::write_all(1, b", ");
-    io::print_decimal(1, room as u64);
-    io::write_all(1, b" places: ");
-    print_count(print::cigar_to_bytes_into(rec, &mut out[..room]));
-    io::write_all(1, b" ");
-    io::write_all(1, &out);
-    io::write_all(1, b"\n");
+    shown::text(name);
+    shown::text(b", ");
+    shown::natural(room as u64);
+    shown::text(b" places: ");
+    shown::count(print::cigar_to_bytes_into(rec, &mut out[..room]));
+    shown::text(b" ");
+    shown::text(&out);
+    shown::end();
 }
 
 fn print_records() {
-    let rec = record(84, 320, 34, 80);
+    let rec = of_four(84, 320, 34, 80);
     show_text(b"5S20M2D5M", &rec, 16);
     show_text(b"5S20M2D5M, exactly full", &rec, 9);
     show_text(b"5S20M2D5M, one place too few", &rec, 8);
-    show_text(b"ops past the record", first(&rec, 49), 16);
-    show_text(b"31 bytes", first(&rec, 31), 16);
+    show_text(b"ops past the record", record::cut(&rec, 51), 16);
+    show_text(b"31 bytes", record::cut(&rec, 31), 16);
 }
 
 fn print_lengths() {
-    let zero = record(0, 1, 176, 1616);
+    let zero = of_four(0, 1, 176, 1616);
     show_text(b"0M0I11M101M", &zero, 16);
-    let long = record(4294967288, 1, 7, 8);
+    let long = of_four(4294967288, 1, 7, 8);
     show_text(b"268435455X0I0=0X", &long, 16);
     let none = [0u8; 32];
     show_text(b"no ops", &none, 0);
 }
 
 fn print_codes() {
-    let nine = record(16, 16, 16, 25);
+    let nine = of_four(16, 16, 16, 25);
     show_text(b"1M1M1M and code 9", &nine, 16);
     show_text(b"1M1M1M and code 9, no room", &nine, 0);
-    let fifteen = record(31, 16, 16, 16);
+    let fifteen = of_four(31, 16, 16, 16);
     show_text(b"code 15 and 1M1M1M", &fifteen, 16);
 }
 
@@ -103,12 +61,12 @@ fn print_op(op: u32) {
     let named = ops::named(op % 16);
     let letter = [named.letter];
     if 8 < op % 16 {
-        io::write_all(1, b" .");
+        shown::text(b" .");
         return;
     }
-    io::write_all(1, b" ");
-    io::print_decimal(1, (op / 16) as u64);
-    io::write_all(1, &letter);
+    shown::text(b" ");
+    shown::natural((op / 16) as u64);
+    shown::text(&letter);
 }
 
 // Reads a text into the first places of 3.
@@ -116,15 +74,15 @@ fn show_ops(name: &[u8], text: &[u8], room: usize)
     requires { ⌜ room ≤ 3 ⌝ }
 {
     let mut out = [15u32; 3];
-    io::write_all(1, name);
-    io::write_all(1, b", ");
-    io::print_decimal(1, room as u64);
-    io::write_all(1, b" places: ");
-    print_count(strict_text::parse_cigar_string_ops(text, &mut out[..room]));
+    shown::text(name);
+    shown::text(b", ");
+    shown::natural(room as u64);
+    shown::text(b" places: ");
+    shown::count(strict_text::parse_cigar_string_ops(text, &mut out[..room]));
     print_op(out[0]);
     print_op(out[1]);
     print_op(out[2]);
-    io::write_all(1, b"\n");
+    shown::end();
 }
 
 fn show(text: &[u8]) {
@@ -188,27 +146,27 @@ fn letters(text: &mut [u8]) {
 fn read_many() {
     let mut text = large();
     letters(&mut text);
-    show_ops(b"65535 times 1M", first(&text, 131070), 3);
-    show_ops(b"65536 times 1M", first(&text, 131072), 3);
-    show_ops(b"65536 times 1M and 1", first(&text, 131073), 3);
+    show_ops(b"65535 times 1M", record::cut(&text, 131070), 3);
+    show_ops(b"65536 times 1M", record::cut(&text, 131072), 3);
+    show_ops(b"65536 times 1M and 1", record::cut(&text, 131073), 3);
 }
 
 // ---- the measuring pass
 
 fn show_measure(text: &[u8]) {
-    io::write_all(1, text);
+    shown::text(text);
     match strict_text::measure(text) {
         Measured::Ops(n, refs) => {
-            io::write_all(1, b" measures ");
-            io::print_decimal(1, n);
-            io::write_all(1, b" ops, reference length ");
-            io::print_decimal(1, signed::natural_of(refs));
+            shown::text(b" measures ");
+            shown::natural(n);
+            shown::text(b" ops, reference length ");
+            shown::natural(signed::natural_of(refs));
         }
         Measured::Bad => {
-            io::write_all(1, b" is not valid");
+            shown::text(b" is not valid");
         }
     }
-    io::write_all(1, b"\n");
+    shown::end();
 }
 
 fn measures() {
@@ -225,19 +183,19 @@ fn measures() {
 // ---- the validity of a list
 
 fn show_valid(name: &[u8], list: &[u32]) {
-    io::write_all(1, name);
+    shown::text(name);
     match strict_text::is_valid_mapped_cigar(list) {
         Flag::Is(yes) => {
             if yes {
-                io::write_all(1, b" is valid\n");
+                shown::text(b" is valid\n");
             } else {
-                io::write_all(1, b" is not valid\n");
+                shown::text(b" is not valid\n");
             }
         }
         Flag::Refused(why) => {
-            io::write_all(1, b": ");
-            print_refused(why);
-            io::write_all(1, b"\n");
+            shown::text(b": ");
+            shown::refused(why);
+            shown::end();
         }
     }
 }

@@ -5,23 +5,23 @@ use borrow.Author.Needs.{needs}
 use Rattle.run_text.proofs.show_text.Statement.{statement}
 use Rattle.run_text.proofs.show_text.Tie as tie
 
-write-all-requires : tie.Need-write-all-requires
-write-all-requires c κs = search needs
+text-requires : tie.Need-text-requires
+text-requires c κs = search needs
 
-slice-aggregate-write-all : tie.Need-slice-aggregate-write-all
-slice-aggregate-write-all c = search needs
+slice-aggregate-text : tie.Need-slice-aggregate-text
+slice-aggregate-text c = search needs
 
-write-all-requires-2 : tie.Need-write-all-requires-2
-write-all-requires-2 c κs = search needs
+text-requires-2 : tie.Need-text-requires-2
+text-requires-2 c κs = search needs
 
-print-decimal-requires : tie.Need-print-decimal-requires
-print-decimal-requires c κs = search needs
+natural-requires : tie.Need-natural-requires
+natural-requires c κs = search needs
 
-slice-aggregate-write-all-2 : tie.Need-slice-aggregate-write-all-2
-slice-aggregate-write-all-2 c = search needs
+slice-aggregate-text-2 : tie.Need-slice-aggregate-text-2
+slice-aggregate-text-2 c = search needs
 
-write-all-requires-3 : tie.Need-write-all-requires-3
-write-all-requires-3 c κs = search needs
+text-requires-3 : tie.Need-text-requires-3
+text-requires-3 c κs = search needs
 
 array-borrow-prefix-out : tie.Need-array-borrow-prefix-out
 array-borrow-prefix-out c = search needs
@@ -32,26 +32,23 @@ slice-aggregate-cigar-to-bytes-into c = simp length-take (omega arith)
 cigar-to-bytes-into-requires : tie.Need-cigar-to-bytes-into-requires
 cigar-to-bytes-into-requires c κs = search needs
 
-print-count-requires : tie.Need-print-count-requires
-print-count-requires c κs = search needs
+count-requires : tie.Need-count-requires
+count-requires c κs = search needs
 
-slice-aggregate-write-all-3 : tie.Need-slice-aggregate-write-all-3
-slice-aggregate-write-all-3 c = search needs
+slice-aggregate-text-3 : tie.Need-slice-aggregate-text-3
+slice-aggregate-text-3 c = search needs
 
-write-all-requires-4 : tie.Need-write-all-requires-4
-write-all-requires-4 c κs = search needs
+text-requires-4 : tie.Need-text-requires-4
+text-requires-4 c κs = search needs
 
-slice-aggregate-write-all-4 : tie.Need-slice-aggregate-write-all-4
-slice-aggregate-write-all-4 c = simp (length-take, length-append, length-drop) (omega (arith, simp length-take at (c .before .before .before .before .before .cigar-to-bytes-into .kept .1 .0)))
+slice-aggregate-text-4 : tie.Need-slice-aggregate-text-4
+slice-aggregate-text-4 c = simp (length-append, length-drop) (omega (arith, simp length-take at (c .before .before .before .before .before .cigar-to-bytes-into .kept .1 .0)))
 
-write-all-requires-5 : tie.Need-write-all-requires-5
-write-all-requires-5 c κs = search needs
+text-requires-5 : tie.Need-text-requires-5
+text-requires-5 c κs = search needs
 
-slice-aggregate-write-all-5 : tie.Need-slice-aggregate-write-all-5
-slice-aggregate-write-all-5 c = search needs
-
-write-all-requires-6 : tie.Need-write-all-requires-6
-write-all-requires-6 c κs = search needs
+end-requires : tie.Need-end-requires
+end-requires c κs = search needs
 
 returns : tie.Need-returns
 returns c = search needs
@@ -60,20 +57,19 @@ pub show-text-spec : {M : Type 1} → statement M
 show-text-spec =
     tie.close
     (tie.spec
-    write-all-requires
-    slice-aggregate-write-all
-    write-all-requires-2
-    print-decimal-requires
-    slice-aggregate-write-all-2
-    write-all-requires-3
+    text-requires
+    slice-aggregate-text
+    text-requires-2
+    natural-requires
+    slice-aggregate-text-2
+    text-requires-3
     array-borrow-prefix-out
     slice-aggregate-cigar-to-bytes-into
     cigar-to-bytes-into-requires
-    print-count-requires
-    slice-aggregate-write-all-3
-    write-all-requires-4
-    slice-aggregate-write-all-4
-    write-all-requires-5
-    slice-aggregate-write-all-5
-    write-all-requires-6
+    count-requires
+    slice-aggregate-text-3
+    text-requires-4
+    slice-aggregate-text-4
+    text-requires-5
+    end-requires
     returns)
