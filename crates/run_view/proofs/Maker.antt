@@ -1,4 +1,5 @@
--- A function that makes a view of its slice and asks a method of it meets what the method promises, read at that slice.
+-- A function without a contract that makes a view of its slice and asks a method of it: proved safe and ending, from what the method promises.
+--     Clause, tells         what a method promises at exit, as a clause and as a promise.        untold, forgets     a function without a contract promises that nothing is said, and what the method promises gives that
 --     Made, Method          the contracts of `new` and of the method
 --     makes, asks           the steps of a walk at which the view is made, and at which the method is called
 --     Walks, enters, Law    a walk of the function, at the parameters' machine values; and the law that it gives
@@ -26,14 +27,14 @@ use sound.WpLaws.{FmC, fmOf}
 use denote.RattleType.{Denots, Valss, owns, flat}
 use denote.Laws.{Is, Are, Ises, Spells, Tellss, valss, shows}
 use denote.Builtin.{u8}
-use denote.Ref.{RefT, NamedLft}
+use denote.Ref.{RefT}
 use denote.Signature.{Slot, namedLft, typesAt}
 use denote.Slice.{sliceVal, sliceTy, ShrSlice, slice-vals, shr-slice-tells, shr-slice-lawful}
 use denote.Steps.{peeks, heard, said, nothing}
 use denote.Struct.Laws as LL
 use denote.Triple.Call.{calls-at}
 use denote.Triple.Clauses.{lasts}
-use denote.Triple.Entry.{Args, Res, alive, onEntry}
+use denote.Triple.Entry.{Args, Res, onEntry}
 use denote.Exit.{yes}
 use denote.Triple.End.{Kepts, Fins, Outs, outs, lastsOf}
 use denote.Triple.Spec.{Back, Meets, tripleOf, exits}
