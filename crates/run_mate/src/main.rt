@@ -1,31 +1,21 @@
 // Runs document 01's mate text and the edges of module 6: each line has the position, the strand, the text, and what the two calls answer.
 use answers::Pos0;
 
-fn print_signed(n: i32) {
-    let u = signed::raise(n);
-    if u < 2147483648 {
-        io::write_all(1, b"-");
-        io::print_decimal(1, 2147483648 - u);
-    } else {
-        io::print_decimal(1, u - 2147483648);
-    }
-}
-
 // name stands for the text on the line.
 fn show_as(name: &[u8], position: i32, reverse: bool, text: &[u8]) {
-    print_signed(position);
+    shown::integer(position);
     if reverse {
-        io::write_all(1, b" reverse ");
+        shown::text(b" reverse ");
     } else {
-        io::write_all(1, b" forward ");
+        shown::text(b" forward ");
     }
-    io::write_all(1, name);
-    io::write_all(1, b": ");
-    print_signed(mate_text::mate_unclipped_5prime(position, reverse, text));
-    io::write_all(1, b", 1-based ");
+    shown::text(name);
+    shown::text(b": ");
+    shown::integer(mate_text::mate_unclipped_5prime(position, reverse, text));
+    shown::text(b", 1-based ");
     let p = mate_text::mate_unclipped_5prime_1based(Pos0(position), reverse, text);
-    print_signed(p.0);
-    io::write_all(1, b"\n");
+    shown::integer(p.0);
+    shown::end();
 }
 
 fn show(position: i32, reverse: bool, text: &[u8]) {
