@@ -1,4 +1,5 @@
 -- The method hands its slice, the amount, the end and the lent list to `clip::clip_cigar_ops`: `Lent`'s law.
+use base.Logic.{id⊢}
 use mir.Syntax.{w32}
 use Rattle.clip.proofs.Clipped as R
 use Rattle.clip.proofs.Clipped.Laws as R′
@@ -7,6 +8,7 @@ use Rattle.clip.proofs.clip_cigar_ops.Met as theorem
 use Rattle.clip.proofs.clip_cigar_ops.Symbol as symbol
 use Rattle.view.proofs.Thin.{enum}
 use Rattle.view.proofs.Lent.{clips}
+use Rattle.view.proofs.RawRecordView.clip_cigar_ops as method
 use Rattle.view.proofs.RawRecordView.clip_cigar_ops.Code as code
 use Rattle.view.proofs.RawRecordView.clip_cigar_ops.Key.{name}
 use Rattle.view.proofs.RawRecordView.clip_cigar_ops.Statement.{statement}
@@ -14,5 +16,6 @@ use Rattle.view.proofs.RawRecordView.clip_cigar_ops.Statement.{statemen
 pub clip-cigar-ops-spec : {M : Type 1} → statement M
 unfolding code.routine
 clip-cigar-ops-spec 𝓤 H 𝓜 𝓖 𝓡 =
-    clips 𝓤 H 𝓜 𝓖 𝓡 (enum 𝓤 H 𝓜 𝓖 R.the-type R′.the-laws tt) w32 (λ κs a. callee.spec 𝓤 H (𝓖 .A) (𝓜 .mem) (𝓡 .run) κs a .ensures tt)
+    clips 𝓤 H 𝓜 𝓖 𝓡 (enum 𝓤 H 𝓜 𝓖 R.the-type R′.the-laws tt) w32
+    (λ κs a. callee.spec 𝓤 H (𝓖 .A) (𝓜 .mem) (𝓡 .run) κs a .ensures tt) (λ κs a. method.spec 𝓤 H (𝓖 .A) (𝓜 .mem) (𝓡 .run) κs a .ensures tt) (λ κs a r. id⊢ 𝓤 _)
     code.env name symbol.name symbol.routine code.calls-clip·clip-cigar-ops (code.unfolded 𝓤 H 𝓜 𝓡) (theorem.met 𝓤 H 𝓜 𝓖 𝓡)
