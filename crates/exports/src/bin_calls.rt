@@ -1,5 +1,4 @@
 // Bins.
-ghost use mathlib.Core.Path.{_≡_};
 ghost use Rattle.answers.specs.Settled.{Settled};
 ghost use Rattle.answers.specs.Answers.{tellNat};
 ghost use Rattle.bin.specs.Bin.{reg2bin, recordBin, setBin};

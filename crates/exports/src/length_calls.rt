@@ -1,6 +1,4 @@
 // Lengths.
-ghost use mathlib.Core.Path.{_≡_};
-ghost use lib.IntN.{pos};
 ghost use mathlib.Core.List.{[], _∷_};
 ghost use Rattle.answers.specs.Settled.{Settled};
 ghost use Rattle.answers.specs.Answers.{answered, tellInt, tellCount};

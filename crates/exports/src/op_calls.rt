@@ -1,5 +1,4 @@
 // Ops, and a record's ops.
-ghost use mathlib.Core.Path.{_≡_};
 ghost use mathlib.Core.List.{[], _∷_};
 ghost use lib.IntN.{pos};
 ghost use Rattle.answers.specs.Settled.{Settled};

@@ -1,5 +1,4 @@
 // Unclipped ends, start and end.
-ghost use mathlib.Core.Path.{_≡_};
 ghost use Rattle.answers.specs.Settled.{Settled};
 ghost use Rattle.ends.specs.Ends.{asRust, unclippedOf, unclippedFrom, alignmentStart, alignmentEnd, tellPlace0, tellPlace1, tellFound1};
 ghost use Rattle.given.specs.Exported.{exported};

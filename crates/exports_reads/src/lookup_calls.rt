@@ -1,5 +1,4 @@
 // Lookup.
-ghost use mathlib.Core.Path.{_≡_};
 ghost use Rattle.answers.specs.Settled.{Settled};
 ghost use Rattle.lookup.specs.Lookup.{lookup, tellFound};
 ghost use Rattle.given.specs.Exported.{exported};

@@ -1,5 +1,4 @@
 // Pair tests and overhang.
-ghost use mathlib.Core.Path.{_≡_};
 ghost use Rattle.answers.specs.Settled.{Settled};
 ghost use Rattle.answers.specs.Answers.{tellCount, tellFlag};
 ghost use Rattle.overhang.specs.Overhang.{basesExtending};

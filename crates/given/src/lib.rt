@@ -1,7 +1,7 @@
 // Tells an answer across the C border: its number, and its values into lent places. An inner crate of the static libraries.
 
 ghost use mathlib.Core.Path.{_≡_};
-ghost use mathlib.Core.List.{List, [], _∷_};
+ghost use mathlib.Core.List.{[], _∷_};
 ghost use Rattle.answers.specs.Settled.{Settled};
 ghost use Rattle.answers.specs.Answers.{answered, flagValue, tellInt, tellNat, tellCount, tellFlag};
 ghost use Rattle.given.specs.Exported.{stored, exported};

@@ -35,7 +35,7 @@ use Rattle.promises.proofs.RowLaws.{number-alone, answer, row, row-eith
 
 -- ---- fields
 
--- each signed field, and each unsigned one
+-- each signed field: `ref_id`, `pos`, `mate_ref_id`, `mate_pos`, `template_length`; and each unsigned one: `l_read_name`, `bin`, `n_cigar_op`, `flags`, `l_seq`
 pub int-field : (f : List ℕ → ℤ) (b : List ℕ) → Gives (tellInt (intField f b)) (recordRows b)
 int-field f b = row tellInt (ltb (length b) 32) (Int.Refused ShortRecord) (Int.Number (f b)) 1 refl (answer refl refl)
 

@@ -42,7 +42,7 @@ same-left r s m n p q = unique p q
 
 -- ---- fields
 
--- each signed field, and each unsigned one
+-- each signed field: `ref_id`, `pos`, `mate_ref_id`, `mate_pos`, `template_length`; and each unsigned one: `l_read_name`, `bin`, `n_cigar_op`, `flags`, `l_seq`
 pub int-field : (f : List ℕ → ℤ) (b : List ℕ) → Same (intField f b)
 int-field f b = same
 

@@ -1,5 +1,5 @@
 -- 1 or 0.
-use mathlib.Core.Path.{_≡_, refl, sym, ap, _∙_}
+use mathlib.Core.Path.{refl, ap}
 use mathlib.Core.List.{[], _∷_}
 use mathlib.Core.Bool.{Bool}
 use borrow.Author.Needs.{needs}

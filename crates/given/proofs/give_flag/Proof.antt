@@ -1,5 +1,5 @@
 -- A value, or the number of a refusal.
-use mathlib.Core.Path.{_≡_, refl, sym, ap, _∙_}
+use mathlib.Core.Path.{ap}
 use borrow.Author.Needs.{needs}
 use Rattle.answers.specs.Answers.{tellFlag}
 use Rattle.given.proofs.ExportLaws.{why-told, told-as}

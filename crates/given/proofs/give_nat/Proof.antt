@@ -1,5 +1,5 @@
 -- A value, or the number of a refusal.
-use mathlib.Core.Path.{_≡_, refl, sym, ap, _∙_}
+use mathlib.Core.Path.{refl, ap}
 use borrow.Author.Needs.{needs}
 use lib.IntN.{pos}
 use Rattle.answers.specs.Answers.{tellNat}

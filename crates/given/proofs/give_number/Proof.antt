@@ -1,5 +1,4 @@
 -- The bits of one number.
-use mathlib.Core.Path.{_≡_, refl, sym, ap, _∙_}
 use borrow.Author.Needs.{needs}
 use mir.Facts.{toZ-ofZ}
 use Rattle.given.proofs.ExportLaws.{one-told}

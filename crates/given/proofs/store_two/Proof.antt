@@ -1,9 +1,9 @@
 -- Two stores, or none.
-use mathlib.Core.Path.{_≡_, refl}
+use mathlib.Core.Path.{refl}
 use native.Mathlib.Omega.{arith}
 use borrow.Author.Tests.{lt-ltb, le-ltb}
 use borrow.Author.Needs.{needs}
-use lib.ListN.{length, length-set}
+use lib.ListN.{length}
 use Rattle.lists.proofs.ListLaws.{splice-two}
 use Rattle.answers.proofs.Unique.{settled, outcome}
 use Rattle.given.specs.Exported.{stored}

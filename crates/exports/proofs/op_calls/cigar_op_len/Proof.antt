@@ -1,5 +1,5 @@
 -- The length.
-use mathlib.Core.Path.{_≡_, ap, _∙_}
+use mathlib.Core.Path.{ap, _∙_}
 use borrow.Author.Needs.{needs}
 use lib.IntN.{pos}
 use Rattle.sam.specs.Op.{lenOf}

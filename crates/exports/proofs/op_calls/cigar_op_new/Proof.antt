@@ -1,5 +1,4 @@
 -- The op, or none for a kind above 8.
-use Prim.Native.Nat.{ℕ}
 use mathlib.Core.Path.{refl, sym, ap, _∙_}
 use borrow.Author.Needs.{needs}
 use lib.IntN.{pos}
