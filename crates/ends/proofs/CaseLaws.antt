@@ -5,25 +5,24 @@ use mathlib.Core.Bool.{Bool, true, false}
 use mathlib.Core.List.{List}
 use borrow.Author.Tests.{le-ltb, eq-eqb, ne-eqb}
 use lib.Dec.{eqb}
-use lib.IntN.{ℤ, pos, _+ℤ_}
+use lib.IntN.{ℤ, pos}
 use lib.ListN.{length}
 use lib.Signed.{ltZ}
 use Rattle.lists.specs.Lists.{sumOf}
-use Rattle.signed.specs.Whole.{natural, checked}
-use Rattle.signed.specs.declared.Sum.the-variants.{Number, Over}
+use Rattle.signed.specs.Whole.{natural}
+use Rattle.signed.specs.declared.Sum.the-variants.{Number}
 use Rattle.sam.specs.Op.{refLen}
 use Rattle.sam.specs.Record.{posOf, flagsOf, isUnmapped, isReverse, recordOps}
 use Rattle.lengths.specs.Lengths.{refLengthOrZero}
 use Rattle.ops.specs.Clips.{leadingClips, trailingClips}
 use Rattle.answers.specs.declared.Pos0.{Pos0}
-use Rattle.answers.specs.declared.Refusal.the-variants.{Overflow}
 use Rattle.ends.specs.declared.Found1.the-variants.{Nothing}
-use Rattle.ends.specs.declared.Unclipped.the-variants.{Unmapped, NoOps, Refused}
+use Rattle.ends.specs.declared.Unclipped.the-variants.{Unmapped, NoOps}
 use Rattle.ends.specs.declared.Place0.the-variants as Place0
 use Rattle.ends.specs.declared.tails.Tail.{Tail}
-use Rattle.ends.specs.Sums.{both, _⊕_, _⊖_, total}
+use Rattle.ends.specs.Sums.{_⊕_, _⊖_, total}
 use Rattle.ends.specs.Tails.{greatestRun}
-use Rattle.ends.specs.Ends.{provided, trailingSum, unclippedStart, unclippedEnd, toPlace0, toPlace1, toFound1, oneBased, fivePrime, noOps, asUnclipped, unclippedOf, unclippedFrom, alignmentStart, alignmentEnd}
+use Rattle.ends.specs.Ends.{provided, trailingSum, unclippedStart, unclippedEnd, toPlace0, toPlace1, toFound1, oneBased, fivePrime, noOps, unclippedAt, unclippedOf, unclippedFrom, alignmentStart, alignmentEnd}
 
 module _ (b : List ℕ) (h : 32 ≤ length b) where
   pub start-none : ltZ (posOf b) (pos 0) ≡ true → Nothing ≡ alignmentStart b
@@ -54,13 +53,9 @@ module _ (b : List ℕ) (h : 32 ≤ length b) where
   unfolding unclippedOf
   no-ops t u = simp (le-ltb (length b) 32 h, t, u)
 
-  pub too-far : isUnmapped (flagsOf b) ≡ false → noOps b ≡ false → checked (posOf b +ℤ pos 1) ≡ Over → Refused Overflow ≡ unclippedOf b
-  unfolding unclippedOf oneBased both
-  too-far t u e = simp (le-ltb (length b) 32 h, t, u, e)
-
-  pub is-placed : isUnmapped (flagsOf b) ≡ false → noOps b ≡ false → (z : ℤ) → checked (posOf b +ℤ pos 1) ≡ Number z → asUnclipped (toPlace1 (fivePrime (isReverse (flagsOf b)) z (recordOps b))) ≡ unclippedOf b
-  unfolding unclippedOf oneBased both
-  is-placed t u z e = simp (le-ltb (length b) 32 h, t, u, e)
+  pub is-placed : isUnmapped (flagsOf b) ≡ false → noOps b ≡ false → unclippedAt (oneBased (record { 0 = posOf b })) (isReverse (flagsOf b)) (recordOps b) ≡ unclippedOf b
+  unfolding unclippedOf
+  is-placed t u = simp (le-ltb (length b) 32 h, t, u)
 
   pub from-given : (p : Pos0) (reverse : Bool) → noOps b ≡ true → Place0.At p ≡ unclippedFrom b p reverse
   unfolding unclippedFrom

@@ -141,13 +141,15 @@ fn unclipped_5prime(bam: &[u8]) -> Unclipped
     if oplist::count(&[], bam, list) == 0 {
         return Unclipped::NoOps;
     }
-    let Sum::Number(at) = signed::checked_add(little::i32_at(bam, 4), 1) else {
-        return Unclipped::Refused(Refusal::Overflow);
-    };
-    if fields::is_reverse(flags) {
-        return as_unclipped(end_from(at, tails::tail_of(&[], bam, list)));
+    match one_based(Pos0(little::i32_at(bam, 4))) {
+        Place1::At(p) => {
+            if fields::is_reverse(flags) {
+                return as_unclipped(end_from(p.0, tails::tail_of(&[], bam, list)));
+            }
+            as_unclipped(start_from(p.0, tails::leading_clips(&[], bam, list)))
+        }
+        Place1::Refused(why) => Unclipped::Refused(why),
     }
-    as_unclipped(start_from(at, tails::leading_clips(&[], bam, list)))
 }
 
 // A record's unclipped 5' position: 0 where it is unmapped, 2^31 - 1 where it has no ops or they overrun it. Refusals 1 and 4.
