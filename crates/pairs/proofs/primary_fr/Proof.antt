@@ -6,8 +6,8 @@ use mir.Syntax.{w32}
 use mir.Val.{toZ, ofZ}
 use Rattle.signed.specs.Equal.{eqℤ}
 use Rattle.sam.specs.Record.{refIdOf}
-use mathlib.Core.Bool.{true}
-use Rattle.pairs.specs.Pairs.{bothMapped}
+use mathlib.Core.Bool.{Bool, true, cond}
+use Rattle.pairs.specs.Pairs.{bothMapped, isFr, isPrimaryFr}
 use Rattle.pairs.proofs.PairLaws.{first-unmapped, second-unmapped, two-apart, one-strand, decided}
 use borrow.Author.Needs.{needs}
 use Rattle.pairs.proofs.primary_fr.Statement.{statement}
@@ -27,6 +27,16 @@ mapped1 k = sym (k .before .before .before .before .before .before .both-mapped 
 
 mapped2 : (k : tie.After-same) → bothMapped (k .before .before .before .before .before .before .before .u16-at2 .result) ≡ true
 mapped2 k = sym (k .before .before .before .before .both-mapped2 .ensures) ∙ not-false _ (k .before .before .before .if2 .left)
+
+-- on two strands the reverse record decides
+decides : (c : tie.Else4) (r : Bool) → let d = c .before in let s = d .before .before .before .before .before .before .before .before .before .before .before .before .before .before .before in
+    r ≡ isFr (cond (d .before .before .is-reverse .result) (now (s .args .a)) (now (s .args .b))) → r ≡ isPrimaryFr (now (s .args .a)) (now (s .args .b))
+decides c r w =
+    let d = c .before in
+    let k = d .before .before .before .before in
+    let u = k .before .before .before .before .before .before .before in
+    let s = u .before .before .before .before in
+    decided (now (s .args .a)) (now (s .args .b)) _ _ (u .before .u16-at .ensures .0) (u .u16-at2 .ensures .0) (mapped1 k) (mapped2 k) (sym (same-refs k) ∙ not-false _ (d .before .before .before .if3 .left)) _ _ (d .before .before .is-reverse .ensures) (d .before .is-reverse2 .ensures) r (sym (d .differ .ensures) ∙ not-false _ (c .if4 .left)) w
 
 u16-at-requires : tie.Need-u16-at-requires
 u16-at-requires c κs = search needs
@@ -89,25 +99,13 @@ fr-requires : tie.Need-fr-requires
 fr-requires c κs = search needs
 
 returns-5 : tie.Need-returns-5
-returns-5 c =
-    let d = c .before .before .before in
-    let k = d .before .before .before .before in
-    let u = k .before .before .before .before .before .before .before in
-    let s = u .before .before .before .before in
-    decided (now (s .args .a)) (now (s .args .b)) _ _ (u .before .u16-at .ensures .0) (u .u16-at2 .ensures .0) (mapped1 k) (mapped2 k) (sym (same-refs k) ∙ not-false _ (d .before .before .before .if3 .left)) _ _ (d .before .before .is-reverse .ensures) (d .before .is-reverse2 .ensures) _ (sym (d .differ .ensures) ∙ not-false _ (c .before .before .if4 .left))
-    (simp (c .before .if5 .taken) (c .fr .ensures))
+returns-5 c = decides (c .before .before) _ (simp (c .before .if5 .taken) (c .fr .ensures))
 
 fr-requires-2 : tie.Need-fr-requires-2
 fr-requires-2 c κs = search needs
 
 returns-6 : tie.Need-returns-6
-returns-6 c =
-    let d = c .before .before .before in
-    let k = d .before .before .before .before in
-    let u = k .before .before .before .before .before .before .before in
-    let s = u .before .before .before .before in
-    decided (now (s .args .a)) (now (s .args .b)) _ _ (u .before .u16-at .ensures .0) (u .u16-at2 .ensures .0) (mapped1 k) (mapped2 k) (sym (same-refs k) ∙ not-false _ (d .before .before .before .if3 .left)) _ _ (d .before .before .is-reverse .ensures) (d .before .is-reverse2 .ensures) _ (sym (d .differ .ensures) ∙ not-false _ (c .before .before .if4 .left))
-    (simp (c .before .if5 .left) (c .fr2 .ensures))
+returns-6 c = decides (c .before .before) _ (simp (c .before .if5 .left) (c .fr2 .ensures))
 
 pub primary-fr-spec : {M : Type 1} → statement M
 primary-fr-spec =
