@@ -22,11 +22,13 @@ use Rattle.promises.specs.Table.{Row, _when_, only, first, refuses, Give
 use Rattle.promises.specs.Rows.{anyOutside, over, noRoom}
 
 -- rows under a condition that holds are these rows, and under one that doesn't hold give nothing
-only-first : (t : Bool) (rows : List Row) → first (only t rows) ≡ cond t (first rows) 0
-only-first true [] = refl
-only-first false [] = refl
-only-first true (r ∷ rows) = ap (cond (r .due) (r .number)) (only-first true rows)
-only-first false (r ∷ rows) = only-first false rows
+only-all : (rows : List Row) → only true rows ≡ rows
+only-all [] = refl
+only-all (r ∷ rows) = ap (λ (l : List Row). r ∷ l) (only-all rows)
+
+only-none : (rows : List Row) → first (only false rows) ≡ 0
+only-none [] = refl
+only-none (r ∷ rows) = rw (only-none rows) refl
 
 -- what a refusal tells
 abbrev pub number-alone : ℕ → Told
@@ -57,8 +59,8 @@ module _ {A : Type 0} (tell : A → Told) where
 
   -- a test past which there is an answer, so that the rows behind it are due only where it fails, or only where it holds
   pub row-unless : (t : Bool) (x y : A) {rows : List Row} → tell x .number ≡ 0 → Gives (tell y) rows → Gives (tell (cond t x y)) (only (not t) rows)
-  row-unless true x y {rows} p q = answer p (sym (only-first false rows))
-  row-unless false x y {rows} p q = like (sym (only-first true rows)) q
+  row-unless true x y {rows} p q = answer p (sym (only-none rows))
+  row-unless false x y {rows} p q = like (ap first (sym (only-all rows))) q
 
   pub row-where : (t : Bool) (x y : A) {rows : List Row} → tell x .number ≡ 0 → Gives (tell y) rows → Gives (tell (cond t y x)) (only t rows)
   row-where true x y p q = row-unless false x y p q
@@ -113,10 +115,10 @@ module _ {A : Type 0} (tell : A → Told) {d : List ℕ} where
   -- an answer that keeps the output too, where the test fails, so that the rows behind are due only where it holds
   pub kept-where : (t : Bool) (a : A) {x : Outcome A} {rows : List Row} {b : A} {ys : List ℕ} → tell a .number ≡ 0
       → GivesFilled tell x d rows b ys → GivesFilled tell (cond (not t) (keeps a d) x) d (only t rows) (cond t b a) (cond t ys [])
-  kept-where true a {rows = rows} p q = like-filled (sym (only-first true rows)) q
+  kept-where true a {rows = rows} p q = like-filled (ap first (sym (only-all rows))) q
   kept-where false a {rows = rows} p q =
       record {
-        refusal = record { gives = answer p (sym (only-first false rows)); kept = λ h. refl };
+        refusal = record { gives = answer p (sym (only-none rows)); kept = λ h. refl };
         answer = λ h. refl;
         fills = λ h. record { first-places = refl; other-places = refl; as-many = refl };
       }
