@@ -3,6 +3,9 @@ mod plan;
 mod write;
 
 ghost use mathlib.Core.Path.{_≡_};
+ghost use Prim.Native.Nat.{_*_, _/_, _≤_};
+ghost use lib.Dec.{ltb};
+ghost use lib.ListN.{length};
 ghost use Rattle.lists.specs.Lists.{sumOf};
 ghost use Rattle.sam.specs.Op.{lenOf};
 ghost use Rattle.oplist.specs.Ops.{opsOf};
@@ -51,7 +54,7 @@ fn clip_ops(
 ) -> Clipped
     ensures { λ r. ⌜ Settled (clippedInto (opsOf (now (words .entry)) (now (rec .entry)) list) amount start (now (out .entry))) r (now (out .exit)) ⌝ }
 {
-    if MOST_BASES < total(words, rec, list) {
+    if is_too_long(words, rec, list) {
         return Clipped::Refused(Refusal::TooLong);
     }
     let p = plan::make_plan(words, rec, list, amount, start);
@@ -66,6 +69,35 @@ fn clip_ops(
         write::write_end(words, rec, list, p, out);
         Clipped::Done(n as u64, 0)
     }
+}
+
+// Whether the lengths sum to more than clipping takes. The longest length that all ops' bits could make bounds the sum, and costs less to find.
+fn is_too_long(words: &[u32], rec: &[u8], list: Ops) -> bool
+    ensures { λ r. ⌜ r ≡ ltb 268435455 (sumOf lenOf (opsOf (now (words .entry)) (now (rec .entry)) list)) ⌝ }
+{
+    let n = oplist::count(words, rec, list) as u64;
+    let most = ops::length_of(all_bits(words, rec, list));
+    if n * most <= MOST_BASES {
+        return false;
+    }
+    if MOST_BASES < total(words, rec, list) {
+        return true;
+    }
+    false
+}
+
+// The bits that any op has.
+fn all_bits(words: &[u32], rec: &[u8], list: Ops) -> u32
+    ensures { λ r. ⌜ sumOf lenOf (opsOf (now (words .entry)) (now (rec .entry)) list) ≤ length (opsOf (now (words .entry)) (now (rec .entry)) list) * (r / 16) ⌝ }
+{
+    let n = oplist::count(words, rec, list);
+    let mut bits: u32 = 0;
+    let mut i: usize = 0;
+    while i < n {
+        bits = bits | oplist::op_at(words, rec, list, i);
+        i += 1;
+    }
+    bits
 }
 
 // The sum of the lengths of all ops.
