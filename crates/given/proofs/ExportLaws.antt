@@ -11,24 +11,11 @@ use lib.ListN.{length}
 use lib.Dec.{ltb}
 use Rattle.signed.specs.Whole.{twos64}
 use Rattle.answers.specs.declared.Refusal.{Refusal}
-use Rattle.answers.specs.declared.Refusal.the-variants.{ShortRecord, AreaOverrun, TooManyOps, Overflow, NotACigar, NoRoom, BadCode, TooLong, BadStart, BadLength}
 use Rattle.answers.specs.Answers.{numberOf, Told, answered, refused}
 use Rattle.answers.specs.Settled.{Outcome, Settled, keeps}
+use Rattle.answers.proofs.Numbers.{from-one}
 use Rattle.answers.proofs.Unique.{resettled}
 use Rattle.given.specs.Exported.{cells, stored, exported, Filled}
-
--- no refusal has the number 0
-from-one : (why : Refusal) → numberOf why ≡ suc (numberOf why - 1)
-from-one ShortRecord = refl
-from-one AreaOverrun = refl
-from-one TooManyOps = refl
-from-one Overflow = refl
-from-one NotACigar = refl
-from-one NoRoom = refl
-from-one BadCode = refl
-from-one TooLong = refl
-from-one BadStart = refl
-from-one BadLength = refl
 
 length-cells : (zs : List ℤ) → length (cells zs) ≡ length zs
 length-cells [] = refl

@@ -36,7 +36,8 @@ use Rattle.lines.specs.Line.{textRoom, textTold, refsTold, fiveTold, bin
 use Rattle.lines.specs.Inner.{rowOf, figuresOf, rowFields}
 use Rattle.lines.specs.declared.Row.{Row}
 use Rattle.lines.specs.declared.Figures.the-variants as Figures
-use Rattle.lines.proofs.OrderLaws.{any-room, text-refused, Shown, text-shown, firstGiven, query-is, refusal-long, refusal-short, number-some}
+use Rattle.answers.proofs.Numbers.{not-zero}
+use Rattle.lines.proofs.OrderLaws.{any-room, text-refused, Shown, text-shown, firstGiven, query-is, refusal-long, refusal-short}
 
 -- ---- the text, where a part of memory was printed into
 
@@ -108,7 +109,7 @@ module _ (b d d₁ ys : List ℕ) (at from w : ℕ) (r : Count) (p : Put d at (9
 
 refused-line : (n : ℕ) (b : List ℕ) (w : Refusal) → refusalOf b ≡ numberOf w → lineOf n b ≡ decimal n ++ tabbed (refusedFields (numberOf w))
 unfolding lineOf
-refused-line n b w e = rw (e, number-some w)
+refused-line n b w e = rw (e, not-zero w)
 
 text-refusal : (b : List ℕ) (w : Refusal) → printed b textRoom .answer ≡ Count.Refused w → refusalOf b ≡ numberOf w
 unfolding textTold printed
@@ -122,7 +123,7 @@ text-refusal b w e = go (ltb (length b) 32) refl
         let f : Count.Refused ShortRecord ≡ Count.Refused w = rw q at e in
         let g : ShortRecord ≡ w = cc in
         refusal-short b (t ∙ ap numberOf (sym g)) ∙ ap numberOf g
-    go false q = refusal-long b (ltb-false (length b) 32 q) ∙ rw (t, number-some w)
+    go false q = refusal-long b (ltb-false (length b) 32 q) ∙ rw (t, not-zero w)
 
 pub line-no-text : (n : ℕ) (b : List ℕ) (w : Refusal) → printed b textRoom .answer ≡ Count.Refused w → lineOf n b ≡ decimal n ++ tabbed (refusedFields (numberOf w))
 line-no-text n b w e = refused-line n b w (text-refusal b w e)
@@ -150,8 +151,8 @@ figures-are b i q u k l e f g h m = cc
 row-refused : (i : Int) (q : ℕ) (u : Place1) (k : Nat) (s : Bool) (w : Refusal) → rowOf i q u k s ≡ Figures.Refused w
     → firstGiven 0 (tellInt i .number) (tellPlace1 u .number) (tellNat k .number) ≡ numberOf w
 unfolding rowOf
-row-refused (Int.Refused r) q u k s w e = let g : r ≡ w = cc in rw (number-some r) (ap numberOf g)
-row-refused (Int.Number z) q (Place1.Refused r) k s w e = let g : r ≡ w = cc in rw (number-some r) (ap numberOf g)
+row-refused (Int.Refused r) q u k s w e = let g : r ≡ w = cc in rw (not-zero r) (ap numberOf g)
+row-refused (Int.Number z) q (Place1.Refused r) k s w e = let g : r ≡ w = cc in rw (not-zero r) (ap numberOf g)
 row-refused (Int.Number z) q (Place1.At p) (Nat.Refused r) s w e = let g : r ≡ w = cc in ap numberOf g
 row-refused (Int.Number z) q (Place1.At p) (Nat.Number m) s w e = let z : _≡_ {A = ℕ} 0 1 = cc in absurd (omega arith)
 

@@ -19,7 +19,7 @@ use Rattle.sam.specs.Record.{recordOps, opsEnd, posOf, flagsOf, isUnmapped, isR
 use Rattle.answers.specs.Answers.{numberOf, tellCount, tellInt, tellNat}
 use Rattle.answers.specs.Settled.{Outcome, keeps}
 use Rattle.answers.specs.declared.Refusal.{Refusal}
-use Rattle.answers.specs.declared.Refusal.the-variants.{ShortRecord, AreaOverrun, TooManyOps, Overflow, NotACigar, NoRoom, BadCode, TooLong, BadStart, BadLength}
+use Rattle.answers.specs.declared.Refusal.the-variants.{ShortRecord, AreaOverrun, Overflow, NoRoom, BadCode}
 use Rattle.answers.specs.declared.Int.the-variants as Int
 use Rattle.answers.specs.declared.Nat.the-variants as Nat
 use Rattle.answers.specs.declared.Count.{Count}
@@ -197,15 +197,3 @@ refusal-long b h =
 pub refusal-short : (b : List ℕ) → textTold b .number ≡ 1 → refusalOf b ≡ 1
 unfolding refusalOf firstOf holds
 refusal-short b e = rw e
-
-pub number-some : (w : Refusal) → eqb (numberOf w) 0 ≡ false
-number-some ShortRecord = refl
-number-some AreaOverrun = refl
-number-some TooManyOps = refl
-number-some Overflow = refl
-number-some NotACigar = refl
-number-some NoRoom = refl
-number-some BadCode = refl
-number-some TooLong = refl
-number-some BadStart = refl
-number-some BadLength = refl
