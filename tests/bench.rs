@@ -161,12 +161,44 @@ fn single(random: &mut Random) {
     pair!("op_new", 1, "", |x| cigar::CigarOp::new(cigar::CigarKind::Match, x) => fn(u32) -> cigar::CigarOp, |x| port::CigarOp::new(port::CigarKind::Match, x) => fn(u32) -> Result<port::CigarOp, port::Refusal>, |i, f| f(i as u32 + 1), |i, g| g(i as u32 + 1));
 }
 
+/// The original behind the port's border: a C function that stores the value and answers 0, or 6 where there is no place for it, and its caller reads the value
+/// back. Where the port takes as long as this, the rest of its time is the border's.
+macro_rules! behind {
+    ($n:expr, $inputs:expr, $name:literal, $t:ty, $original:path) => {{
+        #[inline(never)]
+        extern "C" fn stored(at: *const $t, len: usize, values: *mut u64, places: usize) -> u32 {
+            if places < 1 {
+                return 6;
+            }
+            unsafe { *values = $original(std::slice::from_raw_parts(at, len)) as u64 };
+            0
+        }
+        let (f, g) = (black_box($original as fn(&[$t]) -> _), black_box(stored as extern "C" fn(*const $t, usize, *mut u64, usize) -> u32));
+        row(concat!($name, ", the Rust behind the border"), $n, "", |i| { black_box(f(&$inputs[i])); }, |i| {
+            let mut values = [0u64; 2];
+            let told = if g($inputs[i].as_ptr(), $inputs[i].len(), values.as_mut_ptr(), 2) == 0 { Ok(values[0]) } else { Err(()) };
+            let _ = black_box(told);
+        });
+    }};
+}
+
+fn border(n: usize, random: &mut Random) {
+    let l: Vec<Vec<u32>> = (0..INPUTS).map(|_| list(random, n)).collect();
+    let r: Vec<Vec<u8>> = l.iter().map(|x| record(random, x, false, 2000)).collect();
+    behind!(n, l, "reference_length_from_cigar", u32, cigar::reference_length_from_cigar);
+    behind!(n, l, "query_length_from_cigar", u32, cigar::query_length_from_cigar);
+    behind!(n, l, "is_valid_mapped_cigar", u32, overlap::reach::is_valid_mapped_cigar);
+    behind!(n, r, "unclipped_5prime_from_raw_bam", u8, cigar::unclipped_5prime_from_raw_bam);
+    behind!(n, r, "bin_from_raw_bam", u8, bin::bin_from_raw_bam);
+}
+
 fn main() {
     let random = &mut Random(7);
     for n in [1, 3, 10, 100, 10_000] {
         lists(n, random);
         records(n, random);
         texts(n, random);
+        border(n, random);
     }
     single(random);
 }
