@@ -20,7 +20,7 @@ use Rattle.sam.specs.Op.{codeOf, isQuery, queryLen, refLen}
 use Rattle.lookup.specs.Lookup.{upTo}
 use Rattle.overhang.specs.Reach.{basesUpTo}
 use Rattle.overhang.specs.Overhang.{basesPast}
-use Rattle.overhang.proofs.ReachLaws.{upToPlace, place-is, up-past}
+use Rattle.overhang.proofs.ReachLaws.{place-is, up-past}
 use Rattle.overhang.proofs.Meaning.{both-len, gap-len, places}
 
 -- ---- turns of the walk, with x the op at i

@@ -1,5 +1,5 @@
 -- One op more is at most the bits with its own.
-use Prim.Native.Nat.{_-_, _≤_, _<_}
+use Prim.Native.Nat.{_-_, _≤_}
 use native.Mathlib.Omega.{arith}
 use borrow.Author.Needs.{needs}
 use Rattle.oplist.specs.Ops.{opsOf}

@@ -1,10 +1,9 @@
 -- What is counted and what is left to count, over the room that is left, make the whole count, as seen from the end.
-use mathlib.Core.Path.{_≡_, _∙_}
+use mathlib.Core.Path.{_≡_}
 use Prim.Native.Nat.{_+_, _-_, _*_, _≤_}
 use lib.ListN.{drop}
 use Rattle.lists.specs.Lists.{facing}
 use Rattle.lists.proofs.ListLaws.{length-facing}
-use Rattle.sam.specs.Op.{queryLen, refLen}
 use Rattle.oplist.specs.Ops.{opsOf}
 use Rattle.lookup.specs.Lookup.{upTo}
 use Rattle.overhang.proofs.Mirror.{room-done, room-out, room-turn}
