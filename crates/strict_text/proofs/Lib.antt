@@ -6,5 +6,4 @@ pub mod PassLaws
 pub mod PutLaws
 pub mod ValidLaws
 pub mod GrammarLaws
-pub mod Marked
 pub mod RoundTrip
