@@ -174,7 +174,7 @@ macro_rules! behind {
             0
         }
         let (f, g) = (black_box($original as fn(&[$t]) -> _), black_box(stored as extern "C" fn(*const $t, usize, *mut u64, usize) -> u32));
-        row(concat!($name, ", the Rust behind the border"), $n, "", |i| { black_box(f(&$inputs[i])); }, |i| {
+        row($name, $n, "the Rust behind the border", |i| { black_box(f(&$inputs[i])); }, |i| {
             let mut values = [0u64; 2];
             let told = if g($inputs[i].as_ptr(), $inputs[i].len(), values.as_mut_ptr(), 2) == 0 { Ok(values[0]) } else { Err(()) };
             let _ = black_box(told);
