@@ -1,8 +1,7 @@
 -- Bins at the edges: a region that starts below 0, and an end that has no number before it. Each computes.
 use mathlib.Core.Path.{_≡_, refl}
-use lib.IntN.{ℤ, pos, negsuc}
+use lib.IntN.{pos, negsuc}
 use Rattle.signed.specs.Whole.{checked, sideOf}
-use Rattle.answers.specs.declared.Nat.{Nat}
 use Rattle.answers.specs.declared.Nat.the-variants.{Number, Refused}
 use Rattle.answers.specs.declared.Refusal.the-variants.{Overflow}
 use Rattle.signed.specs.Equal.{eqℤ}

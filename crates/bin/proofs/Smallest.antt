@@ -11,7 +11,6 @@ use lib.Arith.{digits-div}
 use lib.Pow.{pow-pos}
 use lib.Dec.{eqb, lit<, lit≤}
 use lib.IntN.{pos, _-ℤ_}
-use Rattle.signed.specs.Whole.{checked}
 use Rattle.signed.proofs.Halves.{minus, same}
 use Rattle.signed.proofs.Ranges.{checked-in}
 use Rattle.answers.specs.declared.Nat.the-variants.{Number}

@@ -1,5 +1,5 @@
 -- Document 01, module 1: fields of a record, with refusal 1 under 32 bytes, and the part of it that holds the ops.
-use Prim.Native.Nat.{ℕ, _+_, _*_}
+use Prim.Native.Nat.{ℕ, _*_}
 use mathlib.Core.Bool.{cond}
 use mathlib.Core.List.{List, [], _∷_}
 use lib.IntN.{ℤ, pos}

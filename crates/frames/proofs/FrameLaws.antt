@@ -7,7 +7,7 @@ use native.Mathlib.Omega.{arith}
 use lib.Dec.{ltb, eqb}
 use lib.ListN.{length, take, drop, getD, set, length-append, length-take, length-drop, length-set}
 use lib.Seq.{drop-append-le, take-append-le, drop-drop, take-take, length-take-le, getD-drop, take-suc, take-suc-set, drop-set-lt}
-use borrow.Author.Tests.{lt-ltb, le-ltb, ne-eqb, ltb-false, eqb-false}
+use borrow.Author.Tests.{le-ltb, ne-eqb, ltb-false}
 use Rattle.lists.proofs.Walks.{done}
 use Rattle.sam.specs.Record.{le32}
 use Rattle.little.proofs.FrontLaws.{front-number}

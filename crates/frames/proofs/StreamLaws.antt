@@ -1,18 +1,14 @@
 -- What the program prints is determined by the stream, and how the stream was cut into blocks plays no part: by cases on what comes next.
 use Prim.Native.Nat.{ℕ, _+_}
 use mathlib.Core.Path.{_≡_, refl, sym, ap, _∙_, subst}
-use mathlib.Core.Bool.{Bool, true, false}
-use mathlib.Core.List.{List, [], _++_, append-nil}
+use mathlib.Core.List.{List, _++_}
 use native.Mathlib.Omega.{arith}
-use lib.Dec.{ltb, eqb}
-use lib.ListN.{length, take, drop, length-append}
-use borrow.Author.Tests.{lt-ltb, le-ltb, ne-eqb, ltb-true, ltb-false}
+use lib.Dec.{ltb}
+use lib.ListN.{take, drop}
 use Rattle.sam.specs.Record.{le32}
 use Rattle.lines.specs.Line.{lineOf}
-use Rattle.frames.specs.Stream.{nextIn, soFar, closing, Reports, Reports.line, Reports.over, Reports.short, Reports.none}
-use Rattle.frames.specs.Inner.{goesOn}
-use Rattle.frames.specs.declared.Next.{Next}
-use Rattle.frames.specs.declared.Next.the-variants.{Record, TooLong, CutShort, End, More}
+use Rattle.frames.specs.Stream.{Reports, Reports.line, Reports.over, Reports.short, Reports.none}
+use Rattle.frames.specs.declared.Next.the-variants.{TooLong}
 
 -- two texts that the definition admits are the same
 pub unique : {n : ℕ} {s t u : List ℕ} → Reports n s t → Reports n s u → t ≡ u

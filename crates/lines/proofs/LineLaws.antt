@@ -1,7 +1,7 @@
 -- The line by its three ways: the printing refuses, a later call refuses, or all answer; and a part of memory that was printed into.
 use Prim.Native.Nat.{ℕ, suc, _+_, _≤_, _<_}
-use mathlib.Core.Path.{_≡_, refl, sym, ap, _∙_, subst}
-use mathlib.Core.Bool.{Bool, true, false, cond}
+use mathlib.Core.Path.{_≡_, refl, sym, ap, _∙_}
+use mathlib.Core.Bool.{Bool, true, false}
 use mathlib.Core.List.{List, [], _∷_, _++_, append-assoc}
 use native.Mathlib.Omega.{arith}
 use lib.Dec.{ltb, eqb}
@@ -32,12 +32,12 @@ use Rattle.ends.specs.declared.Place1.the-variants as Place1
 use Rattle.bin.specs.Bin.{recordBin}
 use Rattle.puts.specs.Puts.{Put, signedDecimal}
 use Rattle.puts.proofs.PutLaws.{put-then, put-as, put-dropped}
-use Rattle.lines.specs.Line.{textRoom, textTold, refsTold, fiveTold, binTold, refusalOf, shown, orStar, oneIf, sameLength, tabbed, recordFields, refusedFields, lineOf}
+use Rattle.lines.specs.Line.{textRoom, textTold, refsTold, fiveTold, binTold, refusalOf, shown, orStar, oneIf, tabbed, refusedFields, lineOf}
 use Rattle.lines.specs.Inner.{rowOf, figuresOf, rowFields}
 use Rattle.lines.specs.declared.Row.{Row}
 use Rattle.lines.specs.declared.Figures.the-variants as Figures
 use Rattle.answers.proofs.Numbers.{not-zero}
-use Rattle.lines.proofs.OrderLaws.{any-room, text-refused, Shown, text-shown, firstGiven, query-is, refusal-long, refusal-short}
+use Rattle.lines.proofs.OrderLaws.{any-room, text-refused, text-shown, firstGiven, query-is, refusal-long, refusal-short}
 
 -- ---- the text, where a part of memory was printed into
 

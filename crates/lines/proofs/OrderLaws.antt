@@ -16,7 +16,7 @@ use Rattle.signed.specs.declared.Sum.{Sum}
 use Rattle.signed.specs.declared.Sum.the-variants as Sum
 use Rattle.sam.specs.Op.{refLen, queryLen}
 use Rattle.sam.specs.Record.{recordOps, opsEnd, posOf, flagsOf, isUnmapped, isReverse}
-use Rattle.answers.specs.Answers.{numberOf, tellCount, tellInt, tellNat}
+use Rattle.answers.specs.Answers.{tellCount, tellInt, tellNat}
 use Rattle.answers.specs.Settled.{Outcome, keeps}
 use Rattle.answers.specs.declared.Refusal.{Refusal}
 use Rattle.answers.specs.declared.Refusal.the-variants.{ShortRecord, AreaOverrun, Overflow, NoRoom, BadCode}
@@ -31,7 +31,7 @@ use Rattle.ends.specs.Ends.{toPlace1, oneBased, fivePrime, noOps, asUnclipped, 
 use Rattle.ends.specs.declared.Unclipped.{Unclipped}
 use Rattle.ends.specs.declared.Unclipped.the-variants as Unclipped
 use Rattle.bin.specs.Bin.{binTo, reg2bin, binUpTo, spanOf, recordBin}
-use Rattle.lines.specs.Line.{textRoom, textTold, refsTold, queryTold, fiveTold, binTold, order, firstOf, refusalOf}
+use Rattle.lines.specs.Line.{textRoom, textTold, refsTold, fiveTold, binTold, order, firstOf, refusalOf}
 
 -- ---- a test over all numbers of a list
 

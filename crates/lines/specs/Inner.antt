@@ -8,7 +8,6 @@ use lib.ListN.{length}
 use Rattle.lists.specs.Lists.{sumOf}
 use Rattle.sam.specs.Op.{queryLen}
 use Rattle.sam.specs.Record.{recordOps, seqLenOf}
-use Rattle.answers.specs.declared.Refusal.{Refusal}
 use Rattle.answers.specs.declared.Int.{Int}
 use Rattle.answers.specs.declared.Int.the-variants as Int
 use Rattle.answers.specs.declared.Nat.{Nat}

@@ -2,10 +2,10 @@
 -- 1 if query length equals l_seq, else 0. A refused record prints its number, `refused`, the refusal; the first of 1, 7, 6, 2, 4. Text room is 65,536 bytes."
 use Prim.Native.Nat.{ℕ}
 use mathlib.Core.Bool.{Bool, cond}
-use mathlib.Core.List.{List, [], _∷_, _++_, map}
+use mathlib.Core.List.{List, [], _∷_, _++_}
 use lib.Dec.{eqb}
 use lib.IntN.{ℤ, pos}
-use lib.ListN.{length, replicate}
+use lib.ListN.{replicate}
 use Rattle.lists.specs.Runs.{holds}
 use Rattle.signed.specs.Whole.{natural}
 use Rattle.sam.specs.Record.{recordOps, seqLenOf}

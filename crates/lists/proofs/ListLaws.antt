@@ -1,11 +1,11 @@
 -- Laws of `specs/Lists.antt`: a list seen from its end, and a list written into another. Assumes nothing.
-use mathlib.Core.Path.{_≡_, refl, sym, ap, _∙_, subst}
+use mathlib.Core.Path.{_≡_, refl, sym, ap, _∙_}
 use mathlib.Core.Bool.{Bool, true, false}
-use mathlib.Core.List.{List, [], _∷_, _++_, reverse, append-assoc, append-nil, reverse-cons, reverse-append, reverse-reverse}
+use mathlib.Core.List.{List, [], _∷_, _++_, reverse, append-assoc, reverse-cons, reverse-append, reverse-reverse}
 use Prim.Native.Nat.{ℕ, zero, suc, _+_, _-_, _≤_, _<_}
 use native.Mathlib.Numerals.{add-one}
 use native.Mathlib.Omega.{arith}
-use lib.ListN.{length, take, drop, getD, set, length-append, length-reverse, length-take, length-drop, take-append-drop, List·getD-append}
+use lib.ListN.{length, take, drop, getD, set, length-append, length-reverse, length-drop, take-append-drop, List·getD-append}
 use lib.Seq.{take-at, drop-at, getD-at, drop-drop, drop-append-add, set-split, take-suc, getD-drop, length-take-le, take-all}
 use Rattle.lists.specs.Lists.{facing, splice}
 

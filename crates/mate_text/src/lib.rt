@@ -1,7 +1,7 @@
 // Document 01, module 6: the mate's unclipped 5' end from text. Reads any bytes, refuses none; each step saturates.
 ghost use mathlib.Core.Path.{_≡_};
 ghost use mathlib.Core.Bool.{cond, not};
-ghost use lib.IntN.{ℤ, pos};
+ghost use lib.IntN.{pos};
 ghost use Rattle.mate_text.specs.Run.{isDigit, countOf, pushOf};
 ghost use Rattle.mate_text.specs.Mate.{isRefLetter, isClipLetter, mateLeading, mateReference, mateTrailing, held, mateStart, mateEnd, mateUnclipped, mateUnclipped1};
 ghost use Rattle.mate_text.specs.Scan.{runAfter, numberAfter, leadPiece, tailPiece};

@@ -1,7 +1,7 @@
 -- Document 01: "lent op lists hold at most 65,535 ops"; an op list lies in a lent list or in a record, and is empty where it overruns the record.
 -- The ops that an `Ops` stands for: in the bytes of a record, none where they overrun it, or the first of a list.
 use Prim.Native.Nat.{ℕ, _+_, _*_}
-use mathlib.Core.Bool.{Bool, true, false, cond}
+use mathlib.Core.Bool.{cond}
 use mathlib.Core.List.{List, []}
 use lib.ListN.{length, take}
 use lib.Dec.{leb}

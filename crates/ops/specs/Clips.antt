@@ -1,7 +1,7 @@
 -- Document 01, module 7: "forward less the leading S and H, reverse plus reference length plus clips after the last reference op [..]. Clips before any
 -- reference op don't count in reverse." The clips of an op list at its two ends.
 use Prim.Native.Nat.{ℕ}
-use mathlib.Core.Bool.{Bool, cond}
+use mathlib.Core.Bool.{cond}
 use mathlib.Core.List.{List}
 use Rattle.lists.specs.Lists.{sumOf}
 use Rattle.lists.specs.Runs.{leading, afterLast}

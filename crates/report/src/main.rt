@@ -1,7 +1,7 @@
 // Document 01's program: standard input is a stream of records, and a line is written for each. What is written is said by the crates `frames` and `lines`; this
 // only reads and writes, in blocks. A write that fails ends the program, and a read that fails leaves the stream cut short.
 ghost use mathlib.Core.Path.{_≡_};
-ghost use Prim.Native.Nat.{_+_, _*_, _≤_, _<_};
+ghost use Prim.Native.Nat.{_+_, _≤_, _<_};
 ghost use lib.ListN.{length};
 use frames::Next;
 

@@ -1,10 +1,9 @@
 -- SAM specification 1.4.6: an alignment as columns, each with a query base, a reference base, or both.
-use Prim.Native.Nat.{ℕ, zero, suc, _+_, _≤_}
+use Prim.Native.Nat.{ℕ, _+_, _≤_}
 use mathlib.Core.Path.{_≡_}
-use mathlib.Core.Bool.{Bool, true, false, cond}
+use mathlib.Core.Bool.{Bool, true, false}
 use mathlib.Core.List.{List, [], _∷_, _++_}
 use lib.ListN.{replicate}
-use Rattle.answers.specs.declared.Over.{Over}
 use Rattle.answers.specs.declared.Over.the-variants.{Base, Gap, Off}
 use Rattle.answers.specs.declared.Spot.{Spot}
 use Rattle.sam.specs.Op.{lenOf, codeOf, isRef, isQuery}

@@ -1,17 +1,17 @@
 -- A ℤ as two naturals, `up z` less `dn z`, so that `omega` can reason about it: each operation on ℤ is one linear fact of the halves, which goes into
 -- omega's list, and `same`, `leℤ`, `ltℤ`, `sfits32` .. turn a fact of the halves back into one of ℤ. Assumes nothing.
 use Prim.Native.Nat.{ℕ, zero, suc, _+_, _-_, _%_, _≤_, _<_, _^_}
-use mathlib.Core.Path.{_≡_, refl, sym, ap, _∙_, subst}
+use mathlib.Core.Path.{_≡_, refl, sym, ap, subst}
 use mathlib.Core.Bool.{Bool, true, false, not, cond}
 use mathlib.Core.Logic.{_⊎_, inl, inr}
 use native.Mathlib.Omega.{arith}
 use lib.IntN.{ℤ, pos, negsuc, subℕ, negℤ, _+ℤ_, _-ℤ_, natAbs}
 use Rattle.signed.specs.Whole.{raised, natural, twos64}
-use lib.Dec.{T, ltb, leb, ltb→lt, nltb→le}
-use lib.Signed.{mag, leZ, ltZ, nonNeg}
+use lib.Dec.{T, ltb, ltb→lt, nltb→le}
+use lib.Signed.{leZ, ltZ, nonNeg}
 use borrow.Author.Tests.{lt-ltb, le-ltb, le-leb, lt-leb, leb-true, leb-false, ltb-true, ltb-false}
 use mir.Syntax.{w32, w64}
-use mir.Val.{SFits, ofZ}
+use mir.Val.{SFits}
 
 abbrev pub up : ℤ → ℕ
 up (pos n) = n

@@ -7,7 +7,7 @@ use borrow.Author.Tests.{eq-eqb, ne-eqb}
 use Rattle.lists.proofs.Tables.{below-same}
 use Rattle.sam.specs.Op.{isRef}
 use Rattle.strict_text.specs.Class.{Class, Class.Reference, Class.Other, Class.Soft, Class.Hard, Class.Unknown}
-use Rattle.strict_text.specs.Pass.{codeClass, isInner, isPast, stepOf, acceptOf, isWrong}
+use Rattle.strict_text.specs.Pass.{codeClass, isInner, isPast, stepOf, acceptOf}
 use Rattle.strict_text.specs.declared.Place.{Place}
 use Rattle.strict_text.specs.declared.Place.the-variants.{Start, AfterHard, Inner, Good, EndSoft, EndHard, Wrong}
 use Rattle.strict_text.proofs.TextLaws.{false-true}

@@ -9,7 +9,7 @@ ghost use Rattle.oplist.specs.Ops.{opsOf};
 ghost use Rattle.strict_text.specs.Text.{isDigit, letterCode, textOps};
 ghost use Rattle.strict_text.specs.Parsed.{measuredOps, measuredText, parsed, validity};
 ghost use Rattle.strict_text.specs.Valid.{validMapped};
-ghost use Rattle.strict_text.specs.Class.{Class, Class.Reference, Class.Other, Class.Soft, Class.Hard};
+ghost use Rattle.strict_text.specs.Class.{Class.Reference, Class.Other, Class.Soft, Class.Hard};
 ghost use Rattle.strict_text.specs.Pass.{codeWord, codeClass, isInner, isPast, stepOf, acceptOf, isWrong, refOf, tookOf, endOf, TokenAt, ShortAt};
 use answers::Count;
 use answers::Flag;

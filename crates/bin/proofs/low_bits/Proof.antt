@@ -1,7 +1,5 @@
 use native.Mathlib.Omega.{arith}
-use mathlib.Core.Path.{_≡_, ap, sym, _∙_}
-use mir.Syntax.{w32}
-use mir.Val.{toZ, ofZ}
+use mathlib.Core.Path.{ap, _∙_}
 use mir.Facts.{toZ-ofZ}
 use Prim.Native.Nat.{ℕ, _%_}
 use Rattle.bin.proofs.Shifts.{low-raised}

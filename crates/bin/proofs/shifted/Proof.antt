@@ -1,6 +1,3 @@
-use mathlib.Core.Path.{_≡_, ap, sym, _∙_}
-use mir.Syntax.{w32}
-use mir.Val.{toZ, ofZ}
 use mir.Facts.{toZ-ofZ}
 use Rattle.bin.proofs.Shifts.{shr-fits}
 use borrow.Author.Needs.{needs}

@@ -8,7 +8,7 @@ use lib.Dec.{eqb}
 use lib.Signed.{ltZ}
 use mir.Syntax.{w32}
 use mir.Val.{toZ, ofZ}
-use Rattle.signed.specs.Whole.{natural, checked}
+use Rattle.signed.specs.Whole.{natural}
 use Rattle.sam.specs.Record.{posOf}
 use Rattle.lengths.specs.Lengths.{refLengthOrZero}
 use Rattle.ends.specs.Sums.{both}

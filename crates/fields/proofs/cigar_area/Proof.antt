@@ -1,12 +1,9 @@
 -- The two tests are the definition's.
-use Prim.Native.Nat.{ℕ, _+_, _*_, _≤_, _<_}
-use mathlib.Core.Path.{_≡_, sym, ap, _∙_}
-use mathlib.Core.List.{List}
-use native.Mathlib.Omega.{arith}
+use Prim.Native.Nat.{_≤_, _<_}
 use borrow.Author.Needs.{needs}
 use borrow.Author.Tests.{lt-ltb, le-ltb, not-true, not-false}
-use lib.ListN.{length, take, drop}
-use Rattle.sam.specs.Record.{opsStart, opCountOf, opsEnd}
+use lib.ListN.{length}
+use Rattle.sam.specs.Record.{opsEnd}
 use Rattle.oplist.proofs.OpsLaws.{lies, overruns}
 use Rattle.fields.specs.Fields.{cigarArea}
 use Rattle.fields.proofs.cigar_area.Statement.{statement}

@@ -1,12 +1,11 @@
 -- The two tests are the definition's; the part is the op area.
 use Prim.Native.Nat.{ℕ, _+_, _-_, _*_, _≤_, _<_}
-use mathlib.Core.Path.{_≡_, sym, ap, _∙_}
-use mathlib.Core.List.{List}
+use mathlib.Core.Path.{ap, _∙_}
 use native.Mathlib.Omega.{arith}
 use borrow.Author.Needs.{needs}
 use borrow.Author.Tests.{lt-ltb, le-ltb, not-true, not-false}
 use lib.ListN.{length, take, drop}
-use Rattle.sam.specs.Record.{opsStart, opCountOf, opsEnd}
+use Rattle.sam.specs.Record.{opCountOf, opsEnd}
 use Rattle.oplist.proofs.OpsLaws.{lies, overruns}
 use Rattle.fields.specs.Fields.{cigarPart}
 use Rattle.fields.proofs.cigar_raw_bytes.Statement.{statement}

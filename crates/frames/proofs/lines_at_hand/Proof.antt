@@ -6,7 +6,6 @@ use mathlib.Core.List.{List}
 use native.Mathlib.Omega.{arith}
 use lib.ListN.{length, take, drop, length-drop}
 use lib.Seq.{take-all}
-use borrow.Author.Needs.{needs}
 use Rattle.lines.specs.Line.{lineOf}
 use Rattle.puts.proofs.PutLaws.{put-as}
 use Rattle.frames.specs.Stream.{nextIn, soFar}

@@ -1,10 +1,7 @@
 -- A test after the other, as the definition has them.
 use Prim.Native.Nat.{ℕ}
-use mathlib.Core.Path.{_≡_, ap}
-use mathlib.Core.Bool.{_&&_}
-use native.Mathlib.Omega.{arith}
+use mathlib.Core.Path.{ap}
 use lib.Dec.{eqb}
-use lib.ListN.{length}
 use borrow.Author.Tests.{lt-ltb, le-ltb, eq-eqb, ne-eqb}
 use Rattle.frames.specs.Stream.{isMarked}
 use borrow.Author.Needs.{needs}

@@ -1,7 +1,5 @@
 -- By cases.
-use Prim.Native.Nat.{ℕ, _+_}
-use mathlib.Core.Path.{_≡_, refl, sym, ap}
-use mathlib.Core.List.{List}
+use mathlib.Core.Path.{refl, sym, ap}
 use native.Mathlib.Omega.{arith}
 use Rattle.frames.specs.Stream.{closingWord}
 use Rattle.puts.proofs.PutLaws.{put-as, put-none}

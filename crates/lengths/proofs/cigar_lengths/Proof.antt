@@ -5,8 +5,8 @@ use lib.ListN.{length}
 use Rattle.sam.specs.Record.{opsEnd}
 use Rattle.sam.specs.Op.{refLen, queryLen}
 use Rattle.lists.specs.Lists.{sumOf}
-use borrow.Author.Tests.{lt-ltb, le-ltb, leb-true, leb-false, not-true, not-false}
-use mathlib.Core.Path.{_≡_, refl, ap, sym, _∙_}
+use borrow.Author.Tests.{lt-ltb, le-ltb}
+use mathlib.Core.Path.{_≡_, ap, sym, _∙_}
 use native.Mathlib.Omega.{arith}
 use borrow.Author.Needs.{needs}
 use Rattle.lengths.proofs.cigar_lengths.Statement.{statement}

@@ -1,5 +1,5 @@
 -- The sum over the record's ops.
-use mathlib.Core.Path.{_≡_, ap, _∙_}
+use mathlib.Core.Path.{ap, _∙_}
 use borrow.Author.Tests.{lt-ltb, le-ltb}
 use Rattle.answers.specs.declared.Count.the-variants.{Number}
 use Rattle.lists.specs.Lists.{sumOf}

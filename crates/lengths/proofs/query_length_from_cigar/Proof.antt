@@ -2,11 +2,10 @@ use Rattle.answers.specs.declared.Count.the-variants.{Number}
 use Rattle.lengths.specs.Lengths.{queryLength}
 use lib.ListN.{length}
 use Rattle.sam.specs.Record.{opsEnd}
-use Rattle.sam.specs.Op.{refLen, queryLen}
+use Rattle.sam.specs.Op.{queryLen}
 use Rattle.lists.specs.Lists.{sumOf}
-use borrow.Author.Tests.{lt-ltb, le-ltb, leb-true, leb-false, not-true, not-false}
-use mathlib.Core.Path.{_≡_, refl, ap, sym, _∙_}
-use native.Mathlib.Omega.{arith}
+use borrow.Author.Tests.{lt-ltb, le-ltb}
+use mathlib.Core.Path.{ap, _∙_}
 use borrow.Author.Needs.{needs}
 use Rattle.lengths.proofs.query_length_from_cigar.Statement.{statement}
 use Rattle.lengths.proofs.query_length_from_cigar.Tie as tie

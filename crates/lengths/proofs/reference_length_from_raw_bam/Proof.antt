@@ -1,5 +1,5 @@
 -- Each arm is a clause of the definition.
-use mathlib.Core.Path.{_≡_, sym, ap, _∙_}
+use mathlib.Core.Path.{sym, ap, _∙_}
 use Rattle.lengths.specs.Lengths.{orZero, refLengthOrZero}
 use borrow.Author.Needs.{needs}
 use Rattle.lengths.proofs.reference_length_from_raw_bam.Statement.{statement}

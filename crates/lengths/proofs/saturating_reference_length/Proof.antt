@@ -1,6 +1,6 @@
 -- The sum over the list, clamped.
 use Prim.Native.Nat.{ℕ}
-use mathlib.Core.Path.{_≡_, ap, _∙_}
+use mathlib.Core.Path.{ap, _∙_}
 use borrow.Author.Tests.{lt-ltb, le-ltb}
 use lib.IntN.{pos}
 use Rattle.answers.specs.declared.Int.the-variants.{Number}

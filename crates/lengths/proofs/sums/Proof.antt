@@ -4,8 +4,8 @@ use Rattle.sam.specs.Op.{refLen, queryLen}
 use Rattle.lists.proofs.Walks.{sum-step, sum-done}
 use Rattle.lists.specs.Lists.{sumOf}
 use lib.ListN.{length, drop}
-use Prim.Native.Nat.{ℕ, _+_, _-_, _*_, _≤_}
-use mathlib.Core.Path.{_≡_, refl, ap, sym, _∙_}
+use Prim.Native.Nat.{_+_, _-_, _*_, _≤_}
+use mathlib.Core.Path.{_≡_}
 use native.Mathlib.Omega.{arith}
 use Rattle.lengths.proofs.sums.Statement.{statement}
 use Rattle.lengths.proofs.sums.Tie as tie

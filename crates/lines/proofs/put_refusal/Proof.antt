@@ -1,7 +1,7 @@
 -- The word, the number behind a tab, and the end of the line.
 use Prim.Native.Nat.{ℕ, _+_}
-use mathlib.Core.Path.{_≡_, refl, sym, ap, _∙_}
-use mathlib.Core.List.{List, [], _∷_, _++_}
+use mathlib.Core.Path.{refl, ap}
+use mathlib.Core.List.{[], _∷_, _++_}
 use native.Mathlib.Omega.{arith}
 use Rattle.print.specs.Text.{decimal}
 use Rattle.lines.specs.Line.{tabbed}

@@ -1,14 +1,14 @@
 -- Field behind field, and the end of the line.
-use Prim.Native.Nat.{ℕ, _+_}
-use mathlib.Core.Path.{_≡_, refl, sym, ap, _∙_}
-use mathlib.Core.List.{List, [], _∷_, _++_}
+use Prim.Native.Nat.{ℕ}
+use mathlib.Core.Path.{_≡_, refl, ap}
+use mathlib.Core.List.{[], _∷_}
 use native.Mathlib.Omega.{arith}
 use lib.IntN.{ℤ}
 use mir.Syntax.{w32}
 use mir.Val.{toZ, ofZ}
 use Rattle.print.specs.Text.{decimal}
 use Rattle.puts.specs.Puts.{signedDecimal}
-use Rattle.lines.specs.Line.{tabbed, oneIf}
+use Rattle.lines.specs.Line.{tabbed}
 use Rattle.puts.proofs.PutLaws.{put-then, put-as}
 use borrow.Author.Needs.{needs}
 use Rattle.lines.proofs.put_row.Statement.{statement}

@@ -13,7 +13,6 @@ use Rattle.sam.specs.Op.{refLen, queryLen}
 use Rattle.sam.specs.Record.{recordOps, opsEnd}
 use Rattle.oplist.proofs.OpsLaws.{lies, overruns}
 use Rattle.lengths.specs.Lengths.{checkedRefLength}
-use Rattle.answers.specs.declared.Refusal.the-variants.{AreaOverrun, Overflow}
 use Rattle.answers.specs.declared.Int.the-variants as Int
 use Rattle.answers.specs.declared.Nat.the-variants as Nat
 use Rattle.ends.specs.declared.Place1.the-variants as Place1

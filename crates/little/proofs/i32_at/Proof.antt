@@ -1,5 +1,5 @@
 -- Two's complement of the four bytes.
-use mathlib.Core.Path.{_≡_, ap, _∙_}
+use mathlib.Core.Path.{ap, _∙_}
 use borrow.Author.Needs.{needs}
 use Rattle.signed.specs.Whole.{twos32}
 use Rattle.little.proofs.i32_at.Statement.{statement}

@@ -1,7 +1,7 @@
 use borrow.Author.Tests.{leb-true, leb-false}
 use lib.ListN.{length, length-take}
 use Rattle.oplist.proofs.OpsLaws.{in-is, over-is, out-is, length-opsIn}
-use mathlib.Core.Path.{_≡_, refl, ap, sym, _∙_}
+use mathlib.Core.Path.{ap, sym, _∙_}
 use native.Mathlib.Omega.{arith}
 use borrow.Author.Needs.{needs}
 use Rattle.oplist.proofs.count.Statement.{statement}

@@ -1,6 +1,5 @@
 use Rattle.oplist.proofs.OpsLaws.{whole}
-use mathlib.Core.Path.{_≡_, refl, ap, sym, _∙_}
-use native.Mathlib.Omega.{arith}
+use mathlib.Core.Path.{refl}
 use borrow.Author.Needs.{needs}
 use Rattle.oplist.proofs.lent.Statement.{statement}
 use Rattle.oplist.proofs.lent.Tie as tie

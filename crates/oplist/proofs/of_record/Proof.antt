@@ -1,6 +1,6 @@
 -- The struct holds the record's own place and count.
 use Prim.Native.Nat.{ℕ, _+_}
-use mathlib.Core.Path.{_≡_, refl, ap}
+use mathlib.Core.Path.{refl, ap}
 use borrow.Author.Needs.{needs}
 use Rattle.oplist.proofs.OpsLaws.{record-is}
 use Rattle.oplist.proofs.of_record.Statement.{statement}

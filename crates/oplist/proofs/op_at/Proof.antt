@@ -1,5 +1,5 @@
 use Rattle.oplist.proofs.OpsLaws.{in-fits, out-fits, get-in, get-out}
-use mathlib.Core.Path.{_≡_, refl, ap, sym, _∙_}
+use mathlib.Core.Path.{_∙_}
 use native.Mathlib.Omega.{arith}
 use Rattle.oplist.proofs.op_at.Statement.{statement}
 use Rattle.oplist.proofs.op_at.Tie as tie

@@ -1,9 +1,8 @@
 use Rattle.oplist.specs.Ops.{opsOf}
 use Rattle.lists.proofs.ListLaws.{at-start, at-end}
 use lib.ListN.{getD}
-use Prim.Native.Nat.{ℕ, _+_, _-_, _*_, _≤_}
-use mathlib.Core.Path.{_≡_, refl, ap, sym, _∙_}
-use native.Mathlib.Omega.{arith}
+use Prim.Native.Nat.{ℕ, _+_, _-_}
+use mathlib.Core.Path.{ap, _∙_}
 use borrow.Author.Needs.{needs}
 use Rattle.oplist.proofs.op_from.Statement.{statement}
 use Rattle.oplist.proofs.op_from.Tie as tie

@@ -1,6 +1,5 @@
 -- The test is the table.
 use Rattle.ops.proofs.CodeLaws.{clip-code}
-use borrow.Author.Needs.{needs}
 use Rattle.ops.proofs.is_clip.Statement.{statement}
 use Rattle.ops.proofs.is_clip.Tie as tie
 

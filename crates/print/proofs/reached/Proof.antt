@@ -1,5 +1,4 @@
 -- By the test.
-use borrow.Author.Needs.{needs}
 use borrow.Author.Tests.{lt-ltb, le-ltb}
 use native.Mathlib.Omega.{arith}
 use Rattle.print.proofs.reached.Statement.{statement}

@@ -1,5 +1,5 @@
 -- The raised number lies as far from 2^31 as the number from 0.
-use mathlib.Core.Path.{_≡_, sym, _∙_}
+use mathlib.Core.Path.{_≡_}
 use native.Mathlib.Omega.{arith}
 use mir.Facts.{toZ-ofZ}
 use Rattle.signed.specs.Whole.{raised}

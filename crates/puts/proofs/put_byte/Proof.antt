@@ -1,6 +1,4 @@
 -- One store.
-use Prim.Native.Nat.{_+_}
-use mathlib.Core.Path.{refl}
 use mathlib.Core.List.{[], _∷_}
 use native.Mathlib.Omega.{arith}
 use Rattle.puts.proofs.PutLaws.{put-sets}

@@ -1,5 +1,4 @@
 -- The tab, then the number behind it.
-use Prim.Native.Nat.{_+_}
 use mathlib.Core.List.{[], _∷_}
 use native.Mathlib.Omega.{arith}
 use Rattle.print.specs.Text.{decimal}

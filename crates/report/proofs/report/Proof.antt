@@ -1,5 +1,5 @@
 -- The lent memory stays as long as it was, and a turn counts no more records than it has bytes at hand.
-use Prim.Native.Nat.{ℕ, _*_, _-_, _≤_}
+use Prim.Native.Nat.{_*_, _-_, _≤_}
 use mathlib.Core.Path.{_≡_, refl}
 use native.Mathlib.Omega.{arith}
 use lib.ListN.{length}

@@ -1,10 +1,9 @@
 -- The two tests are those of the definition.
-use mathlib.Core.Path.{_≡_, sym, _∙_}
-use mathlib.Core.Bool.{true, false}
+use mathlib.Core.Path.{sym}
 use native.Mathlib.Omega.{arith}
 use lib.IntN.{pos, negsuc}
 use Prim.Native.Nat.{_+_, _≤_}
-use mir.Syntax.{w32, w64}
+use mir.Syntax.{w32}
 use mir.Val.{SFits}
 use mir.Facts.{toZ-ofZ}
 use Rattle.signed.proofs.Halves.{up, dn, is-lt, is-ge, sfits32}

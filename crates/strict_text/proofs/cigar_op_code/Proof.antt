@@ -1,6 +1,6 @@
 -- The two words hold the codes of the bytes 61 to 88; every other byte has code 9.
 use Prim.Native.Nat.{ℕ, _-_, _/_, _%_, _*_, _^_}
-use mathlib.Core.Path.{_≡_, ap, _∙_}
+use mathlib.Core.Path.{ap, _∙_}
 use native.Mathlib.Omega.{arith}
 use borrow.Author.Needs.{needs}
 use Rattle.strict_text.proofs.LetterLaws.{code-below, code-above, code-between}

@@ -1,12 +1,12 @@
 -- The op's test is the class's.
-use Prim.Native.Nat.{ℕ, _%_}
+use Prim.Native.Nat.{_%_}
 use mathlib.Core.Path.{_≡_, refl, sym, ap, _∙_}
 use mathlib.Core.Bool.{Bool, cond}
 use native.Mathlib.Omega.{arith}
 use borrow.Author.Needs.{needs}
 use Rattle.sam.specs.Op.{isRef}
 use Rattle.strict_text.specs.Pass.{codeClass, refOf}
-use Rattle.strict_text.proofs.ClipLaws.{refB, class-ref}
+use Rattle.strict_text.proofs.ClipLaws.{class-ref}
 use Rattle.strict_text.proofs.PassLaws.{ref-by}
 use Rattle.strict_text.proofs.ref_bases.Statement.{statement}
 use Rattle.strict_text.proofs.ref_bases.Tie as tie

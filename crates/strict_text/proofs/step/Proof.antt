@@ -1,6 +1,6 @@
 -- The tests of the code are those of its class.
 use Prim.Native.Nat.{_%_}
-use mathlib.Core.Path.{_≡_, sym, ap, _∙_}
+use mathlib.Core.Path.{sym, ap, _∙_}
 use native.Mathlib.Omega.{arith}
 use borrow.Author.Needs.{needs}
 use Rattle.sam.specs.Op.{isRef}

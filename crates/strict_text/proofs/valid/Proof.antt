@@ -1,6 +1,6 @@
 -- What the ops from i on are to the place is what all are to the rules.
 use Prim.Native.Nat.{ℕ, _+_, _-_, _≤_}
-use mathlib.Core.Path.{_≡_, refl, sym, ap, _∙_}
+use mathlib.Core.Path.{_≡_, sym, ap, _∙_}
 use native.Mathlib.Omega.{arith}
 use borrow.Author.Needs.{needs}
 use lib.ListN.{length, drop}
@@ -8,7 +8,7 @@ use mathlib.Core.List.{List, _∷_}
 use Rattle.lists.proofs.Walks.{step, done}
 use Rattle.oplist.specs.Ops.{opsOf}
 use Rattle.strict_text.specs.Valid.{validMapped}
-use Rattle.strict_text.specs.Pass.{codeClass, stepOf, acceptOf}
+use Rattle.strict_text.specs.Pass.{stepOf, acceptOf}
 use Rattle.strict_text.specs.declared.Place.{Place}
 use Rattle.strict_text.proofs.ClipLaws.{run, valid-run, short-class, unknown-run, long-run}
 use Rattle.strict_text.proofs.PassLaws.{wrong-accept}
