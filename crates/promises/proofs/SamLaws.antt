@@ -3,7 +3,7 @@
 use Prim.Native.Nat.{ℕ, _-_, _<_, _≤_}
 use mathlib.Core.Path.{_≡_, refl}
 use mathlib.Core.Bool.{Bool, true, false}
-use mathlib.Core.List.{List, [], _∷_}
+use mathlib.Core.List.{List}
 use lib.IntN.{pos}
 use lib.ListN.{getD}
 use Rattle.lists.specs.Lists.{facing, sumOf}
@@ -24,7 +24,7 @@ use Rattle.strict_text.specs.Meaning.{Each, Mapped, MappedText, withoutZeros}
 use Rattle.strict_text.proofs.GrammarLaws as Strict
 use Rattle.strict_text.proofs.ValidLaws as Valid
 use Rattle.strict_text.proofs.RoundTrip as Round
-use Rattle.mate_text.specs.Readers.{Short, Agree}
+use Rattle.mate_text.specs.Readers.{Agree}
 use Rattle.mate_text.proofs.Agree as Mate
 use Rattle.lookup.specs.Lookup.{lookup}
 use Rattle.lookup.specs.Meaning.{Reads}
@@ -88,11 +88,7 @@ valid-takes xs m = Valid.mapped-valid xs m
 
 -- the mate text's reader agrees with the list on each text that the strict reader takes
 pub mate-agrees : (s : List ℕ) → strict s ≡ true → Agree s (textOps s)
-mate-agrees s e = let m = Strict.accepts s e in Mate.readers-agree (m .spells) (short (textOps s) (m .fits))
-  where
-    short : (xs : List ℕ) → Each (λ o. lenOf o ≤ 268435455) xs → Short xs
-    short [] h = tt
-    short (x ∷ xs) h = (h .0, short xs (h .1))
+mate-agrees s e = let m = Strict.accepts s e in Mate.readers-agree (m .spells) (m .fits)
 
 -- ---- clip placement
 
