@@ -1,22 +1,24 @@
 -- A record that is at hand stays the next whatever follows; so lines that were put stay the first that are printed.
-use Prim.Native.Nat.{ℕ, suc, _+_, _-_, _≤_, _<_}
+use Prim.Native.Nat.{ℕ, zero, suc, _+_, _-_, _≤_, _<_}
 use mathlib.Core.Path.{_≡_, refl, sym, ap, _∙_, subst}
 use mathlib.Core.Bool.{Bool, true, false, cond}
-use mathlib.Core.List.{List, [], _∷_, _++_, append-assoc}
+use mathlib.Core.Logic.{_⊎_, inl, inr}
+use mathlib.Core.List.{List, [], _∷_, _++_, append-assoc, append-nil}
 use native.Mathlib.Omega.{arith}
 use lib.Dec.{ltb, eqb}
 use lib.ListN.{length, take, drop, getD, set, length-append, length-take, length-drop, length-set}
 use lib.Seq.{drop-append-le, take-append-le, drop-drop, take-take, length-take-le, getD-drop, take-suc, take-suc-set, drop-set-lt}
-use borrow.Author.Tests.{le-ltb, ne-eqb, ltb-false}
+use borrow.Author.Tests.{lt-ltb, le-ltb, ne-eqb, eqb-true, ltb-true, ltb-false}
 use Rattle.lists.proofs.Walks.{done}
 use Rattle.sam.specs.Record.{le32}
 use Rattle.little.proofs.FrontLaws.{front-number}
 use Rattle.lines.specs.Line.{lineOf}
 use Rattle.puts.specs.Puts.{Put}
-use Rattle.frames.specs.Stream.{nextIn, soFar, Reports, Reports.line}
-use Rattle.frames.specs.Inner.{Gone}
+use Rattle.frames.specs.Stream.{nextIn, soFar, closing, Reports, Reports.line, Reports.over, Reports.short, Reports.none}
+use Rattle.frames.specs.Inner.{Gone, Went, goesOn}
 use Rattle.frames.specs.declared.Next.{Next}
 use Rattle.frames.specs.declared.Next.the-variants.{Record, TooLong, CutShort, End, More}
+use Rattle.frames.specs.declared.Block.{Block}
 
 -- ---- a record that is next
 
@@ -59,9 +61,68 @@ far-record false CutShort size e = let z : _≡_ {A = ℕ} 0 1 = cc in absurd (o
 far-record false End size e = let z : _≡_ {A = ℕ} 0 1 = cc in absurd (omega arith)
 far-record false More size e = let z : _≡_ {A = ℕ} 0 1 = cc in absurd (omega arith)
 
+-- ---- where reading ends, and where it goes on
+
+-- a size that is too long stays so, whatever follows
+pub over-more : (s ys : List ℕ) → nextIn s ≡ TooLong → nextIn (s ++ ys) ≡ TooLong
+unfolding nextIn
+over-more s ys e = go (eqb (length s) 0) (ltb (length s) 4) refl (ltb 32768 (le32 s 0)) refl (ltb (length s) (4 + le32 s 0)) e
+  where
+    more : 4 ≤ length s → 32768 < le32 s 0 → nextIn (s ++ ys) ≡ TooLong
+    more h k =
+        let l = length-append s ys in
+        let f = front-number s ys h in
+        simp (ne-eqb (length (s ++ ys)) 0 (omega arith), le-ltb (length (s ++ ys)) 4 (omega arith), lt-ltb 32768 (le32 (s ++ ys) 0) (omega arith))
+
+    go : (a b : Bool) → ltb (length s) 4 ≡ b → (c : Bool) → ltb 32768 (le32 s 0) ≡ c → (d : Bool)
+        → cond a End (cond b CutShort (cond c TooLong (cond d CutShort (Record (le32 s 0))))) ≡ TooLong → nextIn (s ++ ys) ≡ TooLong
+    go true b p c q d f = let z : _≡_ {A = ℕ} 0 1 = cc in absurd (omega arith)
+    go false true p c q d f = let z : _≡_ {A = ℕ} 0 1 = cc in absurd (omega arith)
+    go false false p true q d f = more (ltb-false (length s) 4 p) (ltb-true 32768 (le32 s 0) q)
+    go false false p false q true f = let z : _≡_ {A = ℕ} 0 1 = cc in absurd (omega arith)
+    go false false p false q false f = let z : _≡_ {A = ℕ} 0 1 = cc in absurd (omega arith)
+
+-- the last lines are those of the stream, whatever follows the bytes at hand
+pub ends-there : (whole : Bool) (n : ℕ) (s ys : List ℕ) → (whole ≡ true → ys ≡ []) → goesOn (soFar whole (nextIn s)) ≡ false → Reports n (s ++ ys) (closing (soFar whole (nextIn s)) n)
+ends-there whole n s ys f h = go whole f (nextIn s) refl h
+  where
+    all : ys ≡ [] → s ≡ s ++ ys
+    all e = sym (ap (λ (l : List ℕ). s ++ l) e ∙ append-nil s)
+
+    go : (b : Bool) → (b ≡ true → ys ≡ []) → (w : Next) → nextIn s ≡ w → goesOn (soFar b w) ≡ false → Reports n (s ++ ys) (closing (soFar b w) n)
+    go true f (Record k) e h = let z : _≡_ {A = ℕ} 0 1 = cc in absurd (omega arith)
+    go true f TooLong e h = Reports.over (over-more s ys e)
+    go true f CutShort e h = subst (λ (l : List ℕ). Reports n l (closing CutShort n)) (all (f refl)) (Reports.short e)
+    go true f End e h = subst (λ (l : List ℕ). Reports n l (closing End n)) (all (f refl)) (Reports.none e)
+    go true f More e h = let z : _≡_ {A = ℕ} 0 1 = cc in absurd (omega arith)
+    go false f (Record k) e h = let z : _≡_ {A = ℕ} 0 1 = cc in absurd (omega arith)
+    go false f TooLong e h = Reports.over (over-more s ys e)
+    go false f CutShort e h = let z : _≡_ {A = ℕ} 0 1 = cc in absurd (omega arith)
+    go false f End e h = let z : _≡_ {A = ℕ} 0 1 = cc in absurd (omega arith)
+    go false f More e h = let z : _≡_ {A = ℕ} 0 1 = cc in absurd (omega arith)
+
+-- no more has to be read where all is at hand, or as much as the longest record takes
+pub no-more : (whole : Bool) (s : List ℕ) → (whole ≡ true) ⊎ (32772 ≤ length s) → soFar whole (nextIn s) ≡ More → ⊥
+unfolding nextIn
+no-more whole s h e = go whole h (eqb (length s) 0) refl (ltb (length s) 4) refl (ltb 32768 (le32 s 0)) refl (ltb (length s) (4 + le32 s 0)) refl e
+  where
+    go : (w : Bool) → (w ≡ true) ⊎ (32772 ≤ length s) → (a : Bool) → eqb (length s) 0 ≡ a → (b : Bool) → ltb (length s) 4 ≡ b → (c : Bool) → ltb 32768 (le32 s 0) ≡ c
+        → (d : Bool) → ltb (length s) (4 + le32 s 0) ≡ d → soFar w (cond a End (cond b CutShort (cond c TooLong (cond d CutShort (Record (le32 s 0)))))) ≡ More → ⊥
+    go true h true o b p c q d r f = let z : _≡_ {A = ℕ} 0 1 = cc in omega arith
+    go true h false o true p c q d r f = let z : _≡_ {A = ℕ} 0 1 = cc in omega arith
+    go true h false o false p true q d r f = let z : _≡_ {A = ℕ} 0 1 = cc in omega arith
+    go true h false o false p false q true r f = let z : _≡_ {A = ℕ} 0 1 = cc in omega arith
+    go true h false o false p false q false r f = let z : _≡_ {A = ℕ} 0 1 = cc in omega arith
+    go false (inl k) a o b p c q d r f = let z : _≡_ {A = ℕ} 0 1 = cc in omega arith
+    go false (inr k) true o b p c q d r f = omega (arith, eqb-true (length s) 0 o)
+    go false (inr k) false o true p c q d r f = omega (arith, ltb-true (length s) 4 p)
+    go false (inr k) false o false p true q d r f = let z : _≡_ {A = ℕ} 0 1 = cc in omega arith
+    go false (inr k) false o false p false q true r f = omega (arith, ltb-false 32768 (le32 s 0) q, ltb-true (length s) (4 + le32 s 0) r)
+    go false (inr k) false o false p false q false r f = let z : _≡_ {A = ℕ} 0 1 = cc in omega arith
+
 -- ---- lines that were put
 
-pub gone-start : (s : List ℕ) (records : ℕ) (d : List ℕ) (at : ℕ) → at ≤ length d → Gone s records d at 0 records at d
+pub gone-start : (s : List ℕ) (records : ℕ) (d : List ℕ) (at : ℕ) → at ≤ 131072 → Gone s records d at 0 records at d
 gone-start s records d at h = record {
   within = omega arith;
   counted = omega arith;
@@ -69,6 +130,7 @@ gone-start s records d at h = record {
   upto = h;
   same = refl;
   kept = refl;
+  earned = λ l. omega arith;
   lines = λ ys t p. subst (λ (l : List ℕ). Reports records (s ++ ys) (l ++ t)) (sym (done (take at d) at (simp length-take (omega arith)))) p;
 }
 
@@ -91,9 +153,9 @@ module _ (s : List ℕ) (used size : ℕ) (e : nextIn (drop used s) ≡ Record s
       subst (λ (l : List ℕ). Reports n (drop used s ++ ys) (lineOf (n + 1) l ++ t)) h
       (Reports.line (next-more (drop used s) ys size e) (subst (λ (l : List ℕ). Reports (n + 1) l t) (sym g) p))
 
-  pub gone-turn : {records at n put put' : ℕ} {d d₁ d₂ : List ℕ} → Gone s records d at used n put d₁ → Put d₁ put (lineOf (n + 1) (take size (drop (used + 4) s))) put' d₂ → put' ≤ length d
+  pub gone-turn : {records at n put put' : ℕ} {d d₁ d₂ : List ℕ} → Gone s records d at used n put d₁ → Put d₁ put (lineOf (n + 1) (take size (drop (used + 4) s))) put' d₂ → 131072 ≤ length d → put' ≤ 131072
       → Gone s records d at (used + 4 + size) (n + 1) put' d₂
-  gone-turn {records} {at} {n} {put} {put'} {d} {d₁} {d₂} g p h =
+  gone-turn {records} {at} {n} {put} {put'} {d} {d₁} {d₂} g p w h =
       let L = lineOf (n + 1) (take size (drop (used + 4) s)) in
       let b = g .from in
       let k : length (take put d₁) ≡ put = length-take-le put d₁ (omega (arith, g .upto, g .same)) in
@@ -109,11 +171,24 @@ module _ (s : List ℕ) (used size : ℕ) (e : nextIn (drop used s) ≡ Record s
             ∙ take-append-le at (take put d₁) L (omega arith)
             ∙ take-take at put d₁ b
             ∙ g .kept;
+        earned = λ l. omega arith;
         lines = λ ys t q.
             subst (λ (l : List ℕ). Reports records (s ++ ys) l)
             (sym (append-assoc (drop at (take put d₁)) L t) ∙ ap (λ (l : List ℕ). l ++ t) (sym (drop-append-le at (take put d₁) L (omega arith)) ∙ ap (drop at) (sym m)))
             (g .lines ys (L ++ t) (line-first n ys t q));
       }
+
+-- reading goes on behind a record, unless more has to be read
+pub went-on : {s d d' : List ℕ} {whole : Bool} {records at : ℕ} {r : Block} → Went s whole records d at r d' → at ≤ 65280 → goesOn (r .next) ≡ true → (whole ≡ true) ⊎ (32772 ≤ length s) → 0 < r .used
+went-on {s} {whole = whole} {at = at} {r} w h e k = go (r .next) refl e (r .used) refl
+  where
+    go : (x : Next) → r .next ≡ x → goesOn x ≡ true → (n : ℕ) → r .used ≡ n → 0 < n
+    go x p q (suc n) u = omega arith
+    go (Record size) p q zero u = let l = w .gone .earned (omega (arith, w .full size p)) in absurd (omega arith)
+    go TooLong p q zero u = let z : _≡_ {A = ℕ} 0 1 = cc in absurd (omega arith)
+    go CutShort p q zero u = let z : _≡_ {A = ℕ} 0 1 = cc in absurd (omega arith)
+    go End p q zero u = let z : _≡_ {A = ℕ} 0 1 = cc in absurd (omega arith)
+    go More p q zero u = absurd (no-more whole s k (ap (λ (n : ℕ). soFar whole (nextIn (drop n s))) (sym u) ∙ sym (w .next) ∙ p))
 
 -- ---- bytes that are moved to the front
 

@@ -1,5 +1,5 @@
 -- What a block of input promises, wherever a stream is cut into blocks. Document 01's rule is `Stream`.
-use Prim.Native.Nat.{ℕ, _+_, _≤_}
+use Prim.Native.Nat.{ℕ, _+_, _≤_, _<_}
 use mathlib.Core.Path.{_≡_}
 use mathlib.Core.Bool.{Bool, true, false}
 use mathlib.Core.List.{List, _++_}
@@ -15,15 +15,17 @@ pub record Gone (s : List ℕ) (records : ℕ) (d : List ℕ) (at used n put : �
   pub within : used ≤ length s
   pub counted : n ≤ records + used
   pub from : at ≤ put
-  pub upto : put ≤ length d
+  pub upto : put ≤ 131072
   pub same : length d' ≡ length d
   pub kept : take at d' ≡ take at d
+  pub earned : at < put → 0 < used
   pub lines : (ys t : List ℕ) → Reports n (drop used s ++ ys) t → Reports records (s ++ ys) (drop at (take put d') ++ t)
 
--- and what comes next
+-- As far as the records at hand and the room go: what comes next is told, and a record that is at hand is left only where there is no room for a line more.
 pub record Went (s : List ℕ) (whole : Bool) (records : ℕ) (d : List ℕ) (at : ℕ) (r : Block) (d' : List ℕ) : Type 0 where
   pub gone : Gone s records d at (r .used) (r .records) (r .put) d'
   pub next : r .next ≡ soFar whole (nextIn (drop (r .used) s))
+  pub full : (size : ℕ) → r .next ≡ Record size → 65280 < r .put
 
 abbrev pub goesOn : Next → Bool
 goesOn (Record size) = true

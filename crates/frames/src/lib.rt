@@ -95,7 +95,7 @@ pub fn comes_next(s: &[u8], whole: bool) -> Next
 pub fn lines_at_hand(s: &[u8], whole: bool, records: u64, out: &mut [u8], at: usize) -> Block
     requires { ⌜ records + length (now s) ≤ 18446744073709551615 ⌝ }
     requires { ⌜ 131072 ≤ length (now out) ⌝ }
-    requires { ⌜ at ≤ length (now out) ⌝ }
+    requires { ⌜ at ≤ 65280 ⌝ }
     ensures { λ r. ⌜ Went (now (s .entry)) whole records (now (out .entry)) at r (now (out .exit)) ⌝ }
 {
     let mut used: usize = 0;

@@ -2,10 +2,12 @@
 use Prim.Native.Nat.{ℕ, _+_, _-_, _≤_}
 use mathlib.Core.Path.{_≡_, refl, sym, ap, _∙_}
 use mathlib.Core.Bool.{Bool}
-use mathlib.Core.List.{List}
+use mathlib.Core.Logic.{inl, inr}
+use mathlib.Core.List.{List, [], _∷_}
 use native.Mathlib.Omega.{arith}
 use lib.ListN.{length, take, drop, length-drop}
 use lib.Seq.{take-all}
+use types.Run.{OneOf}
 use Rattle.lines.specs.Line.{lineOf}
 use Rattle.puts.proofs.PutLaws.{put-as}
 use Rattle.frames.specs.Stream.{nextIn, soFar}
@@ -44,6 +46,13 @@ in-it c =
     let l = c .before .before .before .before .before in
     record-in (l .before .before .before .args .s .now) (l .loop .used) (c .next .given .0 .0) (is-next c)
 
+-- a record is none of the other variants
+another : OneOf (1 ∷ 2 ∷ 3 ∷ 4 ∷ []) 0 → ⊥
+another (inl e) = omega arith
+another (inr (inl e)) = omega arith
+another (inr (inr (inl e))) = omega arith
+another (inr (inr (inr e))) = omega arith
+
 loop-holds : tie.Need-loop-holds Inv-loop μ-loop
 loop-holds c = let a = c .before .before .args in gone-start (a .s .now) (a .records) (a .out .now) (a .at) (omega arith)
 
@@ -66,7 +75,7 @@ same-length : tie.Need-same-length Inv-loop μ-loop
 same-length c = c .before .before .before .before .loop .inv .same
 
 returns : tie.Need-returns Inv-loop μ-loop
-returns c = record { gone = c .before .before .before .before .loop .inv; next = at-hand (c .before) }
+returns c = record { gone = c .before .before .before .before .loop .inv; next = at-hand (c .before); full = λ size e. absurd (another (rw e at (c .match .keys2))) }
 
 add-from : tie.Need-add-from Inv-loop μ-loop
 add-from c = omega arith
@@ -103,7 +112,7 @@ loop-again c =
     let size = x .next .given .0 .0 in
     let e : l .loop .used + 4 + size - (l .loop .used + 4) ≡ size = omega arith in
     let p = put-as _ (ap (λ (k : ℕ). lineOf (l .loop .n + 1) (take k (drop (l .loop .used + 4) (a .s .now)))) e) refl refl (y .line .ensures .0) in
-    gone-turn (a .s .now) (l .loop .used) size (is-next x) (l .loop .inv) p (omega (arith, y .line .ensures .1, x .before .before .before .before .loop-test .taken))
+    gone-turn (a .s .now) (l .loop .used) size (is-next x) (l .loop .inv) p (omega arith) (omega (arith, y .line .ensures .1, x .before .before .before .before .loop-test .taken))
 
 sub-comes-next-2 : tie.Need-sub-comes-next-2 Inv-loop μ-loop
 sub-comes-next-2 c = omega arith
@@ -123,7 +132,11 @@ same-length-2 c = c .before .before .before .loop .inv .same
 returns-2 : tie.Need-returns-2 Inv-loop μ-loop
 returns-2 c =
     let l = c .before .before .before in
-    record { gone = l .loop .inv; next = c .comes-next2 .ensures ∙ all-of (l .before .before .before .args .s .now) (l .loop .used) (l .before .before .before .args .whole) }
+    record {
+      gone = l .loop .inv;
+      next = c .comes-next2 .ensures ∙ all-of (l .before .before .before .args .s .now) (l .loop .used) (l .before .before .before .args .whole);
+      full = λ size e. omega arith;
+    }
 
 pub lines-at-hand-spec : {M : Type 1} → statement M
 lines-at-hand-spec =
