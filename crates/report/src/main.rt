@@ -1,8 +1,13 @@
-// Document 01's program: standard input is a stream of records, and a line is written for each. What is written is said by the crates `frames` and `lines`; this
-// only reads and writes, in blocks. A write that fails ends the program, and a read that fails leaves the stream cut short.
+// Document 01's program: standard input is a stream of records, and a line is written for each. What is written is said by the crates `frames` and `lines`, and specs/Run.antt says what the turns
+// come to: this reads and writes, in blocks. A write that fails ends the program, and a read that fails leaves the stream cut short.
 ghost use mathlib.Core.Path.{_≡_};
+ghost use mathlib.Core.Bool.{true, false};
 ghost use Prim.Native.Nat.{_+_, _≤_, _<_};
-ghost use lib.ListN.{length};
+ghost use lib.IntN.{pos};
+ghost use lib.ListN.{length, take};
+ghost use lib.Signed.{ltZ};
+ghost use Rattle.frames.specs.Stream.{isMarked};
+ghost use Rattle.report.specs.Run.{badInput, lastWord, begun, Refilled, Turned, dueOf, relievedOf, Came};
 use frames::Next;
 
 // The most bytes that a record and its size take: with so many at hand none has to be read.
@@ -11,174 +16,226 @@ const ENOUGH: usize = 32772;
 // No stream takes so many turns; each reads a block or writes one.
 const MOST_TURNS: u64 = 140737488355328;
 
-// The bytes at hand, whether they are all that is left, and whether a read failed.
-struct Input {
+// The bytes at hand, whether they are all that is left, and whether a read failed; the records so far, the bytes that wait to be written, and whether reading goes on.
+struct State {
     have: usize,
     whole: bool,
     failed: bool,
-}
-
-// That, the records so far, and the bytes that wait to be written; or that the program is done.
-struct State {
-    input: Input,
     records: u64,
     put: usize,
     going: bool,
 }
 
-// Room for a block of output and one line more.
-fn output() -> [u8; 131072]
-    ensures { λ r. ⌜ 131072 ≡ length r ⌝ }
+// The state behind a write, and whether it went well.
+struct Behind {
+    state: State,
+    ok: bool,
+}
+
+// Room for a block of output, one line more, and the last lines.
+fn output() -> [u8; 131328]
+    ensures { λ r. ⌜ 131328 ≡ length r ⌝ }
 {
-    [0; 131072]
+    [0; 131328]
+}
+
+fn bad_input() -> [u8; 10]
+    ensures { λ r. ⌜ r ≡ badInput ⌝ }
+{
+    [b'b', b'a', b'd', b' ', b'i', b'n', b'p', b'u', b't', b'\n']
+}
+
+fn start() -> State
+    ensures { λ r. ⌜ r ≡ begun ⌝ }
+{
+    State {
+        have: 0,
+        whole: false,
+        failed: false,
+        records: 0,
+        put: 0,
+        going: true,
+    }
+}
+
+// Whether a call failed, by what it answered.
+fn failed(got: isize) -> bool
+    ensures { λ r. ⌜ r ≡ ltZ got (pos 0) ⌝ }
+{
+    got < 0
 }
 
 // Reads behind the bytes at hand, unless a whole record is there or nothing is left.
-fn refill(input: Input, block: &mut [u8]) -> Input
+fn refill(s: State, block: &mut [u8]) -> State
     requires { ⌜ 65536 ≡ length (now block) ⌝ }
-    requires { ⌜ input .have ≤ 65536 ⌝ }
+    requires { ⌜ s .have ≤ 65536 ⌝ }
+    ensures { λ r. ⌜ Refilled s (now (block .entry)) r (now (block .exit)) ⌝ }
     ensures { λ r. ⌜ r .have ≤ 65536 ⌝ }
 {
-    let have = input.have;
+    let have = s.have;
     if ENOUGH <= have {
-        return input;
+        return s;
     }
-    if input.whole {
-        return input;
+    if s.whole {
+        return s;
     }
     let part = &mut block[have..];
     let got = libc::read(0, part);
     let n = io::count(got, part);
-    Input {
+    State {
         have: have + n,
         whole: n == 0,
-        failed: got < 0,
-    }
-}
-
-// The bytes that still wait, and whether a write went well.
-struct Flushed {
-    put: usize,
-    ok: bool,
-}
-
-// Writes what waits where there is no room for a line more.
-fn flush(out: &[u8], put: usize) -> Flushed
-    requires { ⌜ put ≤ length (now out) ⌝ }
-    ensures { λ r. ⌜ r .put ≤ 65280 ⌝ }
-{
-    if put <= frames::FULL {
-        return Flushed { put: put, ok: true };
-    }
-    Flushed {
-        put: 0,
-        ok: io::write_all(1, &out[..put]),
+        failed: failed(got),
+        records: s.records,
+        put: s.put,
+        going: s.going,
     }
 }
 
 // What a stream ends with whose end could not be read.
-fn unread(next: Next, failed: bool) -> Next {
+fn last_word(next: Next, failed: bool) -> Next
+    ensures { λ r. ⌜ r ≡ lastWord next failed ⌝ }
+{
     if failed {
         return Next::CutShort;
     }
     next
 }
 
-// Writes the last lines.
-fn finish(next: Next, records: u64, out: &mut [u8], put: usize)
-    requires { ⌜ 131072 ≡ length (now out) ⌝ }
-    requires { ⌜ put ≤ 65280 ⌝ }
-{
-    let end = frames::close(next, records, out, put);
-    io::write_all(1, &out[..end]);
-}
-
-fn done() -> State
-    ensures { λ r. ⌜ (r .input .have ≤ 65536) × (r .put ≤ 65280) × (r .records ≡ 0) ⌝ }
-{
-    State {
-        input: Input {
-            have: 0,
-            whole: true,
-            failed: false,
-        },
-        records: 0,
-        put: 0,
-        going: false,
-    }
-}
-
-// One block: reads, puts the lines of the records at hand, and writes what there is no more room for.
+// Puts the lines of the records at hand, and the last lines where reading ends; else what is left moves to the front of the block.
 fn turn(s: State, block: &mut [u8], out: &mut [u8]) -> State
     requires { ⌜ 65536 ≡ length (now block) ⌝ }
-    requires { ⌜ 131072 ≡ length (now out) ⌝ }
-    requires { ⌜ (s .input .have ≤ 65536) × (s .put ≤ 65280) × (s .records < 9223372036854775808) ⌝ }
-    ensures { λ r. ⌜ (r .input .have ≤ 65536) × (r .put ≤ 65280) × (r .records ≤ s .records + 65536) ⌝ }
+    requires { ⌜ 131328 ≡ length (now out) ⌝ }
+    requires { ⌜ (s .have ≤ 65536) × (s .put ≤ 65280) × (s .records < 9223372036854775808) ⌝ }
+    ensures { λ r. ⌜ Turned s (now (block .entry)) (now (out .entry)) r (now (block .exit)) (now (out .exit)) ⌝ }
+    ensures { λ r. ⌜ (r .have ≤ s .have) × (r .put ≤ 131328) × (r .records ≤ s .records + 65536) ⌝ }
 {
-    let before = s.input;
-    let input = refill(before, block);
-    let have = input.have;
-    let failed = input.failed;
-    let whole = input.whole;
-    let b = frames::lines_at_hand(&block[..have], whole, s.records, out, s.put);
-    let used = b.used;
+    let have = s.have;
+    let b = frames::lines_at_hand(&block[..have], s.whole, s.records, out, s.put);
     let next = b.next;
-    let flushed = flush(out, b.put);
-    if !flushed.ok {
-        return done();
-    }
     if !frames::goes_on(next) {
-        finish(unread(next, failed), b.records, out, flushed.put);
-        return done();
+        let word = last_word(next, s.failed);
+        let end = frames::close(word, b.records, out, b.put);
+        return State {
+            have: have,
+            whole: s.whole,
+            failed: s.failed,
+            records: b.records,
+            put: end,
+            going: false,
+        };
     }
+    let used = b.used;
     frames::shift(block, used, have);
-    let rest = Input {
-        have: have - used,
-        whole: whole,
-        failed: failed,
-    };
     State {
-        input: rest,
+        have: have - used,
+        whole: s.whole,
+        failed: s.failed,
         records: b.records,
-        put: flushed.put,
+        put: b.put,
         going: true,
+    }
+}
+
+// How many of the bytes that wait are written now: all of them at the end, or where there is no room for a line more.
+fn due(s: State) -> usize
+    ensures { λ r. ⌜ r ≡ dueOf s ⌝ }
+    ensures { λ r. ⌜ r ≤ s .put ⌝ }
+{
+    if !s.going {
+        return s.put;
+    }
+    if s.put <= frames::FULL {
+        return 0;
+    }
+    s.put
+}
+
+// Hands over what is due; the state behind it comes from here alone.
+fn write(s: State, out: &[u8], part: &[u8]) -> Behind
+    requires { ⌜ now part ≡ take (dueOf s) (now out) ⌝ }
+    ensures { λ r. ⌜ (r .state ≡ relievedOf s) × (r .state .put ≤ 65280) ⌝ }
+{
+    let ok = io::write_all(1, part);
+    let behind = relieved(s);
+    Behind {
+        state: behind,
+        ok: ok,
+    }
+}
+
+fn write_due(s: State, out: &[u8]) -> Behind
+    requires { ⌜ s .put ≤ length (now out) ⌝ }
+    ensures { λ r. ⌜ (r .state ≡ relievedOf s) × (r .state .put ≤ 65280) ⌝ }
+{
+    let n = due(s);
+    write(s, out, &out[..n])
+}
+
+// The state behind that write.
+fn relieved(s: State) -> State
+    ensures { λ r. ⌜ r ≡ relievedOf s ⌝ }
+    ensures { λ r. ⌜ r .put ≤ 65280 ⌝ }
+{
+    State {
+        have: s.have,
+        whole: s.whole,
+        failed: s.failed,
+        records: s.records,
+        put: s.put - due(s),
+        going: s.going,
     }
 }
 
 // The records of a stream whose mark is read.
-fn report(block: &mut [u8], out: &mut [u8])
+fn report(block: &mut [u8], out: &mut [u8]) -> Behind
     requires { ⌜ 65536 ≡ length (now block) ⌝ }
-    requires { ⌜ 131072 ≡ length (now out) ⌝ }
+    requires { ⌜ 131328 ≡ length (now out) ⌝ }
+    ensures { λ r. ⌜ (r .ok ≡ true → Came (r .state) (now (block .exit)) (now (out .exit))) ⌝ }
 {
-    let start = Input {
-        have: 0,
-        whole: false,
-        failed: false,
-    };
-    let mut s = State {
-        input: start,
-        records: 0,
-        put: 0,
-        going: true,
-    };
+    let mut s = start();
     let mut turns: u64 = 0;
     while turns < MOST_TURNS {
+        s = refill(s, block);
         s = turn(s, block, out);
+        let behind = write_due(s, out);
+        if !behind.ok {
+            return behind;
+        }
+        s = behind.state;
         if !s.going {
-            return;
+            return behind;
         }
         turns += 1;
     }
+    Behind { state: s, ok: true }
+}
+
+// A stream with another mark.
+fn refuse(first: &[u8])
+    requires { ⌜ isMarked (now first) ≡ false ⌝ }
+{
+    io::write_all(1, &bad_input());
+}
+
+// A stream that begins with its mark.
+fn accept(first: &[u8], block: &mut [u8], out: &mut [u8])
+    requires { ⌜ isMarked (now first) ≡ true ⌝ }
+    requires { ⌜ 65536 ≡ length (now block) ⌝ }
+    requires { ⌜ 131328 ≡ length (now out) ⌝ }
+{
+    report(block, out);
 }
 
 fn main() {
     let mut head = [0u8; 5];
     let got = io::read_full(0, &mut head);
-    if !frames::marked(&head[..got]) {
-        io::write_all(1, b"bad input\n");
+    let first = &head[..got];
+    if !frames::marked(first) {
+        refuse(first);
         return;
     }
     let mut block = io::large_buffer();
     let mut out = output();
-    report(&mut block, &mut out);
+    accept(first, &mut block, &mut out);
 }
