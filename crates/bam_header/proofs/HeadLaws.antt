@@ -140,7 +140,7 @@ unready p s e b = go (ltb 0 (p .skip)) refl e b
         let h = ltb-false 3 (length s) (simp b at f) in
         (omega arith, ap (λ (k : ℕ). past k (fromPart (p .part)) s) z ∙ past-none (fromPart (p .part)) s ∙ part-short (p .part) s b (omega arith))
 
-begun-records : (p : Place) (s : List ℕ) → isBegun p ≡ true → fromPlace p s ≡ Records s
+pub begun-records : (p : Place) (s : List ℕ) → isBegun p ≡ true → fromPlace p s ≡ Records s
 begun-records p s b = go (ltb 0 (p .skip)) refl b
   where
     go : (t : Bool) → ltb 0 (p .skip) ≡ t → cond t false (isRecords (p .part)) ≡ true → fromPlace p s ≡ Records s

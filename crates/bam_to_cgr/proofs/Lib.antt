@@ -1,1 +1,2 @@
 pub mod ConvertedLaws
+pub mod RunLaws

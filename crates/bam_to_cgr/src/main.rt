@@ -1,13 +1,16 @@
 // Standard input is an uncompressed BAM stream; its records are written as the stream that `report` takes, behind the mark CGR. Where the records begin is said by the
 // crate `bam_header`; this only reads and writes, in blocks. What is wrong is said in words on standard error, and a head that is damaged leaves standard output empty.
 ghost use mathlib.Core.Path.{_≡_};
-ghost use mathlib.Core.Bool.{true, false};
+ghost use mathlib.Core.Bool.{true, false, cond, not};
 ghost use mathlib.Core.List.{List, _++_};
 ghost use Prim.Native.Nat.{ℕ, _+_, _≤_, _<_};
+ghost use lib.Dec.{eqb};
 ghost use lib.ListN.{length, take};
 ghost use Rattle.bam_header.specs.Header.{Head.Records};
 ghost use Rattle.bam_to_cgr.specs.Converted.{converted};
+ghost use Rattle.io.specs.Counts.{clamped};
 ghost use Rattle.bam_to_cgr.specs.Turns.{Turned};
+ghost use Rattle.bam_to_cgr.specs.Run.{left, Came};
 ghost use Rattle.bam_header.specs.Inner.{isBegun};
 use bam_header::Place;
 
@@ -43,7 +46,7 @@ fn refill(block: &mut [u8], left: usize) -> usize
 
 // Whether a head goes on: something was read, and the records don't begin yet.
 fn goes_on(place: Place, left: usize, have: usize) -> bool
-    ensures { λ r. ⌜ (r ≡ true → isBegun place ≡ false) ⌝ }
+    ensures { λ r. ⌜ r ≡ cond (eqb left have) false (not (isBegun place)) ⌝ }
 {
     if left == have {
         return false;
@@ -76,6 +79,7 @@ fn turn(s: State, block: &mut [u8]) -> State
 fn head(block: &mut [u8]) -> State
     requires { ⌜ 65536 ≡ length (now block) ⌝ }
     ensures { λ r. ⌜ (r .used ≤ r .have) × (r .have ≤ 65536) ⌝ }
+    ensures { λ r. ⌜ Came r (now (block .exit)) ⌝ }
 {
     let start = bam_header::start();
     let mut s = State {
@@ -95,6 +99,38 @@ fn head(block: &mut [u8]) -> State
     s
 }
 
+// Hands over what the head left.
+fn write_left(s: State, block: &[u8], part: &[u8]) -> bool
+    requires { ⌜ isBegun (s .place) ≡ true ⌝ }
+    requires { ⌜ now part ≡ left s (now block) ⌝ }
+{
+    io::write_all(1, part)
+}
+
+fn pass_left(s: State, block: &[u8]) -> bool
+    requires { ⌜ isBegun (s .place) ≡ true ⌝ }
+    requires { ⌜ (s .used ≤ s .have) × (s .have ≤ length (now block)) ⌝ }
+{
+    let used = s.used;
+    let have = s.have;
+    write_left(s, block, &block[used..have])
+}
+
+// Hands over what a read gave.
+fn write_given(got: isize, block: &[u8], part: &[u8]) -> bool
+    requires { ⌜ now part ≡ take (clamped got (length (now block))) (now block) ⌝ }
+{
+    io::write_all(1, part)
+}
+
+fn pass_given(got: isize, block: &[u8]) -> bool {
+    let n = io::count(got, block);
+    if n == 0 {
+        return false;
+    }
+    write_given(got, block, &block[..n])
+}
+
 // One block of records, as it is; whether more may follow.
 fn pass(block: &mut [u8]) -> bool {
     let got = libc::read(0, block);
@@ -102,11 +138,7 @@ fn pass(block: &mut [u8]) -> bool {
         io::write_all(2, b"bam_to_cgr: the input can't be read to its end\n");
         return false;
     }
-    let n = io::count(got, block);
-    if n == 0 {
-        return false;
-    }
-    io::write_all(1, &block[..n])
+    pass_given(got, block)
 }
 
 // The rest of the stream, as it is.
@@ -125,8 +157,6 @@ fn convert(block: &mut [u8])
     requires { ⌜ 65536 ≡ length (now block) ⌝ }
 {
     let s = head(block);
-    let used = s.used;
-    let have = s.have;
     let place = s.place;
     if !bam_header::begun(place) {
         io::write_all(2, b"bam_to_cgr: the head of the BAM stream is cut short\n");
@@ -135,7 +165,7 @@ fn convert(block: &mut [u8])
     if !io::write_all(1, &mark()) {
         return;
     }
-    if !io::write_all(1, &block[used..have]) {
+    if !pass_left(s, block) {
         return;
     }
     pass_on(block);

@@ -1,8 +1,12 @@
 -- The bytes used are among those at hand, and where a head goes on under four are left.
-use mathlib.Core.Path.{_∙_}
+use Prim.Native.Nat.{_-_}
+use mathlib.Core.Path.{sym, _∙_}
 use native.Mathlib.Omega.{arith}
+use lib.Dec.{eqb}
 use lib.ListN.{length-take}
 use borrow.Author.Needs.{needs}
+use Rattle.bam_header.specs.Inner.{isBegun}
+use Rattle.bam_to_cgr.proofs.RunLaws.{not-yet}
 use Rattle.bam_to_cgr.proofs.turn.Statement.{statement}
 use Rattle.bam_to_cgr.proofs.turn.Tie as tie
 
@@ -35,9 +39,10 @@ returns c =
     let k = c .before .before in
     let l = slice-aggregate-read-on (k .before) in
     let w = k .read-on .ensures in
-    let f = k .before .before .before .before .before in (
-      (omega (arith, w .gone .within), f .refill .ensures .0 .1, λ e. omega (arith, w .short (c .goes-on .ensures e))),
-      record { kept = f .refill .ensures .1 ∙ f .before .before .before .before .shift .ensures; went = w },
+    let f = k .before .before .before .before .before in
+    let a = f .before .before .before .before .before .before .before .before .args .s in (
+      (omega (arith, w .gone .within), f .refill .ensures .0 .1, λ e. omega (arith, w .short (not-yet (eqb (a .have - a .used) (f .refill .result)) (isBegun (k .read-on .result .place)) (sym (c .goes-on .ensures) ∙ e)))),
+      record { kept = f .refill .ensures .1 ∙ f .before .before .before .before .shift .ensures; grows = f .refill .ensures .0 .0; goes = c .goes-on .ensures; went = w },
     )
 
 pub turn-spec : {M : Type 1} → statement M
