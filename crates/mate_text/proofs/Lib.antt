@@ -3,3 +3,4 @@ pub mod Steps
 pub mod Scans
 pub mod Sums
 pub mod Agree
+pub mod Lent

@@ -1,18 +1,18 @@
 -- The scan of the bytes is a walk over the text's pieces: digits gather in the run, and the byte after them ends the piece that they are the digits of.
 use mathlib.Core.Path.{_≡_, refl, sym, ap, _∙_}
-use mathlib.Core.Bool.{Bool, true, false, not, cond}
+use mathlib.Core.Bool.{Bool, true, false}
 use mathlib.Core.List.{List, [], _∷_, _++_, append-assoc, append-nil}
 use Prim.Native.Nat.{ℕ, _+_, _<_, _≤_}
 use lib.IntN.{ℤ, pos}
 use lib.ListN.{length, drop, getD}
 use Rattle.lists.proofs.Walks.{step, done}
 use Rattle.sam.specs.Text.{Digits, value}
-use Rattle.mate_text.specs.Run.{isDigit, countOf}
+use Rattle.mate_text.specs.Run.{isDigit, countOf, pushOf}
 use Rattle.mate_text.specs.Mate.{Piece, pieces, withDigit, counts}
-use Rattle.mate_text.specs.Scan.{runAfter, numberAfter, foundAfter, leadPiece}
+use Rattle.mate_text.specs.Scan.{runAfter, foundAfter, leadPiece}
 use Rattle.mate_text.specs.declared.Lead.{Lead}
 use Rattle.mate_text.proofs.Digits.{digit-range, digit-test, runOf, run-snoc, digits-snoc, run-counts}
-use Rattle.mate_text.proofs.Steps.{run-digit, run-letter, found-digit, found-letter, found-read, lead-off}
+use Rattle.mate_text.proofs.Steps.{run-digit, run-letter, push-letter, found-digit, found-letter, lead-off}
 
 -- ---- pieces of a text that begins with digits
 
@@ -60,14 +60,21 @@ module _ {S : Type 0} (f : S → ℤ → ℕ → S) where
   pub scan-is : (s : S) (t : List ℕ) → scan 0 s t ≡ overPieces s (pieces t)
   scan-is s t = scan-pieces t [] s tt
 
-  -- one turn of its loop, from what reading the byte answered; and the end
-  pub scan-turn : (text : List ℕ) (i x y : ℕ) (s r : S) (ended : Bool) (n : ℤ) → i < length text
-      → (y ≡ runAfter x (getD text i 0)) × (ended ≡ not (isDigit (getD text i 0))) × (n ≡ numberAfter x (getD text i 0))
-      → r ≡ cond ended (f s n (getD text i 0)) s → scan y r (drop (i + 1) text) ≡ scan x s (drop i text)
+  -- a turn of its loop, at a digit, which `push` took, and at a letter, after which `take` emptied the run
+  pub scan-digit : (text : List ℕ) (i x y : ℕ) (s : S) → i < length text → isDigit (getD text i 0) ≡ true → y ≡ pushOf x (getD text i 0) → scan y s (drop (i + 1) text) ≡ scan x s (drop i text)
   unfolding scan
-  scan-turn text i x y s r ended n h e g =
-      ap (λ (z : ℕ). scan z r (drop (i + 1) text)) (e .0)
-      ∙ ap (λ (q : S). scan (runAfter x (getD text i 0)) q (drop (i + 1) text)) (found-read f x s (getD text i 0) ended n r (e .1) (e .2) g)
+  scan-digit text i x y s h e p =
+      ap (λ (z : ℕ). scan z s (drop (i + 1) text)) (p ∙ sym (run-digit x (getD text i 0) e))
+      ∙ ap (λ (r : S). scan (runAfter x (getD text i 0)) r (drop (i + 1) text)) (sym (found-digit f x s (getD text i 0) e))
+      ∙ sym (ap (scan x s) (step text i (getD text i 0) refl h))
+
+  pub scan-letter : (text : List ℕ) (i x y z : ℕ) (n : ℤ) (s r : S) → i < length text → isDigit (getD text i 0) ≡ false → y ≡ pushOf x (getD text i 0)
+      → n ≡ pos (countOf y) → z ≡ 0 → r ≡ f s n (getD text i 0) → scan z r (drop (i + 1) text) ≡ scan x s (drop i text)
+  unfolding scan
+  scan-letter text i x y z n s r h e p c o g =
+      ap (λ (w : ℕ). scan w r (drop (i + 1) text)) (o ∙ sym (run-letter x (getD text i 0) e))
+      ∙ ap (λ (q : S). scan (runAfter x (getD text i 0)) q (drop (i + 1) text))
+      (g ∙ ap (λ (m : ℤ). f s m (getD text i 0)) (c ∙ ap (λ (w : ℕ). pos (countOf w)) (p ∙ push-letter x (getD text i 0) e)) ∙ sym (found-letter f x s (getD text i 0) e))
       ∙ sym (ap (scan x s) (step text i (getD text i 0) refl h))
 
   pub scan-end : (text : List ℕ) (i x : ℕ) (s : S) → length text ≤ i → scan x s (drop i text) ≡ s

@@ -1,12 +1,12 @@
 -- What a piece and a byte do to the scans, case by case: each is the definition at a test's two answers.
-use mathlib.Core.Path.{_≡_, ap, _∙_}
-use mathlib.Core.Bool.{Bool, true, false, not, cond}
+use mathlib.Core.Path.{_≡_}
+use mathlib.Core.Bool.{true, false}
 use Prim.Native.Nat.{ℕ}
 use lib.IntN.{ℤ, pos, _+ℤ_}
 use Rattle.signed.specs.Whole.{clamp32}
 use Rattle.mate_text.specs.Run.{isDigit, pushOf, countOf}
 use Rattle.mate_text.specs.Mate.{isRefLetter, isClipLetter}
-use Rattle.mate_text.specs.Scan.{runAfter, numberAfter, foundAfter, leadPiece, tailPiece}
+use Rattle.mate_text.specs.Scan.{runAfter, foundAfter, leadPiece, tailPiece}
 use Rattle.mate_text.specs.declared.Lead.{Lead}
 use Rattle.mate_text.specs.declared.Tail.{Tail}
 
@@ -49,14 +49,6 @@ module _ (x b : ℕ) where
   unfolding runAfter
   run-letter e = rw e
 
-  pub number-digit : isDigit b ≡ true → numberAfter x b ≡ pos 0
-  unfolding numberAfter
-  number-digit e = rw e
-
-  pub number-letter : isDigit b ≡ false → numberAfter x b ≡ pos (countOf x)
-  unfolding numberAfter
-  number-letter e = rw e
-
   -- a byte that is no digit leaves the run to be counted
   pub push-letter : isDigit b ≡ false → pushOf x b ≡ x
   unfolding pushOf
@@ -70,19 +62,3 @@ module _ {S : Type 0} (f : S → ℤ → ℕ → S) (x : ℕ) (s : S) (b : ℕ) 
   pub found-letter : isDigit b ≡ false → foundAfter f x s b ≡ f s (pos (countOf x)) b
   unfolding foundAfter
   found-letter e = rw e
-
--- one byte more, as it was read: whether it ended a piece, and what that counts
-pub found-read : {S : Type 0} (f : S → ℤ → ℕ → S) (x : ℕ) (s : S) (b : ℕ) (ended : Bool) (n : ℤ) (r : S) → ended ≡ not (isDigit b) → n ≡ numberAfter x b
-    → r ≡ cond ended (f s n b) s → r ≡ foundAfter f x s b
-unfolding numberAfter foundAfter
-found-read f x s b ended n r e g h = go (isDigit b) e g
-  where
-    go : (t : Bool) → ended ≡ not t → n ≡ cond t (pos 0) (pos (countOf x)) → r ≡ cond t s (f s (pos (countOf x)) b)
-    go true p q = h ∙ ap (λ (u : Bool). cond u (f s n b) s) p
-    go false p q = h ∙ ap (λ (u : Bool). cond u (f s n b) s) p ∙ ap (λ (m : ℤ). f s m b) q
-
-pub not-ended : {S : Type 0} (ended : Bool) (m s : S) → ended ≡ false → s ≡ cond ended m s
-not-ended ended m s e = rw e
-
-pub once-ended : {S : Type 0} (ended : Bool) (m s r : S) → ended ≡ true → r ≡ m → r ≡ cond ended m s
-once-ended ended m s r e h = rw e h

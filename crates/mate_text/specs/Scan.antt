@@ -13,10 +13,6 @@ use Rattle.mate_text.specs.declared.Tail.{Tail}
 unfoldable pub runAfter : ℕ → ℕ → ℕ
 runAfter x b = cond (isDigit b) (pushOf x b) 0
 
--- what the piece counts that the byte ends
-unfoldable pub numberAfter : ℕ → ℕ → ℤ
-numberAfter x b = cond (isDigit b) (pos 0) (pos (countOf x))
-
 -- what a scan found: f takes in the piece that the byte ends
 unfoldable pub foundAfter : {S : Type 0} → (S → ℤ → ℕ → S) → ℕ → S → ℕ → S
 foundAfter f x s b = cond (isDigit b) s (f s (pos (countOf x)) b)

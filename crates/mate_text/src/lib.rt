@@ -1,10 +1,9 @@
 // Document 01, module 6: the mate's unclipped 5' end from text. Reads any bytes, refuses none; each step saturates.
 ghost use mathlib.Core.Path.{_≡_};
-ghost use mathlib.Core.Bool.{cond, not};
 ghost use lib.IntN.{pos};
 ghost use Rattle.mate_text.specs.Run.{isDigit, countOf, pushOf};
 ghost use Rattle.mate_text.specs.Mate.{isRefLetter, isClipLetter, mateLeading, mateReference, mateTrailing, held, mateStart, mateEnd, mateUnclipped, mateUnclipped1};
-ghost use Rattle.mate_text.specs.Scan.{runAfter, numberAfter, leadPiece, tailPiece};
+ghost use Rattle.mate_text.specs.Scan.{leadPiece, tailPiece};
 use answers::Pos0;
 use answers::Pos1;
 
@@ -104,76 +103,15 @@ impl DigitRun {
     }
 }
 
-// A run after a byte, and whether the byte was a digit.
-struct Fed {
-    run: DigitRun,
-    digit: bool,
-}
-
-// The run is lent to `push` for one byte, and comes back.
-fn feed(run: DigitRun, byte: u8) -> Fed
-    ensures { λ r. ⌜ (r .run .0 ≡ pushOf (run .0) byte) × (r .digit ≡ isDigit byte) ⌝ }
-{
-    let mut r = run;
-    let digit = r.push(byte);
-    Fed { run: r, digit }
-}
-
-// The empty run after a letter, and what it counted before.
-struct Taken {
-    run: DigitRun,
-    number: i32,
-}
-
-// The run is lent to `take` at a letter, and comes back.
-fn drain(run: DigitRun) -> Taken
-    ensures { λ r. ⌜ (r .run .0 ≡ 0) × (r .number ≡ pos (countOf (run .0))) ⌝ }
-{
-    let mut r = run;
-    let number = r.take();
-    Taken { run: r, number }
-}
-
-// The run after a byte; whether the byte ended a piece, and what that counts.
-struct Read {
-    run: DigitRun,
-    ended: bool,
-    number: i32,
-}
-
-fn read_byte(run: DigitRun, byte: u8) -> Read
-    ensures { λ r. ⌜ (r .run .0 ≡ runAfter (run .0) byte) × (r .ended ≡ not (isDigit byte)) × (r .number ≡ numberAfter (run .0) byte) ⌝ }
-{
-    let fed = feed(run, byte);
-    let more = fed.run;
-    if fed.digit {
-        return Read {
-            run: more,
-            ended: false,
-            number: 0,
-        };
-    }
-    let taken = drain(more);
-    let empty = taken.run;
-    Read {
-        run: empty,
-        ended: true,
-        number: taken.number,
-    }
-}
-
 // The leading clips, and whether no other letter was met.
 struct Lead {
     clips: i32,
     on: bool,
 }
 
-fn lead_piece(s: Lead, ended: bool, number: i32, letter: u8) -> Lead
-    ensures { λ r. ⌜ r ≡ cond ended (leadPiece s number letter) s ⌝ }
+fn lead_piece(s: Lead, number: i32, letter: u8) -> Lead
+    ensures { λ r. ⌜ r ≡ leadPiece s number letter ⌝ }
 {
-    if !ended {
-        return s;
-    }
     if !s.on {
         return s;
     }
@@ -198,13 +136,13 @@ fn parse_leading_clips(text: &[u8]) -> i32
     let mut i = 0;
     while i < text.len() {
         let b = text[i];
-        let read = read_byte(run, b);
-        found = lead_piece(found, read.ended, read.number, b);
-        if !found.on {
-            return found.clips;
+        if !run.push(b) {
+            let number = run.take();
+            found = lead_piece(found, number, b);
+            if !found.on {
+                return found.clips;
+            }
         }
-        let next = read.run;
-        run = next;
         i += 1;
     }
     found.clips
@@ -217,12 +155,9 @@ struct Tail {
     seen: bool,
 }
 
-fn tail_piece(s: Tail, ended: bool, number: i32, letter: u8) -> Tail
-    ensures { λ r. ⌜ r ≡ cond ended (tailPiece s number letter) s ⌝ }
+fn tail_piece(s: Tail, number: i32, letter: u8) -> Tail
+    ensures { λ r. ⌜ r ≡ tailPiece s number letter ⌝ }
 {
-    if !ended {
-        return s;
-    }
     if is_ref(letter) {
         return Tail {
             refs: signed::saturating_add(s.refs, number),
@@ -256,10 +191,10 @@ fn parse_ref_len_and_trailing_clips(text: &[u8]) -> Tail
     let mut i = 0;
     while i < text.len() {
         let b = text[i];
-        let read = read_byte(run, b);
-        found = tail_piece(found, read.ended, read.number, b);
-        let next = read.run;
-        run = next;
+        if !run.push(b) {
+            let number = run.take();
+            found = tail_piece(found, number, b);
+        }
         i += 1;
     }
     found

@@ -7,50 +7,42 @@ use mir.Val.{toZ, ofZ}
 use borrow.Author.Tests.{not-true, not-false}
 use Rattle.signed.specs.Whole.{clamp32}
 use Rattle.mate_text.specs.Mate.{isClipLetter}
-use Rattle.mate_text.proofs.Steps.{not-ended, once-ended, lead-off, lead-stop, lead-clip}
+use Rattle.mate_text.proofs.Steps.{lead-off, lead-stop, lead-clip}
 use borrow.Author.Needs.{needs}
 use Rattle.mate_text.proofs.lead_piece.Statement.{statement}
 use Rattle.mate_text.proofs.lead_piece.Tie as tie
 
 returns : tie.Need-returns
-returns c = let a = c .before .args in not-ended (a .ended) _ (a .s) (not-true _ (c .if1 .taken))
-
-returns-2 : tie.Need-returns-2
-returns-2 c =
-    let o = c .before .before in
-    let a = o .before .args in
-    once-ended (a .ended) _ (a .s) _ (not-false _ (o .if1 .left)) (sym (lead-off (a .s) (a .number) (a .letter) (not-true _ (c .if2 .taken))))
+returns c =
+    let a = c .before .before .args in
+    (sym (lead-off (a .s) (a .number) (a .letter) (not-true _ (c .if1 .taken))))
 
 is-clip-requires : tie.Need-is-clip-requires
 is-clip-requires c κs = search needs
 
-returns-3 : tie.Need-returns-3
-returns-3 c =
+returns-2 : tie.Need-returns-2
+returns-2 c =
     let t = c .before .before .before in
-    let o = t .before .before in
-    let a = o .before .args in
+    let a = t .before .before .args in
     let e : toZ w32 (ofZ w32 (a .s .clips)) ≡ a .s .clips = search needs in
-    let k : isClipLetter (a .letter) ≡ false = sym (c .before .before .is-clip .ensures) ∙ not-true _ (c .before .if3 .taken) in
-    once-ended (a .ended) _ (a .s) _ (not-false _ (o .if1 .left))
-    (ap (λ (z : ℤ). record { clips = z; on = false }) e ∙ sym (lead-stop (a .s) (a .number) (a .letter) (not-false _ (t .if2 .left)) k))
+    let k : isClipLetter (a .letter) ≡ false = sym (c .before .before .is-clip .ensures) ∙ not-true _ (c .before .if2 .taken) in
+    (ap (λ (z : ℤ). record { clips = z; on = false }) e ∙ sym (lead-stop (a .s) (a .number) (a .letter) (not-false _ (t .if1 .left)) k))
 
 saturating-add-requires : tie.Need-saturating-add-requires
 saturating-add-requires c κs = search needs
 
-returns-4 : tie.Need-returns-4
-returns-4 c =
+returns-3 : tie.Need-returns-3
+returns-3 c =
     let t = c .before .before .before .before in
-    let o = t .before .before in
-    let a = o .before .args in
+    let a = t .before .before .args in
     let e : toZ w32 (ofZ w32 (a .s .clips)) ≡ a .s .clips = search needs in
     let n : toZ w32 (ofZ w32 (a .number)) ≡ a .number = search needs in
     let r : toZ w32 (ofZ w32 (c .saturating-add .result)) ≡ c .saturating-add .result = search needs in
     let g : c .saturating-add .result ≡ clamp32 (a .s .clips +ℤ a .number) = simp (e, n) at (c .saturating-add .ensures) in
-    let k : isClipLetter (a .letter) ≡ true = sym (c .before .before .before .is-clip .ensures) ∙ not-false _ (c .before .before .if3 .left) in
-    once-ended (a .ended) _ (a .s) _ (not-false _ (o .if1 .left))
-    (ap (λ (z : ℤ). record { clips = z; on = true }) (r ∙ g) ∙ sym (lead-clip (a .s) (a .number) (a .letter) (not-false _ (t .if2 .left)) k))
+    let k : isClipLetter (a .letter) ≡ true = sym (c .before .before .before .is-clip .ensures) ∙ not-false _ (c .before .before .if2 .left) in
+    (ap (λ (z : ℤ). record { clips = z; on = true }) (r ∙ g) ∙ sym (lead-clip (a .s) (a .number) (a .letter) (not-false _ (t .if1 .left)) k))
 
 pub lead-piece-spec : {M : Type 1} → statement M
 lead-piece-spec =
     tie.close
-    (tie.spec returns returns-2 is-clip-requires returns-3 saturating-add-requires returns-4)
+    (tie.spec returns is-clip-requires returns-2 saturating-add-requires returns-3)

@@ -7,13 +7,10 @@ use mir.Val.{toZ, ofZ}
 use borrow.Author.Tests.{not-true, not-false}
 use Rattle.signed.specs.Whole.{clamp32}
 use Rattle.mate_text.specs.Mate.{isRefLetter, isClipLetter}
-use Rattle.mate_text.proofs.Steps.{not-ended, once-ended, tail-ref, tail-other, tail-early, tail-clip}
+use Rattle.mate_text.proofs.Steps.{tail-ref, tail-other, tail-early, tail-clip}
 use borrow.Author.Needs.{needs}
 use Rattle.mate_text.proofs.tail_piece.Statement.{statement}
 use Rattle.mate_text.proofs.tail_piece.Tie as tie
-
-returns : tie.Need-returns
-returns c = let a = c .before .args in not-ended (a .ended) _ (a .s) (not-true _ (c .if1 .taken))
 
 is-ref-requires : tie.Need-is-ref-requires
 is-ref-requires c κs = search needs
@@ -21,71 +18,64 @@ is-ref-requires c κs = search needs
 saturating-add-requires : tie.Need-saturating-add-requires
 saturating-add-requires c κs = search needs
 
-returns-2 : tie.Need-returns-2
-returns-2 c =
+returns : tie.Need-returns
+returns c =
     let t = c .before .before in
-    let o = t .before .before in
-    let a = o .before .args in
+    let a = t .before .before .args in
     let e : toZ w32 (ofZ w32 (a .s .refs)) ≡ a .s .refs = search needs in
     let n : toZ w32 (ofZ w32 (a .number)) ≡ a .number = search needs in
     let r : toZ w32 (ofZ w32 (c .saturating-add .result)) ≡ c .saturating-add .result = search needs in
     let g : c .saturating-add .result ≡ clamp32 (a .s .refs +ℤ a .number) = simp (e, n) at (c .saturating-add .ensures) in
-    let k : isRefLetter (a .letter) ≡ true = sym (t .before .is-ref .ensures) ∙ t .if2 .taken in
-    once-ended (a .ended) _ (a .s) _ (not-false _ (o .if1 .left))
+    let k : isRefLetter (a .letter) ≡ true = sym (t .before .is-ref .ensures) ∙ t .if1 .taken in
     (ap (λ (z : ℤ). record { refs = z; clips = pos 0; seen = true }) (r ∙ g) ∙ sym (tail-ref (a .s) (a .number) (a .letter) k))
 
 is-clip-requires : tie.Need-is-clip-requires
 is-clip-requires c κs = search needs
 
+returns-2 : tie.Need-returns-2
+returns-2 c =
+    let t = c .before .before in
+    let a = t .before .before .args in
+    let k : isRefLetter (a .letter) ≡ false = sym (t .before .is-ref .ensures) ∙ t .if1 .left in
+    let l : isClipLetter (a .letter) ≡ false = sym (c .before .is-clip .ensures) ∙ not-true _ (c .if2 .taken) in
+    (sym (tail-other (a .s) (a .number) (a .letter) k l))
+
 returns-3 : tie.Need-returns-3
 returns-3 c =
-    let t = c .before .before in
-    let o = t .before .before in
-    let a = o .before .args in
-    let k : isRefLetter (a .letter) ≡ false = sym (t .before .is-ref .ensures) ∙ t .if2 .left in
-    let l : isClipLetter (a .letter) ≡ false = sym (c .before .is-clip .ensures) ∙ not-true _ (c .if3 .taken) in
-    once-ended (a .ended) _ (a .s) _ (not-false _ (o .if1 .left)) (sym (tail-other (a .s) (a .number) (a .letter) k l))
-
-returns-4 : tie.Need-returns-4
-returns-4 c =
     let t = c .before .before .before .before in
-    let o = t .before .before in
-    let a = o .before .args in
-    let k : isRefLetter (a .letter) ≡ false = sym (t .before .is-ref .ensures) ∙ t .if2 .left in
-    let l : isClipLetter (a .letter) ≡ true = sym (c .before .before .before .is-clip .ensures) ∙ not-false _ (c .before .before .if3 .left) in
-    once-ended (a .ended) _ (a .s) _ (not-false _ (o .if1 .left)) (sym (tail-early (a .s) (a .number) (a .letter) k l (not-true _ (c .if4 .taken))))
+    let a = t .before .before .args in
+    let k : isRefLetter (a .letter) ≡ false = sym (t .before .is-ref .ensures) ∙ t .if1 .left in
+    let l : isClipLetter (a .letter) ≡ true = sym (c .before .before .before .is-clip .ensures) ∙ not-false _ (c .before .before .if2 .left) in
+    (sym (tail-early (a .s) (a .number) (a .letter) k l (not-true _ (c .if3 .taken))))
 
 saturating-add-requires-2 : tie.Need-saturating-add-requires-2
 saturating-add-requires-2 c κs = search needs
 
-returns-5 : tie.Need-returns-5
-returns-5 c =
+returns-4 : tie.Need-returns-4
+returns-4 c =
     let u = c .before .before .before in
     let t = u .before .before .before .before in
-    let o = t .before .before in
-    let a = o .before .args in
+    let a = t .before .before .args in
     let p : toZ w32 (ofZ w32 (a .s .refs)) ≡ a .s .refs = search needs in
     let e : toZ w32 (ofZ w32 (a .s .clips)) ≡ a .s .clips = search needs in
     let n : toZ w32 (ofZ w32 (a .number)) ≡ a .number = search needs in
     let r : toZ w32 (ofZ w32 (c .before .saturating-add2 .result)) ≡ c .before .saturating-add2 .result = search needs in
     let g : c .before .saturating-add2 .result ≡ clamp32 (a .s .clips +ℤ a .number) = simp (e, n) at (c .before .saturating-add2 .ensures) in
-    let k : isRefLetter (a .letter) ≡ false = sym (t .before .is-ref .ensures) ∙ t .if2 .left in
-    let l : isClipLetter (a .letter) ≡ true = sym (u .before .before .before .is-clip .ensures) ∙ not-false _ (u .before .before .if3 .left) in
-    once-ended (a .ended) _ (a .s) _ (not-false _ (o .if1 .left))
+    let k : isRefLetter (a .letter) ≡ false = sym (t .before .is-ref .ensures) ∙ t .if1 .left in
+    let l : isClipLetter (a .letter) ≡ true = sym (u .before .before .before .is-clip .ensures) ∙ not-false _ (u .before .before .if2 .left) in
     (ap (λ (z : ℤ). record { refs = z; clips = toZ w32 (ofZ w32 (c .before .saturating-add2 .result)); seen = true }) p
     ∙ ap (λ (z : ℤ). record { refs = a .s .refs; clips = z; seen = true }) (r ∙ g)
-    ∙ sym (tail-clip (a .s) (a .number) (a .letter) k l (not-false _ (u .if4 .left))))
+    ∙ sym (tail-clip (a .s) (a .number) (a .letter) k l (not-false _ (u .if3 .left))))
 
 pub tail-piece-spec : {M : Type 1} → statement M
 tail-piece-spec =
     tie.close
     (tie.spec
-    returns
     is-ref-requires
     saturating-add-requires
-    returns-2
+    returns
     is-clip-requires
+    returns-2
     returns-3
-    returns-4
     saturating-add-requires-2
-    returns-5)
+    returns-4)
