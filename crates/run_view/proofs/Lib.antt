@@ -1,2 +1,3 @@
 pub mod Lender
 pub mod Maker
+pub mod Borrower

@@ -1,3 +1,4 @@
 pub mod Known
 pub mod Lent
 pub mod Thin
+pub mod Shared

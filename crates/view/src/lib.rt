@@ -16,7 +16,7 @@ use ends::Place1;
 use fields::Area;
 use lengths::Lengths;
 
-pub struct RawRecordView<'a>(pub &'a [u8]);
+pub struct RawRecordView<'a>(&'a [u8]);
 
 impl<'a> RawRecordView<'a> {
     pub fn new(bam: &'a [u8]) -> RawRecordView<'a>
@@ -31,62 +31,62 @@ impl<'a> RawRecordView<'a> {
         self.0
     }
 
-    pub fn ref_id(self) -> Int
-        ensures { λ r. ⌜ r ≡ intField refIdOf (now (self .entry .0)) ⌝ }
+    pub fn ref_id(&self) -> Int
+        ensures { λ r. ⌜ r ≡ intField refIdOf (now (now (self .entry) .0)) ⌝ }
     {
         fields::ref_id(self.0)
     }
 
-    pub fn pos(self) -> Int
-        ensures { λ r. ⌜ r ≡ intField posOf (now (self .entry .0)) ⌝ }
+    pub fn pos(&self) -> Int
+        ensures { λ r. ⌜ r ≡ intField posOf (now (now (self .entry) .0)) ⌝ }
     {
         fields::pos(self.0)
     }
 
-    pub fn l_read_name(self) -> Nat
-        ensures { λ r. ⌜ r ≡ natField nameLenOf (now (self .entry .0)) ⌝ }
+    pub fn l_read_name(&self) -> Nat
+        ensures { λ r. ⌜ r ≡ natField nameLenOf (now (now (self .entry) .0)) ⌝ }
     {
         fields::l_read_name(self.0)
     }
 
-    pub fn bin(self) -> Nat
-        ensures { λ r. ⌜ r ≡ natField storedBinOf (now (self .entry .0)) ⌝ }
+    pub fn bin(&self) -> Nat
+        ensures { λ r. ⌜ r ≡ natField storedBinOf (now (now (self .entry) .0)) ⌝ }
     {
         fields::bin(self.0)
     }
 
-    pub fn n_cigar_op(self) -> Nat
-        ensures { λ r. ⌜ r ≡ natField opCountOf (now (self .entry .0)) ⌝ }
+    pub fn n_cigar_op(&self) -> Nat
+        ensures { λ r. ⌜ r ≡ natField opCountOf (now (now (self .entry) .0)) ⌝ }
     {
         fields::n_cigar_op(self.0)
     }
 
-    pub fn flags(self) -> Nat
-        ensures { λ r. ⌜ r ≡ natField flagsOf (now (self .entry .0)) ⌝ }
+    pub fn flags(&self) -> Nat
+        ensures { λ r. ⌜ r ≡ natField flagsOf (now (now (self .entry) .0)) ⌝ }
     {
         fields::flags(self.0)
     }
 
-    pub fn l_seq(self) -> Nat
-        ensures { λ r. ⌜ r ≡ natField seqLenOf (now (self .entry .0)) ⌝ }
+    pub fn l_seq(&self) -> Nat
+        ensures { λ r. ⌜ r ≡ natField seqLenOf (now (now (self .entry) .0)) ⌝ }
     {
         fields::l_seq(self.0)
     }
 
-    pub fn mate_ref_id(self) -> Int
-        ensures { λ r. ⌜ r ≡ intField mateRefIdOf (now (self .entry .0)) ⌝ }
+    pub fn mate_ref_id(&self) -> Int
+        ensures { λ r. ⌜ r ≡ intField mateRefIdOf (now (now (self .entry) .0)) ⌝ }
     {
         fields::mate_ref_id(self.0)
     }
 
-    pub fn mate_pos(self) -> Int
-        ensures { λ r. ⌜ r ≡ intField matePosOf (now (self .entry .0)) ⌝ }
+    pub fn mate_pos(&self) -> Int
+        ensures { λ r. ⌜ r ≡ intField matePosOf (now (now (self .entry) .0)) ⌝ }
     {
         fields::mate_pos(self.0)
     }
 
-    pub fn template_length(self) -> Int
-        ensures { λ r. ⌜ r ≡ intField templateLenOf (now (self .entry .0)) ⌝ }
+    pub fn template_length(&self) -> Int
+        ensures { λ r. ⌜ r ≡ intField templateLenOf (now (now (self .entry) .0)) ⌝ }
     {
         fields::template_length(self.0)
     }
@@ -99,44 +99,44 @@ impl<'a> RawRecordView<'a> {
     }
 
     // Where that part lies. Refusal 1.
-    pub fn cigar_area(self) -> Area
-        ensures { λ r. ⌜ r ≡ cigarArea (now (self .entry .0)) ⌝ }
+    pub fn cigar_area(&self) -> Area
+        ensures { λ r. ⌜ r ≡ cigarArea (now (now (self .entry) .0)) ⌝ }
     {
         fields::cigar_area(self.0)
     }
 
-    pub fn reference_length(self) -> i32
-        ensures { λ r. ⌜ r ≡ refLengthOrZero (now (self .entry .0)) ⌝ }
+    pub fn reference_length(&self) -> i32
+        ensures { λ r. ⌜ r ≡ refLengthOrZero (now (now (self .entry) .0)) ⌝ }
     {
         lengths::reference_length_from_raw_bam(self.0)
     }
 
-    pub fn query_length(self) -> Count
-        ensures { λ r. ⌜ r ≡ recordQueryLength (now (self .entry .0)) ⌝ }
+    pub fn query_length(&self) -> Count
+        ensures { λ r. ⌜ r ≡ recordQueryLength (now (now (self .entry) .0)) ⌝ }
     {
         lengths::query_length(self.0)
     }
 
-    pub fn cigar_lengths(self) -> Lengths
-        ensures { λ r. ⌜ r ≡ bothLengths (now (self .entry .0)) ⌝ }
+    pub fn cigar_lengths(&self) -> Lengths
+        ensures { λ r. ⌜ r ≡ bothLengths (now (now (self .entry) .0)) ⌝ }
     {
         lengths::cigar_lengths(self.0)
     }
 
-    pub fn alignment_start_1based(self) -> Found1
-        ensures { λ r. ⌜ r ≡ alignmentStart (now (self .entry .0)) ⌝ }
+    pub fn alignment_start_1based(&self) -> Found1
+        ensures { λ r. ⌜ r ≡ alignmentStart (now (now (self .entry) .0)) ⌝ }
     {
         ends::alignment_start_from_raw(self.0)
     }
 
-    pub fn alignment_end_1based(self) -> Found1
-        ensures { λ r. ⌜ r ≡ alignmentEnd (now (self .entry .0)) ⌝ }
+    pub fn alignment_end_1based(&self) -> Found1
+        ensures { λ r. ⌜ r ≡ alignmentEnd (now (now (self .entry) .0)) ⌝ }
     {
         ends::alignment_end_from_raw(self.0)
     }
 
-    pub fn unclipped_5prime_1based(self) -> Place1
-        ensures { λ r. ⌜ r ≡ asRust (unclippedOf (now (self .entry .0))) ⌝ }
+    pub fn unclipped_5prime_1based(&self) -> Place1
+        ensures { λ r. ⌜ r ≡ asRust (unclippedOf (now (now (self .entry) .0))) ⌝ }
     {
         ends::unclipped_5prime_from_raw_bam(self.0)
     }

@@ -1,11 +1,11 @@
--- `Maker`'s law of `RawRecordView::alignment_start_1based`.
+-- `Borrower`'s law of `RawRecordView::alignment_start_1based`.
 use Rattle.ends.proofs.Found1 as R
 use Rattle.ends.proofs.Found1.Laws as R′
 use Rattle.view.proofs.RawRecordView.alignment_start_1based as method
 use Rattle.view.proofs.RawRecordView.alignment_start_1based.Met as theorem
 use Rattle.view.proofs.RawRecordView.alignment_start_1based.Symbol as symbol
-use Rattle.view.proofs.Thin.{enum}
-use Rattle.run_view.proofs.Maker.{asked}
+use Rattle.view.proofs.Shared.{enum}
+use Rattle.run_view.proofs.Borrower.{asked}
 use Rattle.run_view.proofs.asked.alignment_start_1based.Code as code
 use Rattle.run_view.proofs.asked.alignment_start_1based.Key.{name}
 use Rattle.run_view.proofs.asked.alignment_start_1based.Statement.{statement}

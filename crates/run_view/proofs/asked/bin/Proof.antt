@@ -1,11 +1,11 @@
--- `Maker`'s law of `RawRecordView::bin`.
+-- `Borrower`'s law of `RawRecordView::bin`.
 use Rattle.answers.proofs.Nat as R
 use Rattle.answers.proofs.Nat.Laws as R′
 use Rattle.view.proofs.RawRecordView.bin as method
 use Rattle.view.proofs.RawRecordView.bin.Met as theorem
 use Rattle.view.proofs.RawRecordView.bin.Symbol as symbol
-use Rattle.view.proofs.Thin.{enum}
-use Rattle.run_view.proofs.Maker.{asked}
+use Rattle.view.proofs.Shared.{enum}
+use Rattle.run_view.proofs.Borrower.{asked}
 use Rattle.run_view.proofs.asked.bin.Code as code
 use Rattle.run_view.proofs.asked.bin.Key.{name}
 use Rattle.run_view.proofs.asked.bin.Statement.{statement}

@@ -1,11 +1,11 @@
--- `Maker`'s law of `RawRecordView::cigar_area`.
+-- `Borrower`'s law of `RawRecordView::cigar_area`.
 use Rattle.fields.proofs.Area as R
 use Rattle.fields.proofs.Area.Laws as R′
 use Rattle.view.proofs.RawRecordView.cigar_area as method
 use Rattle.view.proofs.RawRecordView.cigar_area.Met as theorem
 use Rattle.view.proofs.RawRecordView.cigar_area.Symbol as symbol
-use Rattle.view.proofs.Thin.{enum}
-use Rattle.run_view.proofs.Maker.{asked}
+use Rattle.view.proofs.Shared.{enum}
+use Rattle.run_view.proofs.Borrower.{asked}
 use Rattle.run_view.proofs.asked.cigar_area.Code as code
 use Rattle.run_view.proofs.asked.cigar_area.Key.{name}
 use Rattle.run_view.proofs.asked.cigar_area.Statement.{statement}

@@ -1,11 +1,11 @@
--- `Maker`'s law of `RawRecordView::cigar_lengths`.
+-- `Borrower`'s law of `RawRecordView::cigar_lengths`.
 use Rattle.lengths.proofs.Lengths as R
 use Rattle.lengths.proofs.Lengths.Laws as R′
 use Rattle.view.proofs.RawRecordView.cigar_lengths as method
 use Rattle.view.proofs.RawRecordView.cigar_lengths.Met as theorem
 use Rattle.view.proofs.RawRecordView.cigar_lengths.Symbol as symbol
-use Rattle.view.proofs.Thin.{enum}
-use Rattle.run_view.proofs.Maker.{asked}
+use Rattle.view.proofs.Shared.{enum}
+use Rattle.run_view.proofs.Borrower.{asked}
 use Rattle.run_view.proofs.asked.cigar_lengths.Code as code
 use Rattle.run_view.proofs.asked.cigar_lengths.Key.{name}
 use Rattle.run_view.proofs.asked.cigar_lengths.Statement.{statement}

@@ -1,11 +1,11 @@
--- `Maker`'s law of `RawRecordView::flags`.
+-- `Borrower`'s law of `RawRecordView::flags`.
 use Rattle.answers.proofs.Nat as R
 use Rattle.answers.proofs.Nat.Laws as R′
 use Rattle.view.proofs.RawRecordView.flags as method
 use Rattle.view.proofs.RawRecordView.flags.Met as theorem
 use Rattle.view.proofs.RawRecordView.flags.Symbol as symbol
-use Rattle.view.proofs.Thin.{enum}
-use Rattle.run_view.proofs.Maker.{asked}
+use Rattle.view.proofs.Shared.{enum}
+use Rattle.run_view.proofs.Borrower.{asked}
 use Rattle.run_view.proofs.asked.flags.Code as code
 use Rattle.run_view.proofs.asked.flags.Key.{name}
 use Rattle.run_view.proofs.asked.flags.Statement.{statement}

@@ -1,11 +1,11 @@
--- `Maker`'s law of `RawRecordView::l_read_name`.
+-- `Borrower`'s law of `RawRecordView::l_read_name`.
 use Rattle.answers.proofs.Nat as R
 use Rattle.answers.proofs.Nat.Laws as R′
 use Rattle.view.proofs.RawRecordView.l_read_name as method
 use Rattle.view.proofs.RawRecordView.l_read_name.Met as theorem
 use Rattle.view.proofs.RawRecordView.l_read_name.Symbol as symbol
-use Rattle.view.proofs.Thin.{enum}
-use Rattle.run_view.proofs.Maker.{asked}
+use Rattle.view.proofs.Shared.{enum}
+use Rattle.run_view.proofs.Borrower.{asked}
 use Rattle.run_view.proofs.asked.l_read_name.Code as code
 use Rattle.run_view.proofs.asked.l_read_name.Key.{name}
 use Rattle.run_view.proofs.asked.l_read_name.Statement.{statement}

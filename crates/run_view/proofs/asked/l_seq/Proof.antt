@@ -1,11 +1,11 @@
--- `Maker`'s law of `RawRecordView::l_seq`.
+-- `Borrower`'s law of `RawRecordView::l_seq`.
 use Rattle.answers.proofs.Nat as R
 use Rattle.answers.proofs.Nat.Laws as R′
 use Rattle.view.proofs.RawRecordView.l_seq as method
 use Rattle.view.proofs.RawRecordView.l_seq.Met as theorem
 use Rattle.view.proofs.RawRecordView.l_seq.Symbol as symbol
-use Rattle.view.proofs.Thin.{enum}
-use Rattle.run_view.proofs.Maker.{asked}
+use Rattle.view.proofs.Shared.{enum}
+use Rattle.run_view.proofs.Borrower.{asked}
 use Rattle.run_view.proofs.asked.l_seq.Code as code
 use Rattle.run_view.proofs.asked.l_seq.Key.{name}
 use Rattle.run_view.proofs.asked.l_seq.Statement.{statement}

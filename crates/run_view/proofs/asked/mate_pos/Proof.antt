@@ -1,11 +1,11 @@
--- `Maker`'s law of `RawRecordView::mate_pos`.
+-- `Borrower`'s law of `RawRecordView::mate_pos`.
 use Rattle.answers.proofs.Int as R
 use Rattle.answers.proofs.Int.Laws as R′
 use Rattle.view.proofs.RawRecordView.mate_pos as method
 use Rattle.view.proofs.RawRecordView.mate_pos.Met as theorem
 use Rattle.view.proofs.RawRecordView.mate_pos.Symbol as symbol
-use Rattle.view.proofs.Thin.{enum}
-use Rattle.run_view.proofs.Maker.{asked}
+use Rattle.view.proofs.Shared.{enum}
+use Rattle.run_view.proofs.Borrower.{asked}
 use Rattle.run_view.proofs.asked.mate_pos.Code as code
 use Rattle.run_view.proofs.asked.mate_pos.Key.{name}
 use Rattle.run_view.proofs.asked.mate_pos.Statement.{statement}

@@ -1,11 +1,11 @@
--- `Maker`'s law of `RawRecordView::n_cigar_op`.
+-- `Borrower`'s law of `RawRecordView::n_cigar_op`.
 use Rattle.answers.proofs.Nat as R
 use Rattle.answers.proofs.Nat.Laws as R′
 use Rattle.view.proofs.RawRecordView.n_cigar_op as method
 use Rattle.view.proofs.RawRecordView.n_cigar_op.Met as theorem
 use Rattle.view.proofs.RawRecordView.n_cigar_op.Symbol as symbol
-use Rattle.view.proofs.Thin.{enum}
-use Rattle.run_view.proofs.Maker.{asked}
+use Rattle.view.proofs.Shared.{enum}
+use Rattle.run_view.proofs.Borrower.{asked}
 use Rattle.run_view.proofs.asked.n_cigar_op.Code as code
 use Rattle.run_view.proofs.asked.n_cigar_op.Key.{name}
 use Rattle.run_view.proofs.asked.n_cigar_op.Statement.{statement}

@@ -1,11 +1,11 @@
--- `Maker`'s law of `RawRecordView::query_length`.
+-- `Borrower`'s law of `RawRecordView::query_length`.
 use Rattle.answers.proofs.Count as R
 use Rattle.answers.proofs.Count.Laws as R′
 use Rattle.view.proofs.RawRecordView.query_length as method
 use Rattle.view.proofs.RawRecordView.query_length.Met as theorem
 use Rattle.view.proofs.RawRecordView.query_length.Symbol as symbol
-use Rattle.view.proofs.Thin.{enum}
-use Rattle.run_view.proofs.Maker.{asked}
+use Rattle.view.proofs.Shared.{enum}
+use Rattle.run_view.proofs.Borrower.{asked}
 use Rattle.run_view.proofs.asked.query_length.Code as code
 use Rattle.run_view.proofs.asked.query_length.Key.{name}
 use Rattle.run_view.proofs.asked.query_length.Statement.{statement}

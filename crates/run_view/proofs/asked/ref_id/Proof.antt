@@ -1,11 +1,11 @@
--- `Maker`'s law of `RawRecordView::ref_id`.
+-- `Borrower`'s law of `RawRecordView::ref_id`.
 use Rattle.answers.proofs.Int as R
 use Rattle.answers.proofs.Int.Laws as R′
 use Rattle.view.proofs.RawRecordView.ref_id as method
 use Rattle.view.proofs.RawRecordView.ref_id.Met as theorem
 use Rattle.view.proofs.RawRecordView.ref_id.Symbol as symbol
-use Rattle.view.proofs.Thin.{enum}
-use Rattle.run_view.proofs.Maker.{asked}
+use Rattle.view.proofs.Shared.{enum}
+use Rattle.run_view.proofs.Borrower.{asked}
 use Rattle.run_view.proofs.asked.ref_id.Code as code
 use Rattle.run_view.proofs.asked.ref_id.Key.{name}
 use Rattle.run_view.proofs.asked.ref_id.Statement.{statement}

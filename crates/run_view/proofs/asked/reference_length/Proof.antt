@@ -1,9 +1,9 @@
--- `Maker`'s law of `RawRecordView::reference_length`.
+-- `Borrower`'s law of `RawRecordView::reference_length`.
 use Rattle.view.proofs.RawRecordView.reference_length as method
 use Rattle.view.proofs.RawRecordView.reference_length.Met as theorem
 use Rattle.view.proofs.RawRecordView.reference_length.Symbol as symbol
-use Rattle.view.proofs.Thin.{sint32}
-use Rattle.run_view.proofs.Maker.{asked}
+use Rattle.view.proofs.Shared.{sint32}
+use Rattle.run_view.proofs.Borrower.{asked}
 use Rattle.run_view.proofs.asked.reference_length.Code as code
 use Rattle.run_view.proofs.asked.reference_length.Key.{name}
 use Rattle.run_view.proofs.asked.reference_length.Statement.{statement}

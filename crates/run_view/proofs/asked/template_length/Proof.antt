@@ -1,11 +1,11 @@
--- `Maker`'s law of `RawRecordView::template_length`.
+-- `Borrower`'s law of `RawRecordView::template_length`.
 use Rattle.answers.proofs.Int as R
 use Rattle.answers.proofs.Int.Laws as R′
 use Rattle.view.proofs.RawRecordView.template_length as method
 use Rattle.view.proofs.RawRecordView.template_length.Met as theorem
 use Rattle.view.proofs.RawRecordView.template_length.Symbol as symbol
-use Rattle.view.proofs.Thin.{enum}
-use Rattle.run_view.proofs.Maker.{asked}
+use Rattle.view.proofs.Shared.{enum}
+use Rattle.run_view.proofs.Borrower.{asked}
 use Rattle.run_view.proofs.asked.template_length.Code as code
 use Rattle.run_view.proofs.asked.template_length.Key.{name}
 use Rattle.run_view.proofs.asked.template_length.Statement.{statement}

@@ -1,11 +1,11 @@
--- `Maker`'s law of `RawRecordView::unclipped_5prime_1based`.
+-- `Borrower`'s law of `RawRecordView::unclipped_5prime_1based`.
 use Rattle.ends.proofs.Place1 as R
 use Rattle.ends.proofs.Place1.Laws as R′
 use Rattle.view.proofs.RawRecordView.unclipped_5prime_1based as method
 use Rattle.view.proofs.RawRecordView.unclipped_5prime_1based.Met as theorem
 use Rattle.view.proofs.RawRecordView.unclipped_5prime_1based.Symbol as symbol
-use Rattle.view.proofs.Thin.{enum}
-use Rattle.run_view.proofs.Maker.{asked}
+use Rattle.view.proofs.Shared.{enum}
+use Rattle.run_view.proofs.Borrower.{asked}
 use Rattle.run_view.proofs.asked.unclipped_5prime_1based.Code as code
 use Rattle.run_view.proofs.asked.unclipped_5prime_1based.Key.{name}
 use Rattle.run_view.proofs.asked.unclipped_5prime_1based.Statement.{statement}
