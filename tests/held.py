@@ -2,12 +2,15 @@
 import collections
 import itertools
 import os
+import re
 import subprocess
 import sys
 
 LIMIT = 300  # seconds that any run of the driver or the oracle may take
 HERE = os.path.dirname(os.path.abspath(__file__))
 JUDGE = os.path.join(os.path.dirname(HERE), 'target', 'judge', 'judge')
+LETTERS = 'MIDNSHP=X'
+FILL = 2779096485  # what stands in a lent output of ops before the call
 DRIVER = os.environ.get('DRIVER', os.path.join(HERE, 'driver'))
 
 
@@ -36,6 +39,11 @@ def ask(command, requests):
 def unfinished(request):
     """What the driver answers to a last line with no newline."""
     return subprocess.run([DRIVER], input=request, stdout=subprocess.PIPE, timeout=LIMIT).stdout
+
+
+def ops(cigar):
+    """The op numbers of a CIGAR text."""
+    return [int(length) * 16 + LETTERS.index(letter) for length, letter in re.findall(r'(\d+)(.)', cigar)]
 
 
 def listed(values):
@@ -92,6 +100,31 @@ def compare(words, command, missing, notice):
         if process.wait():
             differ[b'a process that failed'] += 1
     return cases, differ
+
+
+def written_cases(groups):
+    """Puts each group's requests to the driver, and to the oracle where it is at hand, and holds the answers to those that are written beside them; a group is one test."""
+    listed_missing = missing_calls()[1]
+    commands = [('driver', [DRIVER])] + ([('oracle', [JUDGE, 'oracle'])] if original_at_hand() else [])
+    passed = failed = skipped = 0
+    for name, cases in groups.items():
+        cases = [(request.encode(), due.encode()) for request, due in cases]
+        kept = [case for case in cases if case[0].split(b' ')[0] not in listed_missing]
+        skipped += len(cases) - len(kept)
+        if not kept:
+            print(f'{name}: not run')
+            continue
+        wrong = 0
+        for who, command in commands:
+            for (request, due), got in zip(kept, ask(command, [request for request, _ in kept])):
+                if due != got:
+                    show(request, due, got, words=('written', who))
+                    wrong += 1
+        print(f'{name}: {len(kept)} cases, {wrong} differ')
+        passed, failed = (passed, failed + 1) if wrong else (passed + 1, failed)
+    if skipped:
+        print(f'{skipped} cases not run, of calls that tests/calls-not-yet lists')
+    close(passed, failed)
 
 
 def close(passed, failed):
