@@ -112,14 +112,6 @@ pub two-parts : (d d₁ d₂ : List ℕ) (at n : ℕ) (vs ws : List ℕ) → at 
 two-parts d d₁ d₂ at n vs ws e h p q =
     q ∙ ap (λ (l : List ℕ). splice l n ws) p ∙ ap (λ (k : ℕ). splice (splice d at vs) k ws) (sym e) ∙ splice-append d at vs (omega arith) ws
 
--- one turn of a loop that writes a list from the front
-pub fill-turn : (d s : List ℕ) (j x : ℕ) → x ≡ getD s j 0 → j < length s → j < length d → set (splice d 0 (take j s)) j x ≡ splice d 0 (take (j + 1) s)
-fill-turn d s j x e h k =
-    let z : j ≡ 0 + j = omega arith in
-    ap (set (splice d 0 (take j s)) j) e
-    ∙ ap (λ (n : ℕ). set (splice d 0 (take j s)) n (getD s n 0)) z
-    ∙ splice-turn d 0 s 0 j (omega arith) (omega arith)
-
 -- a copy of a whole list
 pub whole-copy : (d : List ℕ) (n : ℕ) (xs ys : List ℕ) → xs ≡ ys → n ≡ length ys → splice d 0 (take n (drop 0 xs)) ≡ splice d 0 ys
 whole-copy d n xs ys e h = ap (λ (l : List ℕ). splice d 0 (take n l)) e ∙ ap (splice d 0) (take-all n ys (omega arith))

@@ -2,9 +2,8 @@
 use mathlib.Core.Path.{_≡_, refl}
 use mathlib.Core.Bool.{Bool, true, false, cond}
 use mathlib.Core.List.{List, [], _∷_}
-use Prim.Native.Nat.{ℕ}
-use native.Mathlib.Omega.{arith}
 use Rattle.lists.specs.Runs.{holds, afterLast}
+use Rattle.lists.proofs.Never.{never}
 
 pub after-none : {A : Type 0} (p : A → Bool) (xs : List A) → holds p xs ≡ false → afterLast p xs ≡ []
 unfolding holds afterLast
@@ -12,6 +11,6 @@ after-none p [] e = refl
 after-none {A} p (x ∷ xs) e = go (p x) (holds p xs) e
   where
     go : (t u : Bool) → cond t true u ≡ false → cond u (afterLast p xs) (cond t xs []) ≡ []
-    go true u h = let z : _≡_ {A = ℕ} 0 1 = cc in absurd (omega arith)
-    go false true h = let z : _≡_ {A = ℕ} 0 1 = cc in absurd (omega arith)
+    go true u h = never (cc)
+    go false true h = never (cc)
     go false false h = refl

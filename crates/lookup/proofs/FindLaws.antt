@@ -1,5 +1,4 @@
 -- A turn of lookup's walk: the op holds the reference base, or it is passed.
-use Rattle.sam.specs.Columns.{past}
 use Prim.Native.Nat.{ℕ, _+_, _-_, _≤_, _<_}
 use mathlib.Core.Path.{_≡_, refl, sym}
 use mathlib.Core.Bool.{Bool}
@@ -12,7 +11,8 @@ use Rattle.sam.specs.Op.{codeOf, isQuery, queryLen, refLen}
 use Rattle.answers.specs.declared.Over.the-variants.{Off}
 use Rattle.answers.specs.declared.Spot.{Spot}
 use Rattle.lookup.specs.Lookup.{held, look}
-use Rattle.sam.proofs.ColumnLaws.{past-past, spot-eq}
+use Rattle.lookup.specs.Seen.{past}
+use Rattle.lookup.proofs.SeenLaws.{past-past, spot-eq}
 
 module _ (xs : List ℕ) (i o : ℕ) (e : o ≡ getD xs i 0) (h : i < length xs) where
   pub look-turn : (b k n q : ℕ) → n ≡ refLen o → q ≡ queryLen o → n ≤ k → past (b + q) (look (drop (i + 1) xs) (k - n)) ≡ past b (look (drop i xs) k)

@@ -11,7 +11,8 @@ use borrow.Author.Tests.{ltb-true, ltb-false, lt-ltb, le-ltb}
 use Rattle.lists.specs.Lists.{sumOf}
 use Rattle.sam.specs.Op.{lenOf, codeOf, isRef, isQuery, queryLen, refLen}
 use Rattle.answers.specs.declared.Spot.{Spot}
-use Rattle.sam.specs.Columns.{Column, Both, Reference, spell, columns, queries, refs, Seen, base, gap, off, past}
+use Rattle.sam.specs.Columns.{Column, Both, Reference, spell, columns, queries, refs}
+use Rattle.lookup.specs.Seen.{Seen, base, gap, off, past}
 use Rattle.lookup.specs.Lookup.{held, look, readOver, lookup, onBase, upTo}
 use Rattle.lookup.specs.Meaning.{Reads}
 use Rattle.lookup.specs.Meaning as means
@@ -19,7 +20,8 @@ use Rattle.lookup.specs.declared.Found.{Found}
 use Rattle.lookup.specs.declared.Found.the-variants.{Nothing}
 use Rattle.oplist.specs.Ops.{mostOps}
 use Rattle.sam.proofs.LengthLaws.{query-length}
-use Rattle.sam.proofs.ColumnLaws.{seen, seen-past, seen-in, seen-is, is-seen, spot-eq, queries-spell, refs-spell, queries-append}
+use Rattle.sam.proofs.ColumnLaws.{queries-spell, refs-spell, queries-append}
+use Rattle.lookup.proofs.SeenLaws.{seen, seen-past, seen-in, seen-is, is-seen, spot-eq}
 
 seen-both : (n k : ℕ) → k < n → seen (replicate n Both) k ≡ held true k
 unfolding seen

@@ -6,7 +6,6 @@ use mathlib.Core.List.{List, [], _∷_}
 use lib.Dec.{ltb}
 use lib.IntN.{pos}
 use lib.ListN.{length}
-use Rattle.sam.specs.Columns.{past}
 use Rattle.sam.specs.Op.{codeOf, isQuery, queryLen, refLen}
 use Rattle.answers.specs.Answers.{Told, answered, refused, some, none}
 use Rattle.answers.specs.declared.Over.{Over}
@@ -14,6 +13,7 @@ use Rattle.answers.specs.declared.Over.the-variants.{Base, Gap, Off}
 use Rattle.answers.specs.declared.Spot.{Spot}
 use Rattle.answers.specs.declared.Refusal.the-variants.{TooManyOps, BadStart}
 use Rattle.oplist.specs.Ops.{mostOps}
+use Rattle.lookup.specs.Seen.{past}
 use Rattle.lookup.specs.declared.Found.{Found}
 use Rattle.lookup.specs.declared.Found.the-variants.{At, Nothing, Refused}
 

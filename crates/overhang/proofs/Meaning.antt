@@ -15,7 +15,8 @@ use Rattle.lists.specs.Lists.{sumOf}
 use Rattle.signed.specs.Whole.{raised}
 use Rattle.signed.proofs.Halves.{up, dn, plus, is-lt, is-le, raise-fact}
 use Rattle.sam.specs.Op.{lenOf, codeOf, isQuery, isRef, queryLen, refLen}
-use Rattle.sam.specs.Columns.{Column, Both, Query, Reference, columns, queries, refs, refOf, Seen}
+use Rattle.sam.specs.Columns.{Column, Both, Query, Reference, columns, queries, refs, refOf}
+use Rattle.lookup.specs.Seen.{Seen}
 use Rattle.sam.proofs.ColumnLaws.{queries-append}
 use Rattle.sam.proofs.LengthLaws.{query-length}
 use Rattle.answers.specs.declared.Spot.{Spot}

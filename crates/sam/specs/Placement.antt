@@ -4,11 +4,11 @@ use Prim.Native.Nat.{ℕ}
 use mathlib.Core.Path.{_≡_}
 use mathlib.Core.List.{List, [], _∷_, _++_}
 use mathlib.Core.Logic.{_⊎_}
+use Rattle.lists.specs.Lists.{Each}
 use Rattle.sam.specs.Op.{codeOf}
 
 abbrev pub AllHard : List ℕ → Type 0
-AllHard [] = Unit {0}
-AllHard (o ∷ xs) = (codeOf o ≡ 5) × AllHard xs
+AllHard xs = Each (λ o. codeOf o ≡ 5) xs
 
 pub record WellPlaced (xs : List ℕ) : Type 0 where
   pub hards : (left : List ℕ) (o : ℕ) (right : List ℕ) → xs ≡ left ++ (o ∷ right) → codeOf o ≡ 5 → (left ≡ []) ⊎ (right ≡ [])

@@ -4,7 +4,7 @@ use mathlib.Core.Bool.{Bool, cond}
 use mathlib.Core.List.{List, [], _∷_}
 use lib.IntN.{ℤ}
 use lib.ListN.{length, getD}
-use lib.Dec.{leb, eqb}
+use lib.Dec.{ltb, leb, eqb}
 use Rattle.signed.specs.Whole.{twos32}
 
 -- numbers at a place; past the end a byte counts 0
@@ -20,7 +20,10 @@ le32 b i = byteAt b i + 256 * byteAt b (i + 1) + 65536 * byteAt b (i + 2) + 1677
 abbrev pub int32 : List ℕ → ℕ → ℤ
 int32 b i = twos32 (le32 b i)
 
--- the fixed part
+-- the fixed part has 32 bytes
+abbrev pub isShort : List ℕ → Bool
+isShort b = ltb (length b) 32
+
 abbrev pub refIdOf : List ℕ → ℤ
 refIdOf b = int32 b 0
 

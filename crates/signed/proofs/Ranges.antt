@@ -32,10 +32,6 @@ module _ (z : ℤ) where
   unfolding checked
   checked-above h = ap sumAt (side-above h)
 
-  pub checked-below : up z + 2147483648 < dn z → checked z ≡ Over
-  unfolding checked
-  checked-below h = ap sumAt (side-below h)
-
   pub clamp-in : up z < dn z + 2147483648 → dn z ≤ up z + 2147483648 → clamp32 z ≡ z
   unfolding clamp32
   clamp-in h k = ap nearest (side-in h k)

@@ -1,7 +1,7 @@
 // 32-bit signed numbers: two's complement, checked and saturating sums. No other crate does signed arithmetic.
 ghost use mathlib.Core.Path.{_≡_};
 ghost use Prim.Native.Nat.{_<_};
-ghost use lib.IntN.{ℤ, _+ℤ_, _-ℤ_};
+ghost use lib.IntN.{_+ℤ_, _-ℤ_};
 ghost use Rattle.signed.specs.Equal.{eqℤ};
 ghost use Rattle.signed.specs.Whole.{twos32, twos64, raised, natural, sideOf, checked, clamp32};
 

@@ -6,31 +6,22 @@ use native.Mathlib.Omega.{arith}
 use borrow.Author.Needs.{needs}
 use Rattle.oplist.proofs.count.Statement.{statement}
 use Rattle.oplist.proofs.count.Tie as tie
-use Rattle.oplist.proofs.count.Reads as reads
-use Rattle.oplist.proofs.count.Lts as lts
-use Rattle.oplist.proofs.inside.Reads as inside-reads
 
--- src/lib.rt:116:13
 cast-n : tie.Need-cast-n
 cast-n c = search needs
 
--- src/lib.rt:118:12
 inside-requires : tie.Need-inside-requires
 inside-requires c κs = search needs
 
--- src/lib.rt:119:13
 returns : tie.Need-returns
 returns c = let a = c .before .before .before .before .before .before .args in let h = leb-true _ _ (sym (c .before .inside .ensures) ∙ c .if2 .taken) in let e = ap length (in-is (a .words .now) (a .rec .now) (a .ops) (c .before .before .if1 .taken) h) ∙ length-opsIn (a .rec .now) (a .ops .at) (a .ops .n) in (omega arith, omega arith)
 
--- src/lib.rt:121:9
 returns-2 : tie.Need-returns-2
 returns-2 c = let a = c .before .before .before .before .before .before .args in let h = leb-false _ _ (sym (c .before .inside .ensures) ∙ c .if2 .left) in let e = ap length (over-is (a .words .now) (a .rec .now) (a .ops) (c .before .before .if1 .taken) h) in (omega arith, omega arith)
 
--- src/lib.rt:124:9
 returns-3 : tie.Need-returns-3
 returns-3 c = let a = c .before .before .before .before .before .args in let e = ap length (out-is (a .words .now) (a .rec .now) (a .ops) (c .before .if1 .left)) ∙ length-take (a .ops .n) (a .words .now) in (omega arith, omega arith)
 
--- src/lib.rt:113:1
 returns-4 : tie.Need-returns-4
 returns-4 c = let a = c .before .before .before .before .before .args in let e = ap length (out-is (a .words .now) (a .rec .now) (a .ops) (c .before .if1 .left)) ∙ length-take (a .ops .n) (a .words .now) in (omega arith, omega arith)
 

@@ -6,30 +6,22 @@ use native.Mathlib.Omega.{arith}
 use borrow.Author.Needs.{needs}
 use Rattle.oplist.proofs.inside.Statement.{statement}
 use Rattle.oplist.proofs.inside.Tie as tie
-use Rattle.oplist.proofs.inside.Reads as reads
-use Rattle.oplist.proofs.inside.Lts as lts
 
--- src/lib.rt:107:9
 returns : tie.Need-returns
 returns c = let a = c .before .before .args in sym (lt-leb (a .ops .at + 4 * a .ops .n) (length (a .rec .now)) (omega arith))
 
--- src/lib.rt:109:8
 sub-if2 : tie.Need-sub-if2
 sub-if2 c = search needs
 
--- src/lib.rt:109:34
 cast-if2 : tie.Need-cast-if2
 cast-if2 c = search needs
 
--- src/lib.rt:109:29
 mul-if2 : tie.Need-mul-if2
 mul-if2 c = search needs
 
--- src/lib.rt:110:9
 returns-2 : tie.Need-returns-2
 returns-2 c = let a = c .before .before .before .before .before .args in sym (lt-leb (a .ops .at + 4 * a .ops .n) (length (a .rec .now)) (omega arith))
 
--- src/lib.rt:103:1
 returns-3 : tie.Need-returns-3
 returns-3 c = let a = c .before .before .before .before .before .args in sym (le-leb (a .ops .at + 4 * a .ops .n) (length (a .rec .now)) (omega arith))
 

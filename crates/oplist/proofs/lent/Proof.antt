@@ -3,14 +3,10 @@ use mathlib.Core.Path.{refl}
 use borrow.Author.Needs.{needs}
 use Rattle.oplist.proofs.lent.Statement.{statement}
 use Rattle.oplist.proofs.lent.Tie as tie
-use Rattle.oplist.proofs.lent.Reads as reads
-use Rattle.oplist.proofs.lent.Lts as lts
 
--- src/lib.rt:84:12
 cast-t3 : tie.Need-cast-t3
 cast-t3 c = search needs
 
--- src/lib.rt:77:1
 returns : tie.Need-returns
 returns c = λ b. whole _ b _ refl refl
 

@@ -3,34 +3,25 @@ use mathlib.Core.Path.{_∙_}
 use native.Mathlib.Omega.{arith}
 use Rattle.oplist.proofs.op_at.Statement.{statement}
 use Rattle.oplist.proofs.op_at.Tie as tie
-use Rattle.oplist.proofs.op_at.Reads as reads
-use Rattle.oplist.proofs.op_at.Lts as lts
 
--- src/lib.rt:126:37
 mul-u32-at : tie.Need-mul-u32-at
 mul-u32-at c = let a = c .before .before .before .args in let f = in-fits (a .words .now) (a .rec .now) (a .ops) (a .i) (c .if1 .taken) (c .before .before .before .pre) in omega arith
 
--- src/lib.rt:126:28
 add-u32-at : tie.Need-add-u32-at
 add-u32-at c = let a = c .before .before .before .before .args in let f = in-fits (a .words .now) (a .rec .now) (a .ops) (a .i) (c .before .if1 .taken) (c .before .before .before .before .pre) in omega arith
 
--- src/lib.rt:126:9
 u32-at-requires : tie.Need-u32-at-requires
 u32-at-requires c κs = let a = c .before .before .before .before .args in let f = in-fits (a .words .now) (a .rec .now) (a .ops) (a .i) (c .before .if1 .taken) (c .before .before .before .before .pre) in omega arith
 
--- src/lib.rt:126:9
 returns : tie.Need-returns
 returns c = let a = c .before .before .before .before .before .args in c .u32-at .ensures ∙ get-in (a .words .now) (a .rec .now) (a .ops) (a .i) (c .before .before .if1 .taken) (c .before .before .before .before .before .pre)
 
--- src/lib.rt:128:5
 mul-result : tie.Need-mul-result
 mul-result c = let a = c .before .before .before .args in let f = out-fits (a .words .now) (a .rec .now) (a .ops) (a .i) (c .if1 .left) (c .before .before .before .pre) in omega arith
 
--- src/lib.rt:128:5
 shared-slice-read-result : tie.Need-shared-slice-read-result
 shared-slice-read-result c = let a = c .before .before .before .before .args in let f = out-fits (a .words .now) (a .rec .now) (a .ops) (a .i) (c .before .if1 .left) (c .before .before .before .before .pre) in omega arith
 
--- src/lib.rt:121:1
 returns-2 : tie.Need-returns-2
 returns-2 c = let a = c .before .before .before .before .args in get-out (a .words .now) (a .rec .now) (a .ops) (a .i) (c .before .if1 .left) (c .before .before .before .before .pre)
 

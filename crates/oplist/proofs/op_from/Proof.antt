@@ -1,43 +1,32 @@
 use Rattle.oplist.specs.Ops.{opsOf}
 use Rattle.lists.proofs.ListLaws.{at-start, at-end}
 use lib.ListN.{getD}
-use Prim.Native.Nat.{ℕ, _+_, _-_}
+use Prim.Native.Nat.{ℕ, _-_}
 use mathlib.Core.Path.{ap, _∙_}
 use borrow.Author.Needs.{needs}
 use Rattle.oplist.proofs.op_from.Statement.{statement}
 use Rattle.oplist.proofs.op_from.Tie as tie
-use Rattle.oplist.proofs.op_from.Reads as reads
-use Rattle.oplist.proofs.op_from.Lts as lts
-use Rattle.oplist.proofs.count.Reads as count-reads
-use Rattle.oplist.proofs.op_at.Reads as op-at-reads
 
--- src/lib.rt:150:9
 op-at-requires : tie.Need-op-at-requires
 op-at-requires c κs = search needs
 
--- src/lib.rt:150:9
 returns : tie.Need-returns
 returns c = let a = c .before .before .before .before .args in
     let xs = opsOf (a .words .now) (a .rec .now) (a .ops) in
     c .op-at .ensures ∙ at-start (a .start) xs (a .i) (c .before .if1 .taken)
 
--- src/lib.rt:152:28
 count-requires : tie.Need-count-requires
 count-requires c κs = search needs
 
--- src/lib.rt:152:28
 sub-op-at : tie.Need-sub-op-at
 sub-op-at c = search needs
 
--- src/lib.rt:152:28
 sub-op-at-2 : tie.Need-sub-op-at-2
 sub-op-at-2 c = search needs
 
--- src/lib.rt:152:5
 op-at-requires-2 : tie.Need-op-at-requires-2
 op-at-requires-2 c κs = search needs
 
--- src/lib.rt:145:1
 returns-2 : tie.Need-returns-2
 returns-2 c = let a = c .before .before .before .before .before .args in
     let xs = opsOf (a .words .now) (a .rec .now) (a .ops) in
