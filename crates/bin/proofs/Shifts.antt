@@ -33,11 +33,6 @@ unfolding low16
 low-add o (pos n) = omega arith
 low-add o (negsuc n) = low-sub (ltb o (suc n)) o n (ltb→lt o (suc n)) (nltb→le o (suc n))
 
-pub low-small : (z : ℤ) → low16 z < 65536
-unfolding low16
-low-small (pos n) = omega arith
-low-small (negsuc n) = omega arith
-
 -- what calls with signed arguments tell: an argument is read back from its bits
 module _ (beg last : ℤ) (f : SFits w32 beg) (g : SFits w32 last) where
   pub agrees : (k : ℕ) (r t : Bool) → r ≡ eqℤ (shr (toZ w32 (ofZ w32 beg)) k) (shr (toZ w32 (ofZ w32 last)) k) → r ≡ t → eqℤ (shr beg k) (shr last k) ≡ t

@@ -1,18 +1,19 @@
 -- Document 01, module 11: "Offsets 4681, 585, 73, 9, 1 at shifts 14, 17, 20, 23, 26: the first shift at which beg and end-1 agree; else 0.
 -- The low 16 bits are kept." On every pair of i32; shifts round down.
-use Prim.Native.Nat.{ℕ, _+_, _-_, _/_, _%_, _^_}
+use Prim.Native.Nat.{ℕ, _-_, _/_, _%_, _^_}
 use mathlib.Core.Bool.{cond}
 use mathlib.Core.List.{List, [], _∷_}
-use lib.Dec.{ltb}
-use lib.ListN.{length, set}
+use lib.ListN.{set}
 use lib.IntN.{ℤ, pos, negsuc, _+ℤ_, _-ℤ_}
 use lib.Signed.{shrZ, ltZ}
 use Rattle.signed.specs.Equal.{eqℤ}
 use Rattle.signed.specs.Whole.{checked}
 use Rattle.signed.specs.declared.Sum.{Sum}
 use Rattle.signed.specs.declared.Sum.the-variants as Sum
-use Rattle.sam.specs.Record.{posOf}
-use Rattle.lengths.specs.Lengths.{refLengthOrZero}
+use Rattle.sam.specs.Record.{posOf, isShort}
+use Rattle.answers.specs.declared.Int.{Int}
+use Rattle.answers.specs.declared.Int.the-variants as Int
+use Rattle.lengths.specs.Lengths.{askedLength}
 use Rattle.answers.specs.Settled.{Outcome, keeps}
 use Rattle.answers.specs.declared.Refusal.the-variants.{Overflow, ShortRecord}
 use Rattle.answers.specs.declared.Nat.{Nat}
@@ -69,13 +70,19 @@ unfolding reg2bin
 binUpTo beg (Sum.Number end) = reg2bin beg end
 binUpTo beg Sum.Over = Refused Overflow
 
+-- of a region of that length; a refused length is passed on
+unfoldable pub binFrom : ℤ → Int → Nat
+unfolding binUpTo
+binFrom beg (Int.Number n) = binUpTo beg (checked (beg +ℤ spanOf n))
+binFrom beg (Int.Refused r) = Refused r
+
 -- a record's bin: 1; "a record with `pos` below 0 has 4680"; 4
 unfoldable pub recordBin : List ℕ → Nat
-unfolding binUpTo
+unfolding binFrom
 recordBin b =
-    cond (ltb (length b) 32) (Refused ShortRecord)
+    cond (isShort b) (Refused ShortRecord)
     (cond (ltZ (posOf b) (pos 0)) (Number 4680)
-    (binUpTo (posOf b) (checked (posOf b +ℤ spanOf (refLengthOrZero b)))))
+    (binFrom (posOf b) (askedLength b)))
 
 -- "`set_bin_from_raw_bam` writes bytes 10 and 11 only", the low byte first
 abbrev pub withBin : List ℕ → Nat → Outcome Nat

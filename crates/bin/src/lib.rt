@@ -4,7 +4,9 @@ ghost use Prim.Native.Nat.{_<_};
 ghost use lib.IntN.{pos, _+ℤ_};
 ghost use Rattle.answers.specs.Settled.{Settled};
 ghost use Rattle.signed.specs.Equal.{eqℤ};
-ghost use Rattle.bin.specs.Bin.{shr, binOf, low16, reg2bin, spanOf, recordBin, setBin};
+ghost use Rattle.bin.specs.Bin.{shr, binOf, low16, reg2bin, spanOf, binFrom, recordBin, setBin};
+ghost use Rattle.answers.specs.declared.Int.the-variants.{Number};
+use answers::Int;
 use answers::Nat;
 use answers::Refusal;
 use signed::Sum;
@@ -81,6 +83,16 @@ fn span_of(n: i32) -> i32
     if n < 1 { 1 } else { n }
 }
 
+// The bin of a region of n bases, at least 1. Refusal 4.
+fn bin_from(beg: i32, n: i32) -> Nat
+    ensures { λ r. ⌜ r ≡ binFrom beg (Number n) ⌝ }
+{
+    match signed::checked_add(beg, span_of(n)) {
+        Sum::Number(end) => reg2bin(beg, end),
+        Sum::Over => Nat::Refused(Refusal::Overflow),
+    }
+}
+
 // A record's bin. Refusals 1 and 4.
 pub fn bin_from_raw_bam(bam: &[u8]) -> Nat
     ensures { λ r. ⌜ r ≡ recordBin (now (bam .entry)) ⌝ }
@@ -92,10 +104,9 @@ pub fn bin_from_raw_bam(bam: &[u8]) -> Nat
     if start < 0 {
         return Nat::Number(UNMAPPED_BIN);
     }
-    let len = span_of(lengths::reference_length_from_raw_bam(bam));
-    match signed::checked_add(start, len) {
-        Sum::Number(end) => reg2bin(start, end),
-        Sum::Over => Nat::Refused(Refusal::Overflow),
+    match lengths::asked_length(bam) {
+        Int::Number(n) => bin_from(start, n),
+        Int::Refused(why) => Nat::Refused(why),
     }
 }
 

@@ -2,7 +2,8 @@
 ghost use Rattle.answers.specs.Settled.{Settled};
 ghost use Rattle.answers.specs.Answers.{tellCount, tellFlag};
 ghost use Rattle.overhang.specs.Overhang.{basesExtending};
-ghost use Rattle.overlap.specs.Overlap.{oppositePair, frPair, primaryFrPair, pastMateCigar, pastMateRecord, pastMateText, tellOverhang};
+ghost use Rattle.pairs.specs.Pairs.{oppositePair, frPair, primaryFrPair};
+ghost use Rattle.overlap.specs.Overlap.{pastMateCigar, pastMateRecord, pastMateText, tellOverhang};
 ghost use Rattle.given.specs.Exported.{exported, Filled};
 ghost use Rattle.given.specs.Flags.{flagged};
 use answers::Pos1;
@@ -12,21 +13,21 @@ use overlap::Overhang;
 pub extern "C" fn cigar_is_mapped_opposite_strand_pair_raw(rec: &[u8], values: &mut [u64]) -> u32
     ensures { λ r. ⌜ Settled (exported (tellFlag (oppositePair (now (rec .entry)))) (now (values .entry))) r (now (values .exit)) ⌝ }
 {
-    given::give_flag(overlap::is_mapped_opposite_strand_pair_raw(rec), values)
+    given::give_flag(pairs::is_mapped_opposite_strand_pair_raw(rec), values)
 }
 
 #[no_mangle]
 pub extern "C" fn cigar_is_fr_pair_raw(rec: &[u8], values: &mut [u64]) -> u32
     ensures { λ r. ⌜ Settled (exported (tellFlag (frPair (now (rec .entry)))) (now (values .entry))) r (now (values .exit)) ⌝ }
 {
-    given::give_flag(overlap::is_fr_pair_raw(rec), values)
+    given::give_flag(pairs::is_fr_pair_raw(rec), values)
 }
 
 #[no_mangle]
 pub extern "C" fn cigar_is_primary_fr_pair_raw(rec: &[u8], mate: &[u8], values: &mut [u64]) -> u32
     ensures { λ r. ⌜ Settled (exported (tellFlag (primaryFrPair (now (rec .entry)) (now (mate .entry)))) (now (values .entry))) r (now (values .exit)) ⌝ }
 {
-    given::give_flag(overlap::is_primary_fr_pair_raw(rec, mate), values)
+    given::give_flag(pairs::is_primary_fr_pair_raw(rec, mate), values)
 }
 
 #[no_mangle]

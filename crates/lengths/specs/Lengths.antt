@@ -50,6 +50,10 @@ unfoldable pub refLengthOrZero : List ℕ → ℤ
 unfolding checkedRefLength
 refLengthOrZero b = orZero (checkedRefLength b)
 
+-- a record's length as bins and pair tests ask for it; they pass a refusal on, of which document 01 has none here
+unfoldable pub askedLength : List ℕ → Int
+askedLength b = Int.Number (refLengthOrZero b)
+
 -- of a record: 1
 unfoldable pub recordQueryLength : List ℕ → Count
 recordQueryLength b = cond (ltb (length b) 32) (Count.Refused ShortRecord) (Count.Number (sumOf queryLen (recordOps b)))

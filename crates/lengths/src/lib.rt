@@ -1,12 +1,12 @@
 // Document 01, module 3: lengths of op lists, lent or in a record. One walk, and thin calls over it.
 ghost use mathlib.Core.Path.{_≡_};
-ghost use Prim.Native.Nat.{_*_, _≤_};
+ghost use Prim.Native.Nat.{_≤_};
 ghost use lib.IntN.{pos};
 ghost use Rattle.lists.specs.Lists.{sumOf};
 ghost use Rattle.signed.specs.Whole.{clamp32};
 ghost use Rattle.sam.specs.Op.{refLen, queryLen};
 ghost use Rattle.oplist.specs.Ops.{opsOf};
-ghost use Rattle.lengths.specs.Lengths.{asInt, refLength, queryLength, saturatedLength, checkedRefLength, refLengthOrZero, recordQueryLength, bothLengths};
+ghost use Rattle.lengths.specs.Lengths.{asInt, refLength, queryLength, saturatedLength, checkedRefLength, refLengthOrZero, askedLength, recordQueryLength, bothLengths};
 use answers::Count;
 use answers::Int;
 use answers::Refusal;
@@ -113,7 +113,7 @@ pub fn reference_length_from_raw_bam_checked(bam: &[u8]) -> Int
     as_int(total.refs)
 }
 
-// A record's reference length, 0 where the checked form refuses. Ends, bins, pair tests and overhang ask this.
+// A record's reference length, 0 where the checked form refuses.
 pub fn reference_length_from_raw_bam(bam: &[u8]) -> i32
     ensures { λ r. ⌜ r ≡ refLengthOrZero (now (bam .entry)) ⌝ }
 {
@@ -121,6 +121,13 @@ pub fn reference_length_from_raw_bam(bam: &[u8]) -> i32
         Int::Number(n) => n,
         Int::Refused(_) => 0,
     }
+}
+
+// A record's reference length as bins and pair tests ask for it: they pass a refusal on, and here alone it is made 0.
+pub fn asked_length(bam: &[u8]) -> Int
+    ensures { λ r. ⌜ r ≡ askedLength (now (bam .entry)) ⌝ }
+{
+    Int::Number(reference_length_from_raw_bam(bam))
 }
 
 // A record's query length. Refusal 1.

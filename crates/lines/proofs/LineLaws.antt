@@ -10,6 +10,7 @@ use lib.ListN.{length, take, drop, length-append, length-take, length-drop}
 use lib.Seq.{take-at, length-take-le}
 use borrow.Author.Tests.{ltb-false, le-ltb, lt-ltb}
 use borrow.Rule.Slice.PartMut.{midOf, postOf, putMid, same-len-mid, put-same}
+use Rattle.lists.proofs.Never.{never}
 use Rattle.lists.specs.Lists.{sumOf, splice}
 use Rattle.lists.proofs.ListLaws.{length-splice}
 use Rattle.sam.specs.Op.{refLen, queryLen}
@@ -154,22 +155,22 @@ unfolding rowOf
 row-refused (Int.Refused r) q u k s w e = let g : r ≡ w = cc in rw (not-zero r) (ap numberOf g)
 row-refused (Int.Number z) q (Place1.Refused r) k s w e = let g : r ≡ w = cc in rw (not-zero r) (ap numberOf g)
 row-refused (Int.Number z) q (Place1.At p) (Nat.Refused r) s w e = let g : r ≡ w = cc in ap numberOf g
-row-refused (Int.Number z) q (Place1.At p) (Nat.Number m) s w e = let z : _≡_ {A = ℕ} 0 1 = cc in absurd (omega arith)
+row-refused (Int.Number z) q (Place1.At p) (Nat.Number m) s w e = never (cc)
 
 row-given : (i : Int) (q : ℕ) (u : Place1) (k : Nat) (s : Bool) (w : Row) → rowOf i q u k s ≡ Figures.Row w
     → firstGiven 0 (tellInt i .number) (tellPlace1 u .number) (tellNat k .number) ≡ 0
 unfolding rowOf
-row-given (Int.Refused r) q u k s w e = let z : _≡_ {A = ℕ} 0 1 = cc in absurd (omega arith)
-row-given (Int.Number z) q (Place1.Refused r) k s w e = let z : _≡_ {A = ℕ} 0 1 = cc in absurd (omega arith)
-row-given (Int.Number z) q (Place1.At p) (Nat.Refused r) s w e = let z : _≡_ {A = ℕ} 0 1 = cc in absurd (omega arith)
+row-given (Int.Refused r) q u k s w e = never (cc)
+row-given (Int.Number z) q (Place1.Refused r) k s w e = never (cc)
+row-given (Int.Number z) q (Place1.At p) (Nat.Refused r) s w e = never (cc)
 row-given (Int.Number z) q (Place1.At p) (Nat.Number m) s w e = refl
 
 row-shown : (i : Int) (q : ℕ) (u : Place1) (k : Nat) (s : Bool) (w : Row) → rowOf i q u k s ≡ Figures.Row w
     → shown (tellInt i) ∷ decimal q ∷ shown (tellPlace1 u) ∷ shown (tellNat k) ∷ decimal (oneIf s) ∷ [] ≡ rowFields w
 unfolding rowOf signedDecimal
-row-shown (Int.Refused r) q u k s w e = let z : _≡_ {A = ℕ} 0 1 = cc in absurd (omega arith)
-row-shown (Int.Number z) q (Place1.Refused r) k s w e = let z : _≡_ {A = ℕ} 0 1 = cc in absurd (omega arith)
-row-shown (Int.Number z) q (Place1.At p) (Nat.Refused r) s w e = let z : _≡_ {A = ℕ} 0 1 = cc in absurd (omega arith)
+row-shown (Int.Refused r) q u k s w e = never (cc)
+row-shown (Int.Number z) q (Place1.Refused r) k s w e = never (cc)
+row-shown (Int.Number z) q (Place1.At p) (Nat.Refused r) s w e = never (cc)
 row-shown (Int.Number z) q (Place1.At p) (Nat.Number m) s w e =
     let g : _≡_ {A = Row} (record { refs = z; query = q; five = p .0; bin = m; same = s }) w = cc in ap rowFields g
 

@@ -9,6 +9,7 @@ use lib.ListN.{length, length-replicate}
 use lib.Signed.{ltZ}
 use lib.IntN.{ℤ, pos, _+ℤ_, _-ℤ_}
 use borrow.Author.Tests.{le-ltb, ltb-false, eqb-true}
+use Rattle.lists.proofs.Never.{never}
 use Rattle.lists.specs.Lists.{splice, sumOf}
 use Rattle.lists.specs.Runs.{holds}
 use Rattle.signed.specs.Whole.{checked}
@@ -25,12 +26,12 @@ use Rattle.answers.specs.declared.Nat.the-variants as Nat
 use Rattle.answers.specs.declared.Count.{Count}
 use Rattle.answers.specs.declared.Count.the-variants as Count
 use Rattle.print.specs.Text.{textOf, anyBad, printed}
-use Rattle.lengths.specs.Lengths.{asInt, checkedRefLength, refLengthOrZero, recordQueryLength}
+use Rattle.lengths.specs.Lengths.{asInt, checkedRefLength, refLengthOrZero, askedLength, recordQueryLength}
 use Rattle.ends.specs.Sums.{_⊕_}
 use Rattle.ends.specs.Ends.{toPlace1, oneBased, fivePrime, noOps, asUnclipped, unclippedAt, unclippedOf, asRust, tellPlace1}
 use Rattle.ends.specs.declared.Unclipped.{Unclipped}
 use Rattle.ends.specs.declared.Unclipped.the-variants as Unclipped
-use Rattle.bin.specs.Bin.{binTo, reg2bin, binUpTo, spanOf, recordBin}
+use Rattle.bin.specs.Bin.{binTo, reg2bin, binUpTo, spanOf, recordBin, binFrom}
 use Rattle.lines.specs.Line.{textRoom, textTold, refsTold, fiveTold, binTold, order, firstOf, refusalOf}
 
 -- ---- a test over all numbers of a list
@@ -44,13 +45,13 @@ Among x xs = holds (eqb x) xs ≡ true
 
 every-at : (f : ℕ → Bool) (x : ℕ) (xs : List ℕ) → every f xs ≡ true → Among x xs → f x ≡ true
 unfolding holds
-every-at f x [] e h = let z : _≡_ {A = ℕ} 0 1 = cc in absurd (omega arith)
+every-at f x [] e h = never (cc)
 every-at f x (y ∷ ys) e h = go (every-at f x ys) (f y) refl e (eqb x y) refl h
   where
     go : (every f ys ≡ true → Among x ys → f x ≡ true) → (t : Bool) → f y ≡ t → (t && every f ys) ≡ true → (u : Bool) → eqb x y ≡ u → cond u true (holds (eqb x) ys) ≡ true → f x ≡ true
     go ih true q e' true r h' = ap f (eqb-true x y r) ∙ q
     go ih true q e' false r h' = ih e' h'
-    go ih false q e' u r h' = let z : _≡_ {A = ℕ} 0 1 = cc in absurd (omega arith)
+    go ih false q e' u r h' = never (cc)
 
 -- the first that is given, asked one after the other
 abbrev pub firstGiven : ℕ → ℕ → ℕ → ℕ → ℕ
@@ -102,7 +103,7 @@ text-refused b d w = go (ltb (length b) 32) (anyBad (recordOps b)) (ltb (length 
     go true t u l n e = refl
     go false true u l n e = refl
     go false false true l n e = refl
-    go false false false l n e = let z : _≡_ {A = ℕ} 0 1 = cc in absurd (omega arith)
+    go false false false l n e = never (cc)
 
 pub record Shown (b d : List ℕ) (n : ℕ) : Type 0 where
   pub long : 32 ≤ length b
@@ -115,9 +116,9 @@ unfolding printed
 text-shown b d n e = go (ltb (length b) 32) refl (anyBad (recordOps b)) refl (ltb (length d) (length (textOf (recordOps b)))) refl
   where
     go : (s : Bool) → ltb (length b) 32 ≡ s → (t : Bool) → anyBad (recordOps b) ≡ t → (u : Bool) → ltb (length d) (length (textOf (recordOps b))) ≡ u → Shown b d n
-    go true p t q u r = let f : Count.Refused ShortRecord ≡ Count.Number n = rw p at e in let z : _≡_ {A = ℕ} 0 1 = cc in absurd (omega arith)
-    go false p true q u r = let f : Count.Refused BadCode ≡ Count.Number n = rw (p, q) at e in let z : _≡_ {A = ℕ} 0 1 = cc in absurd (omega arith)
-    go false p false q true r = let f : Count.Refused NoRoom ≡ Count.Number n = rw (p, q, r) at e in let z : _≡_ {A = ℕ} 0 1 = cc in absurd (omega arith)
+    go true p t q u r = let f : Count.Refused ShortRecord ≡ Count.Number n = rw p at e in never (cc)
+    go false p true q u r = let f : Count.Refused BadCode ≡ Count.Number n = rw (p, q) at e in never (cc)
+    go false p false q true r = let f : Count.Refused NoRoom ≡ Count.Number n = rw (p, q, r) at e in never (cc)
     go false p false q false r =
         let f : Count.Number (length (textOf (recordOps b))) ≡ Count.Number n = rw (p, q, r) at e in
         let g : length (textOf (recordOps b)) ≡ n = cc in
@@ -179,7 +180,7 @@ bin-up-to z (Sum.Number e) = bin-to z (checked (e -ℤ pos 1))
 bin-up-to z Sum.Over = refl
 
 bin-among : (b : List ℕ) → 32 ≤ length b → Among (binTold b .number) (0 ∷ 4 ∷ [])
-unfolding holds recordBin
+unfolding holds recordBin binFrom askedLength
 bin-among b h = rw (le-ltb (length b) 32 h) (go (ltZ (posOf b) (pos 0)) (checked (posOf b +ℤ spanOf (refLengthOrZero b))))
   where
     go : (t : Bool) (s : Sum) → Among (tellNat (cond t (Nat.Number 4680) (binUpTo (posOf b) s)) .number) (0 ∷ 4 ∷ [])

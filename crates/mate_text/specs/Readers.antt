@@ -3,10 +3,9 @@
 use Prim.Native.Nat.{ℕ, _≤_}
 use mathlib.Core.Path.{_≡_}
 use mathlib.Core.List.{List}
-use Rattle.lists.specs.Lists.{sumOf}
+use Rattle.lists.specs.Lists.{Each, sumOf}
 use Rattle.sam.specs.Op.{lenOf, refLen}
 use Rattle.ops.specs.Clips.{leadingClips, trailingClips}
-use Rattle.strict_text.specs.Meaning.{Each}
 use Rattle.mate_text.specs.Mate.{mateLeading, mateReference, mateTrailing}
 
 abbrev pub Short : List ℕ → Type 0

@@ -1,6 +1,6 @@
 -- The ways out of each call, over plain lists: one test after another, as the definitions have them.
 use Prim.Native.Nat.{ℕ, _≤_, _<_}
-use mathlib.Core.Path.{_≡_, refl, ap, _∙_}
+use mathlib.Core.Path.{_≡_, refl, ap}
 use mathlib.Core.Bool.{Bool, true, false, cond}
 use mathlib.Core.List.{List}
 use native.Mathlib.Omega.{arith}
@@ -9,12 +9,15 @@ use lib.ListN.{length, take}
 use lib.Seq.{take-at}
 use borrow.Author.Tests.{lt-ltb, le-ltb}
 use Rattle.lists.specs.Lists.{sumOf, splice}
+use Rattle.lists.proofs.Never.{never}
 use Rattle.signed.specs.Whole.{clamp32}
 use Rattle.sam.specs.Op.{refLen}
 use Rattle.sam.specs.Record.{posOf, flagsOf, matePosOf, isReverse, recordOps}
 use Rattle.answers.specs.Settled.{keeps}
 use Rattle.answers.specs.declared.Pos1.{Pos1}
 use Rattle.answers.specs.declared.Refusal.the-variants.{ShortRecord, TooManyOps, Overflow, NoRoom}
+use Rattle.answers.specs.declared.Flag.{Flag}
+use Rattle.answers.specs.declared.Flag.the-variants as Flag
 use Rattle.answers.specs.declared.Count.{Count}
 use Rattle.answers.specs.declared.Count.the-variants as Count
 use Rattle.oplist.specs.Ops.{mostOps}
@@ -22,7 +25,7 @@ use Rattle.ends.specs.declared.Place1.{Place1}
 use Rattle.ends.specs.Ends.{oneBased}
 use Rattle.strict_text.specs.Text.{textOps}
 use Rattle.strict_text.specs.Valid.{validMapped}
-use Rattle.strict_text.specs.Parsed.{strict, measuredText, measuredOps}
+use Rattle.strict_text.specs.Parsed.{strict, measuredText}
 use Rattle.strict_text.specs.declared.Measured.{Measured}
 use Rattle.strict_text.specs.declared.Measured.the-variants as Measured
 use Rattle.strict_text.proofs.PassLaws.{ops-bad, ops-some}
@@ -32,7 +35,7 @@ use Rattle.overlap.specs.declared.Placed.{Placed}
 use Rattle.overlap.specs.declared.Placed.the-variants as Placed
 use Rattle.overlap.specs.declared.Overhang.{Overhang}
 use Rattle.overlap.specs.declared.Overhang.the-variants as Overhang
-use Rattle.overlap.specs.Overlap.{bothPlaces, placedPair, isOver, basesAt, overhangAt, placedBy, pastMateCigar, pastMateRecord, listLeft, pastMateText}
+use Rattle.overlap.specs.Overlap.{bothPlaces, placedPair, isOver, basesAt, overhangAt, pairOverhang, isNo, isFrBy, pastMateCigar, pastMateRecord, listLeft, pairListLeft, pastMateText}
 
 -- ---- where the two lie
 
@@ -44,11 +47,6 @@ module _ (fr : Bool) (b : List ℕ) (m : ℤ) where
   pub together : {r : Placed} {x y : Place1} → fr ≡ true → x ≡ oneBased (record { 0 = posOf b }) → y ≡ oneBased (record { 0 = m }) → r ≡ bothPlaces x y → r ≡ placedPair fr b m
   unfolding placedPair
   together e p q h = simp e (rw (← p, ← q) h)
-
--- by the mate's ops; n is their saturated reference length
-pub placed-by : (b ys : List ℕ) (n : ℤ) {r : Placed} {fr : Bool} {m : ℤ} → clamp32 (pos (sumOf refLen ys)) ≡ n → fr ≡ isFrWithMate b n → m ≡ matePosOf b → r ≡ placedPair fr b m → r ≡ placedBy b ys
-unfolding placedBy
-placed-by b ys n e p q h = rw e (rw (← p, ← q) h)
 
 module _ {r : ℕ} (b ys : List ℕ) (p : Pos1) (m : Pos1) where
   pub bases-are : {f : Bool} {xs zs : List ℕ} → f ≡ isReverse (flagsOf b) → xs ≡ recordOps b → zs ≡ ys → r ≡ overhangOf f (p .0) xs (m .0) zs → r ≡ basesAt (Placed.At p m) b ys
@@ -74,10 +72,10 @@ module _ (b m : List ℕ) where
   unfolding pastMateRecord
   mate-short h k = simp (le-ltb (length b) 32 h, lt-ltb (length m) 32 k)
 
-  pub record-is : {r : Count} {p : Placed} {ys : List ℕ} {fr : Bool} {z : ℤ} → 32 ≤ length b → 32 ≤ length m → fr ≡ isPrimaryFr b m → z ≡ posOf m → p ≡ placedPair fr b z
-      → ys ≡ recordOps m → r ≡ overhangAt p b ys → r ≡ pastMateRecord b m
+  pub record-is : {r : Count} {fr : Flag} {ys : List ℕ} {z : ℤ} → 32 ≤ length b → 32 ≤ length m → fr ≡ isPrimaryFr b m → z ≡ posOf m
+      → ys ≡ recordOps m → r ≡ pairOverhang fr b z ys → r ≡ pastMateRecord b m
   unfolding pastMateRecord
-  record-is h k f g p y e = simp (le-ltb (length b) 32 h, le-ltb (length m) 32 k) (rw (← f, ← g, ← p, ← y) e)
+  record-is h k f g y e = simp (le-ltb (length b) 32 h, le-ltb (length m) 32 k) (rw (← f, ← g, ← y) e)
 
 -- ---- the mate's ops
 
@@ -92,22 +90,24 @@ module _ (b ys : List ℕ) where
     cigar-many k = simp (le-ltb (length b) 32 h, lt-ltb mostOps (length ys) k)
 
     module _ (k : length ys ≤ mostOps) where
-      pub cigar-bad : measuredOps ys ≡ Measured.Bad → Count.Number 0 ≡ pastMateCigar b ys
-      unfolding pastMateCigar measuredOps
-      cigar-bad e = simp (le-ltb (length b) 32 h, le-ltb mostOps (length ys) k, ops-bad (validMapped ys) _ _ e)
+      pub cigar-bad : validMapped ys ≡ false → Count.Number 0 ≡ pastMateCigar b ys
+      unfolding pastMateCigar
+      cigar-bad e = simp (le-ltb (length b) 32 h, le-ltb mostOps (length ys) k, e)
 
       -- a pair that is not FR, whether or not the list is valid
-      pub cigar-apart : isFrWithMate b (clamp32 (pos (sumOf refLen ys))) ≡ false → Count.Number 0 ≡ pastMateCigar b ys
-      unfolding pastMateCigar overhangAt placedBy placedPair
-      cigar-apart e = simp (le-ltb (length b) 32 h, le-ltb mostOps (length ys) k, e) (go (validMapped ys))
+      pub cigar-apart : isNo (isFrBy b ys) ≡ true → Count.Number 0 ≡ pastMateCigar b ys
+      unfolding pastMateCigar placedPair overhangAt
+      cigar-apart e = simp (le-ltb (length b) 32 h, le-ltb mostOps (length ys) k) (go (isFrBy b ys) (validMapped ys) e)
         where
-          go : (v : Bool) → Count.Number 0 ≡ cond v (Count.Number 0) (Count.Number 0)
-          go true = refl
-          go false = refl
+          go : (fr : Flag) (v : Bool) → isNo fr ≡ true → Count.Number 0 ≡ cond v (pairOverhang fr b (matePosOf b) ys) (Count.Number 0)
+          go (Flag.Is true) v f = never (cc)
+          go (Flag.Is false) true f = refl
+          go (Flag.Is false) false f = refl
+          go (Flag.Refused r) v f = never (cc)
 
-      pub cigar-is : {r : Count} {p : Placed} {xs : List ℕ} (n : ℕ) (z : ℤ) → measuredOps ys ≡ Measured.Ops n z → p ≡ placedBy b ys → xs ≡ ys → r ≡ overhangAt p b xs → r ≡ pastMateCigar b ys
-      unfolding pastMateCigar measuredOps
-      cigar-is n z e p x q = simp (le-ltb (length b) 32 h, le-ltb mostOps (length ys) k, ops-some (validMapped ys) _ _ _ _ e .0) (rw (← p, ← x) q)
+      pub cigar-is : {r : Count} {fr : Flag} {z : ℤ} {xs : List ℕ} → validMapped ys ≡ true → fr ≡ isFrBy b ys → z ≡ matePosOf b → xs ≡ ys → r ≡ pairOverhang fr b z xs → r ≡ pastMateCigar b ys
+      unfolding pastMateCigar
+      cigar-is e f g x q = simp (le-ltb (length b) 32 h, le-ltb mostOps (length ys) k, e) (rw (← f, ← g, ← x) q)
 
 -- ---- the mate's text
 
@@ -139,22 +139,24 @@ module _ (b s d : List ℕ) where
       unfolding pastMateText
       text-many k = simp (le-ltb (length b) 32 h, text-taken s n z e, lt-ltb mostOps (length (textOps s)) (omega (arith, text-count s n z e)))
 
-      module _ (k : n ≤ mostOps) (p : Placed) (q : p ≡ placedBy b (textOps s)) where
-        listed : pastMateText b s d ≡ listLeft p b (textOps s) d
-        unfolding pastMateText
-        listed = simp (le-ltb (length b) 32 h, text-taken s n z e, le-ltb mostOps (length (textOps s)) (omega (arith, text-count s n z e))) (rw q)
+      pub text-left : (fr : Flag) → n ≤ mostOps → fr ≡ isFrWithMate b z → pastMateText b s d ≡ pairListLeft fr b (textOps s) d
+      unfolding pastMateText
+      text-left fr k f = simp (le-ltb (length b) 32 h, text-taken s n z e, le-ltb mostOps (length (textOps s)) (omega (arith, text-count s n z e)), text-span s n z e) (rw f)
 
-        pub text-over : isOver p ≡ true → pastMateText b s d ≡ keeps (Overhang.Refused Overflow) d
-        unfolding listLeft
-        text-over o = listed ∙ simp o
+-- 4, 6, or the list
+module _ (p : Placed) (b xs d : List ℕ) where
+  pub list-over : isOver p ≡ true → listLeft p b xs d ≡ keeps (Overhang.Refused Overflow) d
+  unfolding listLeft
+  list-over o = simp o
 
-        pub text-room : isOver p ≡ false → length d < n → pastMateText b s d ≡ keeps (Overhang.Refused NoRoom) d
-        unfolding listLeft
-        text-room o l = listed ∙ simp (o, lt-ltb (length d) (length (textOps s)) (omega (arith, text-count s n z e)))
+  module _ (o : isOver p ≡ false) where
+    pub list-room : length d < length xs → listLeft p b xs d ≡ keeps (Overhang.Refused NoRoom) d
+    unfolding listLeft
+    list-room l = simp (o, lt-ltb (length d) (length xs) l)
 
-        pub text-is : isOver p ≡ false → n ≤ length d → pastMateText b s d ≡ record { answer = Overhang.Bases (basesAt p b (textOps s)) n; left = splice d 0 (textOps s) }
-        unfolding listLeft
-        text-is o l = listed ∙ simp (o, le-ltb (length d) (length (textOps s)) (omega (arith, text-count s n z e))) (rw (text-count s n z e))
+    pub list-is : length xs ≤ length d → listLeft p b xs d ≡ record { answer = Overhang.Bases (basesAt p b xs) (length xs); left = splice d 0 xs }
+    unfolding listLeft
+    list-is l = simp (o, le-ltb (length d) (length xs) l)
 
 -- the written list is what the room's first places hold
 pub take-splice : (d xs : List ℕ) (n : ℕ) → length xs ≡ n → take n (splice d 0 xs) ≡ xs

@@ -1,6 +1,5 @@
--- What document 01 promises of the calls: "An overhang never exceeds the read's query length"; a pair test needs only the fields that it names; two records are symmetric.
+-- What document 01 promises of the calls: "An overhang never exceeds the read's query length".
 use Prim.Native.Nat.{ℕ, _≤_}
-use mathlib.Core.Path.{_≡_, refl, ap}
 use mathlib.Core.Bool.{Bool, true, false, cond, not}
 use mathlib.Core.List.{List}
 use native.Mathlib.Omega.{arith}
@@ -9,7 +8,7 @@ use lib.ListN.{length}
 use lib.Dec.{ltb}
 use Rattle.lists.specs.Lists.{sumOf, splice}
 use Rattle.sam.specs.Op.{queryLen}
-use Rattle.sam.specs.Record.{flagsOf, posOf, templateLenOf, isReverse, recordOps}
+use Rattle.sam.specs.Record.{flagsOf, posOf, matePosOf, isReverse, isShort, recordOps}
 use Rattle.answers.specs.Settled.{Outcome, keeps}
 use Rattle.answers.specs.declared.Refusal.the-variants.{ShortRecord, TooManyOps, Overflow, NoRoom}
 use Rattle.answers.specs.declared.Count.{Count}
@@ -21,14 +20,13 @@ use Rattle.strict_text.specs.Text.{textOps}
 use Rattle.strict_text.specs.Valid.{validMapped}
 use Rattle.strict_text.specs.Parsed.{strict}
 use Rattle.pairs.specs.Pairs.{isPrimaryFr}
-use Rattle.pairs.proofs.Needed.{SamePair, SameReverse, opposite-needs, fr-needs-reverse, fr-needs-forward, primary-symmetric}
 use Rattle.overhang.specs.Overhang.{overhangOf, basesExtending}
 use Rattle.overhang.proofs.Most.{overhang-most}
 use Rattle.overlap.specs.declared.Placed.{Placed}
 use Rattle.overlap.specs.declared.Placed.the-variants as Placed
 use Rattle.overlap.specs.declared.Overhang.{Overhang}
 use Rattle.overlap.specs.declared.Overhang.the-variants as Overhang
-use Rattle.overlap.specs.Overlap.{oppositePair, frPair, primaryFrPair, placedPair, isOver, basesAt, overhangAt, placedBy, pastMateCigar, pastMateRecord, listLeft, pastMateText}
+use Rattle.overlap.specs.Overlap.{placedPair, isOver, basesAt, overhangAt, pairOverhang, isFrBy, pastMateCigar, pastMateRecord, listLeft, pairListLeft, pastMateText}
 
 -- ---- the bound
 
@@ -63,70 +61,55 @@ ops-most b p xs m ys = go (ltb mostOps (length xs)) (ltb mostOps (length ys))
     go false true = tt
     go false false = overhang-most b p xs m ys
 
+pair-most : (fr : Flag) (b : List ℕ) (m : ℤ) (ys : List ℕ) → Within (pairOverhang fr b m ys) (sumOf queryLen (recordOps b))
+pair-most (Flag.Is fr) b m ys = at-most (placedPair fr b m) b ys
+pair-most (Flag.Refused r) b m ys = tt
+
 pub cigar-most : (b ys : List ℕ) → Within (pastMateCigar b ys) (sumOf queryLen (recordOps b))
 unfolding pastMateCigar
-cigar-most b ys = go (ltb (length b) 32) (ltb mostOps (length ys)) (validMapped ys)
+cigar-most b ys = go (isShort b) (ltb mostOps (length ys)) (validMapped ys)
   where
-    go : (t u v : Bool) → Within (cond t (Count.Refused ShortRecord) (cond u (Count.Refused TooManyOps) (cond v (overhangAt (placedBy b ys) b ys) (Count.Number 0)))) (sumOf queryLen (recordOps b))
+    go : (t u v : Bool) → Within (cond t (Count.Refused ShortRecord) (cond u (Count.Refused TooManyOps) (cond v (pairOverhang (isFrBy b ys) b (matePosOf b) ys) (Count.Number 0)))) (sumOf queryLen (recordOps b))
     go true u v = tt
     go false true v = tt
-    go false false true = at-most (placedBy b ys) b ys
+    go false false true = pair-most (isFrBy b ys) b (matePosOf b) ys
     go false false false = omega arith
 
 pub record-most : (b m : List ℕ) → Within (pastMateRecord b m) (sumOf queryLen (recordOps b))
 unfolding pastMateRecord
-record-most b m = go (ltb (length b) 32) (ltb (length m) 32)
+record-most b m = go (isShort b) (isShort m)
   where
-    p : Placed
-    p = placedPair (isPrimaryFr b m) b (posOf m)
-
-    go : (t u : Bool) → Within (cond t (Count.Refused ShortRecord) (cond u (Count.Refused ShortRecord) (overhangAt p b (recordOps m)))) (sumOf queryLen (recordOps b))
+    go : (t u : Bool) → Within (cond t (Count.Refused ShortRecord) (cond u (Count.Refused ShortRecord) (pairOverhang (isPrimaryFr b m) b (posOf m) (recordOps m)))) (sumOf queryLen (recordOps b))
     go true u = tt
     go false true = tt
-    go false false = at-most p b (recordOps m)
+    go false false = pair-most (isPrimaryFr b m) b (posOf m) (recordOps m)
 
-pub text-most : (b s d : List ℕ) → WithinText (pastMateText b s d .answer) (sumOf queryLen (recordOps b))
-unfolding pastMateText listLeft
-text-most b s d = go (ltb (length b) 32) (strict s) (ltb mostOps (length (textOps s))) (isOver p) (ltb (length d) (length (textOps s)))
+left-most : (fr : Flag) (b xs d : List ℕ) → WithinText (pairListLeft fr b xs d .answer) (sumOf queryLen (recordOps b))
+unfolding listLeft
+left-most (Flag.Is fr) b xs d = go (isOver (placedPair fr b (matePosOf b))) (ltb (length d) (length xs))
   where
     p : Placed
-    p = placedBy b (textOps s)
+    p = placedPair fr b (matePosOf b)
 
     done : Outcome Overhang
-    done = record { answer = Overhang.Bases (basesAt p b (textOps s)) (length (textOps s)); left = splice d 0 (textOps s) }
+    done = record { answer = Overhang.Bases (basesAt p b xs) (length xs); left = splice d 0 xs }
 
-    go : (t u v w x : Bool) → WithinText (cond {A = Outcome Overhang} t (keeps (Overhang.Refused ShortRecord) d) (cond {A = Outcome Overhang} (not u) (keeps (Overhang.Bases 0 0) d)
-        (cond {A = Outcome Overhang} v (keeps (Overhang.Refused TooManyOps) d) (cond {A = Outcome Overhang} w (keeps (Overhang.Refused Overflow) d)
-        (cond {A = Outcome Overhang} x (keeps (Overhang.Refused NoRoom) d) done)))) .answer) (sumOf queryLen (recordOps b))
-    go true u v w x = tt
-    go false false v w x = omega arith
-    go false true true w x = tt
-    go false true false true x = tt
-    go false true false false true = tt
-    go false true false false false = bases-most p b (textOps s)
+    go : (w x : Bool) → WithinText (cond {A = Outcome Overhang} w (keeps (Overhang.Refused Overflow) d) (cond {A = Outcome Overhang} x (keeps (Overhang.Refused NoRoom) d) done) .answer) (sumOf queryLen (recordOps b))
+    go true x = tt
+    go false true = tt
+    go false false = bases-most p b xs
+left-most (Flag.Refused r) b xs d = tt
 
--- ---- the fields that a pair test needs, for two records that are both long enough or both too short
-
-module _ (a b : List ℕ) (l : ltb (length a) 32 ≡ ltb (length b) 32) (s : SamePair a b) where
-  pub opposite-only : oppositePair a ≡ oppositePair b
-  unfolding oppositePair
-  opposite-only = rw (l, opposite-needs a b s)
-
-  pub reverse-only : isReverse (flagsOf a) ≡ true → SameReverse a b → frPair a ≡ frPair b
-  unfolding frPair
-  reverse-only r t = rw (l, fr-needs-reverse a b s r t)
-
-  pub forward-only : isReverse (flagsOf a) ≡ false → templateLenOf a ≡ templateLenOf b → frPair a ≡ frPair b
-  unfolding frPair
-  forward-only r t = rw (l, fr-needs-forward a b s r t)
-
-pub symmetric : (a b : List ℕ) → primaryFrPair a b ≡ primaryFrPair b a
-unfolding primaryFrPair
-symmetric a b = go (ltb (length a) 32) (ltb (length b) 32)
+pub text-most : (b s d : List ℕ) → WithinText (pastMateText b s d .answer) (sumOf queryLen (recordOps b))
+unfolding pastMateText
+text-most b s d = go (isShort b) (strict s) (ltb mostOps (length (textOps s)))
   where
-    go : (t u : Bool) → cond t (Flag.Refused ShortRecord) (cond u (Flag.Refused ShortRecord) (Flag.Is (isPrimaryFr a b)))
-        ≡ cond u (Flag.Refused ShortRecord) (cond t (Flag.Refused ShortRecord) (Flag.Is (isPrimaryFr b a)))
-    go true true = refl
-    go true false = refl
-    go false true = refl
-    go false false = ap Flag.Is (primary-symmetric a b)
+    left : Outcome Overhang
+    left = pairListLeft (isFrBy b (textOps s)) b (textOps s) d
+
+    go : (t u v : Bool) → WithinText (cond {A = Outcome Overhang} t (keeps (Overhang.Refused ShortRecord) d) (cond {A = Outcome Overhang} (not u) (keeps (Overhang.Bases 0 0) d)
+        (cond {A = Outcome Overhang} v (keeps (Overhang.Refused TooManyOps) d) left)) .answer) (sumOf queryLen (recordOps b))
+    go true u v = tt
+    go false false v = omega arith
+    go false true true = tt
+    go false true false = left-most (isFrBy b (textOps s)) b (textOps s) d

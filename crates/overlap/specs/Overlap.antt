@@ -9,7 +9,7 @@ use lib.Dec.{ltb}
 use Rattle.lists.specs.Lists.{sumOf, splice}
 use Rattle.signed.specs.Whole.{clamp32}
 use Rattle.sam.specs.Op.{refLen}
-use Rattle.sam.specs.Record.{posOf, flagsOf, matePosOf, isReverse, recordOps}
+use Rattle.sam.specs.Record.{posOf, flagsOf, matePosOf, isReverse, isShort, recordOps}
 use Rattle.answers.specs.Answers.{Told, answered, refused}
 use Rattle.answers.specs.Settled.{Outcome, keeps}
 use Rattle.answers.specs.declared.Refusal.the-variants.{ShortRecord, TooManyOps, Overflow, NoRoom}
@@ -24,28 +24,12 @@ use Rattle.ends.specs.Ends.{oneBased}
 use Rattle.strict_text.specs.Text.{textOps}
 use Rattle.strict_text.specs.Valid.{validMapped}
 use Rattle.strict_text.specs.Parsed.{strict}
-use Rattle.pairs.specs.Pairs.{isOpposite, isFr, isFrWithMate, isPrimaryFr}
+use Rattle.pairs.specs.Pairs.{isFrWithMate, isPrimaryFr}
 use Rattle.overhang.specs.Overhang.{overhangOf}
 use Rattle.overlap.specs.declared.Placed.{Placed}
 use Rattle.overlap.specs.declared.Placed.the-variants as Placed
 use Rattle.overlap.specs.declared.Overhang.{Overhang}
 use Rattle.overlap.specs.declared.Overhang.the-variants as Overhang
-
--- ---- the pair tests: 1
-
-unfoldable pub oppositePair : List ℕ → Flag
-oppositePair b = cond (ltb (length b) 32) (Flag.Refused ShortRecord) (Flag.Is (isOpposite b))
-
-unfoldable pub frPair : List ℕ → Flag
-frPair b = cond (ltb (length b) 32) (Flag.Refused ShortRecord) (Flag.Is (isFr b))
-
-unfoldable pub primaryFrPair : List ℕ → List ℕ → Flag
-primaryFrPair a b =
-    cond (ltb (length a) 32) (Flag.Refused ShortRecord)
-    (cond (ltb (length b) 32) (Flag.Refused ShortRecord)
-    (Flag.Is (isPrimaryFr a b)))
-
--- ---- the overhang of a record
 
 -- of an FR pair, the read's and the mate's place counted from 1; either sum may overflow
 abbrev pub bothPlaces : Place1 → Place1 → Placed
@@ -72,23 +56,33 @@ basesAt Placed.Over b ys = 0
 unfoldable pub overhangAt : Placed → List ℕ → List ℕ → Count
 overhangAt p b ys = cond (isOver p) (Count.Refused Overflow) (Count.Number (basesAt p b ys))
 
--- by the mate's ops, at the read's own mate position
-unfoldable pub placedBy : List ℕ → List ℕ → Placed
-placedBy b ys = placedPair (isFrWithMate b (clamp32 (pos (sumOf refLen ys)))) b (matePosOf b)
+-- the same by the pair test, whose refusal is passed on
+abbrev pub pairOverhang : Flag → List ℕ → ℤ → List ℕ → Count
+pairOverhang (Flag.Is fr) b m ys = overhangAt (placedPair fr b m) b ys
+pairOverhang (Flag.Refused r) b m ys = Count.Refused r
+
+-- the pair test answers no
+abbrev pub isNo : Flag → Bool
+isNo (Flag.Is fr) = not fr
+isNo (Flag.Refused r) = false
+
+-- the pair test by the mate's ops
+abbrev pub isFrBy : List ℕ → List ℕ → Flag
+isFrBy b ys = isFrWithMate b (clamp32 (pos (sumOf refLen ys)))
 
 -- mate ops: 1, 3; 0 for a list that is no valid mapped CIGAR; 4
 unfoldable pub pastMateCigar : List ℕ → List ℕ → Count
 pastMateCigar b ys =
-    cond (ltb (length b) 32) (Count.Refused ShortRecord)
+    cond (isShort b) (Count.Refused ShortRecord)
     (cond (ltb mostOps (length ys)) (Count.Refused TooManyOps)
-    (cond (validMapped ys) (overhangAt (placedBy b ys) b ys) (Count.Number 0)))
+    (cond (validMapped ys) (pairOverhang (isFrBy b ys) b (matePosOf b) ys) (Count.Number 0)))
 
 -- the mate's record: 1, 4
 unfoldable pub pastMateRecord : List ℕ → List ℕ → Count
 pastMateRecord b m =
-    cond (ltb (length b) 32) (Count.Refused ShortRecord)
-    (cond (ltb (length m) 32) (Count.Refused ShortRecord)
-    (overhangAt (placedPair (isPrimaryFr b m) b (posOf m)) b (recordOps m)))
+    cond (isShort b) (Count.Refused ShortRecord)
+    (cond (isShort m) (Count.Refused ShortRecord)
+    (pairOverhang (isPrimaryFr b m) b (posOf m) (recordOps m)))
 
 -- mate text, with room d for its ops xs: 4, 6
 unfoldable pub listLeft : Placed → List ℕ → List ℕ → List ℕ → Outcome Overhang
@@ -97,13 +91,18 @@ listLeft p b xs d =
     (cond (ltb (length d) (length xs)) (keeps (Overhang.Refused NoRoom) d)
     (record { answer = Overhang.Bases (basesAt p b xs) (length xs); left = splice d 0 xs }))
 
+-- the same by the pair test
+abbrev pub pairListLeft : Flag → List ℕ → List ℕ → List ℕ → Outcome Overhang
+pairListLeft (Flag.Is fr) b xs d = listLeft (placedPair fr b (matePosOf b)) b xs d
+pairListLeft (Flag.Refused r) b xs d = keeps (Overhang.Refused r) d
+
 -- mate text: 1; overhang 0 for a text that the strict reader refuses by 5; 3
 unfoldable pub pastMateText : List ℕ → List ℕ → List ℕ → Outcome Overhang
 pastMateText b s d =
-    cond (ltb (length b) 32) (keeps (Overhang.Refused ShortRecord) d)
+    cond (isShort b) (keeps (Overhang.Refused ShortRecord) d)
     (cond (not (strict s)) (keeps (Overhang.Bases 0 0) d)
     (cond (ltb mostOps (length (textOps s))) (keeps (Overhang.Refused TooManyOps) d)
-    (listLeft (placedBy b (textOps s)) b (textOps s) d)))
+    (pairListLeft (isFrBy b (textOps s)) b (textOps s) d)))
 
 abbrev pub tellOverhang : Overhang → Told
 tellOverhang (Overhang.Bases n k) = answered (pos n ∷ pos k ∷ [])

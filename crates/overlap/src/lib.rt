@@ -1,10 +1,12 @@
-// Document 01, module 10: pair tests, and the query bases that a record has past its mate.
+// Document 01, module 10: the query bases that a record has past its mate.
 ghost use mathlib.Core.Path.{_≡_};
 ghost use Prim.Native.Nat.{_≤_};
 ghost use lib.ListN.{length};
 ghost use Rattle.answers.specs.Settled.{Settled};
-ghost use Rattle.oplist.specs.Ops.{opsOf};
-ghost use Rattle.overlap.specs.Overlap.{oppositePair, frPair, primaryFrPair, bothPlaces, placedPair, isOver, basesAt, overhangAt, pastMateCigar, pastMateRecord, pastMateText};
+ghost use Rattle.oplist.specs.Ops.{mostOps, opsOf};
+ghost use Rattle.sam.specs.Record.{matePosOf};
+ghost use Rattle.strict_text.specs.Text.{textOps};
+ghost use Rattle.overlap.specs.Overlap.{bothPlaces, placedPair, isOver, basesAt, overhangAt, pairOverhang, isNo, listLeft, pastMateCigar, pastMateRecord, pastMateText};
 use answers::Count;
 use answers::Flag;
 use answers::Pos0;
@@ -25,39 +27,6 @@ pub enum Placed {
 pub enum Overhang {
     Bases(u64, u64),
     Refused(Refusal),
-}
-
-// Paired, both mapped, same reference, strands differ. Refusal 1.
-pub fn is_mapped_opposite_strand_pair_raw(bam: &[u8]) -> Flag
-    ensures { λ r. ⌜ r ≡ oppositePair (now (bam .entry)) ⌝ }
-{
-    if bam.len() < 32 {
-        return Flag::Refused(Refusal::ShortRecord);
-    }
-    Flag::Is(pairs::opposite(bam))
-}
-
-// FR by the record alone. Refusal 1.
-pub fn is_fr_pair_raw(bam: &[u8]) -> Flag
-    ensures { λ r. ⌜ r ≡ frPair (now (bam .entry)) ⌝ }
-{
-    if bam.len() < 32 {
-        return Flag::Refused(Refusal::ShortRecord);
-    }
-    Flag::Is(pairs::fr(bam))
-}
-
-// FR by both records. Refusal 1.
-pub fn is_primary_fr_pair_raw(a: &[u8], b: &[u8]) -> Flag
-    ensures { λ r. ⌜ r ≡ primaryFrPair (now (a .entry)) (now (b .entry)) ⌝ }
-{
-    if a.len() < 32 {
-        return Flag::Refused(Refusal::ShortRecord);
-    }
-    if b.len() < 32 {
-        return Flag::Refused(Refusal::ShortRecord);
-    }
-    Flag::Is(pairs::primary_fr(a, b))
 }
 
 fn both_places(own: Place1, mate: Place1) -> Placed
@@ -130,6 +99,26 @@ fn overhang_at(placed: Placed, bam: &[u8], words: &[u32], rec: &[u8], list: Ops)
     Count::Number(bases_at(placed, bam, words, rec, list))
 }
 
+// The same by the pair test, whose refusal is passed on.
+fn pair_overhang(fr: Flag, bam: &[u8], mate: Pos0, words: &[u32], rec: &[u8], list: Ops) -> Count
+    requires { ⌜ 32 ≤ length (now bam) ⌝ }
+    ensures { λ r. ⌜ r ≡ pairOverhang fr (now (bam .entry)) (mate .0) (opsOf (now (words .entry)) (now (rec .entry)) list) ⌝ }
+{
+    match fr {
+        Flag::Is(is) => overhang_at(placed_pair(is, bam, mate), bam, words, rec, list),
+        Flag::Refused(why) => Count::Refused(why),
+    }
+}
+
+fn is_no(fr: Flag) -> bool
+    ensures { λ r. ⌜ r ≡ isNo fr ⌝ }
+{
+    match fr {
+        Flag::Is(is) => !is,
+        Flag::Refused(_) => false,
+    }
+}
+
 // The query bases past the mate, whose ops are given. Refusals 1, 3 and 4.
 pub fn num_bases_extending_past_mate_cigar_raw(bam: &[u8], mate_ops: &[u32]) -> Count
     ensures { λ r. ⌜ r ≡ pastMateCigar (now (bam .entry)) (now («mate_ops» .entry)) ⌝ }
@@ -142,14 +131,14 @@ pub fn num_bases_extending_past_mate_cigar_raw(bam: &[u8], mate_ops: &[u32]) -> 
     }
     let list = oplist::lent(mate_ops);
     let total = lengths::sums(mate_ops, &[], list);
-    if !pairs::fr_with_mate(bam, lengths::saturated(total.refs)) {
+    let fr = pairs::fr_with_mate(bam, lengths::saturated(total.refs));
+    if is_no(fr) {
         return Count::Number(0);
     }
-    let Measured::Ops(_, _) = strict_text::measure_ops(mate_ops, &[], list) else {
+    if !strict_text::valid(mate_ops, &[], list.inside, list.at, list.n) {
         return Count::Number(0);
-    };
-    let placed = placed_pair(true, bam, Pos0(little::i32_at(bam, 24)));
-    overhang_at(placed, bam, mate_ops, &[], list)
+    }
+    pair_overhang(fr, bam, Pos0(little::i32_at(bam, 24)), mate_ops, &[], list)
 }
 
 // The query bases past the mate, whose record is given. Refusals 1 and 4.
@@ -162,12 +151,30 @@ pub fn num_bases_extending_past_mate_vs_mate_raw(rec: &[u8], mate: &[u8]) -> Cou
     if mate.len() < 32 {
         return Count::Refused(Refusal::ShortRecord);
     }
-    let placed = placed_pair(
-        pairs::primary_fr(rec, mate),
-        rec,
-        Pos0(little::i32_at(mate, 4)),
-    );
-    overhang_at(placed, rec, &[], mate, oplist::of_record(mate))
+    let fr = pairs::primary_fr(rec, mate);
+    let place = Pos0(little::i32_at(mate, 4));
+    pair_overhang(fr, rec, place, &[], mate, oplist::of_record(mate))
+}
+
+// Writes the n ops of a text that the strict reader takes, and counts. Refusals 4 and 6.
+fn list_left(fr: bool, bam: &[u8], text: &[u8], n: u64, out: &mut [u32]) -> Overhang
+    requires { ⌜ (32 ≤ length (now bam)) × (length (textOps (now text)) ≡ n) × (n ≤ mostOps) ⌝ }
+    ensures { λ r. ⌜ Settled (listLeft (placedPair fr (now (bam .entry)) (matePosOf (now (bam .entry)))) (now (bam .entry)) (textOps (now (text .entry))) (now (out .entry))) r (now (out .exit)) ⌝ }
+{
+    let placed = placed_pair(fr, bam, Pos0(little::i32_at(bam, 24)));
+    if is_over(placed) {
+        return Overhang::Refused(Refusal::Overflow);
+    }
+    if (out.len() as u64) < n {
+        return Overhang::Refused(Refusal::NoRoom);
+    }
+    strict_text::write_ops(text, out);
+    let list = Ops {
+        inside: false,
+        at: 0,
+        n: n as u32,
+    };
+    Overhang::Bases(bases_at(placed, bam, out, &[], list), n)
 }
 
 // The query bases past the mate, whose ops are given as text; the ops go to the first places of out. A text that the strict reader refuses by 5 counts 0 and
@@ -184,22 +191,8 @@ pub fn num_bases_extending_past_mate_text_raw(bam: &[u8], text: &[u8], out: &mut
     if (oplist::MOST_OPS as u64) < n {
         return Overhang::Refused(Refusal::TooManyOps);
     }
-    let placed = placed_pair(
-        pairs::fr_with_mate(bam, span),
-        bam,
-        Pos0(little::i32_at(bam, 24)),
-    );
-    if is_over(placed) {
-        return Overhang::Refused(Refusal::Overflow);
+    match pairs::fr_with_mate(bam, span) {
+        Flag::Is(fr) => list_left(fr, bam, text, n, out),
+        Flag::Refused(why) => Overhang::Refused(why),
     }
-    if (out.len() as u64) < n {
-        return Overhang::Refused(Refusal::NoRoom);
-    }
-    strict_text::write_ops(text, out);
-    let list = Ops {
-        inside: false,
-        at: 0,
-        n: n as u32,
-    };
-    Overhang::Bases(bases_at(placed, bam, out, &[], list), n)
 }

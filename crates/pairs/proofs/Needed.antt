@@ -3,12 +3,13 @@ use mathlib.Core.Path.{_≡_, refl, ap, _∙_}
 use mathlib.Core.Bool.{Bool, true, false, cond, xor, _&&_}
 use mathlib.Core.List.{List}
 use Prim.Native.Nat.{ℕ}
-use lib.IntN.{ℤ}
 use Rattle.signed.specs.Equal.{eqℤ}
 use Rattle.signed.proofs.EqualLaws.{eqℤ-sym}
-use Rattle.sam.specs.Record.{refIdOf, posOf, flagsOf, mateRefIdOf, matePosOf, templateLenOf, isPaired, isUnmapped, isMateUnmapped, isReverse, isMateReverse}
-use Rattle.lengths.specs.Lengths.{refLengthOrZero}
-use Rattle.pairs.specs.Pairs.{bothMapped, isOpposite, mateStartsBefore, isFr, isFrWithMate, isPrimaryFr}
+use Rattle.sam.specs.Record.{refIdOf, posOf, flagsOf, mateRefIdOf, matePosOf, templateLenOf, isPaired, isUnmapped, isMateUnmapped, isReverse, isMateReverse, isShort}
+use Rattle.lengths.specs.Lengths.{askedLength}
+use Rattle.answers.specs.declared.Refusal.the-variants.{ShortRecord}
+use Rattle.answers.specs.declared.Flag.the-variants as Flag
+use Rattle.pairs.specs.Pairs.{bothMapped, isOpposite, mateStartsBefore, frBy, isFr, areOpposite, isPrimaryFr, oppositePair, frPair, primaryFrPair}
 
 -- "paired, both mapped, same reference, strands differ"
 pub record SamePair (a b : List ℕ) : Type 0 where
@@ -24,7 +25,7 @@ pub record SamePair (a b : List ℕ) : Type 0 where
 pub record SameReverse (a b : List ℕ) : Type 0 where
   pub mate-place : matePosOf a ≡ matePosOf b
   pub place : posOf a ≡ posOf b
-  pub span : refLengthOrZero a ≡ refLengthOrZero b
+  pub span : askedLength a ≡ askedLength b
 
 pub opposite-needs : (a b : List ℕ) → SamePair a b → isOpposite a ≡ isOpposite b
 unfolding isOpposite bothMapped
@@ -37,30 +38,25 @@ module _ (a b : List ℕ) (s : SamePair a b) where
 
   -- a reverse record needs no template length
   pub fr-needs-reverse : isReverse (flagsOf a) ≡ true → SameReverse a b → isFr a ≡ isFr b
-  unfolding isFr
+  unfolding frBy
   fr-needs-reverse e t = rw (opposite-needs a b s, ← s .reverse, e, reverse-needs t)
 
   -- a forward one nothing but the template length
   pub fr-needs-forward : isReverse (flagsOf a) ≡ false → templateLenOf a ≡ templateLenOf b → isFr a ≡ isFr b
-  unfolding isFr
+  unfolding frBy
   fr-needs-forward e t = rw (opposite-needs a b s, ← s .reverse, e, t)
 
-  -- with the mate's reference length a forward record needs the two starts
-  pub with-needs-forward : (n : ℤ) → isReverse (flagsOf a) ≡ false → posOf a ≡ posOf b → matePosOf a ≡ matePosOf b → isFrWithMate a n ≡ isFrWithMate b n
-  unfolding isFrWithMate
-  with-needs-forward n e t u = rw (opposite-needs a b s, ← s .reverse, e, t, u)
-
 -- of two records one is reverse, and it decides
-which : (x y : Bool) (a b : List ℕ) (m : Bool) → (m && xor x y && isFr (cond x a b)) ≡ (m && xor y x && isFr (cond y b a))
+which : (x y m : Bool) (a b : List ℕ) → cond (m && xor x y) (isFr (cond x a b)) (Flag.Is false) ≡ cond (m && xor y x) (isFr (cond y b a)) (Flag.Is false)
 unfolding xor
-which true true a b true = refl
-which true true a b false = refl
-which true false a b true = refl
-which true false a b false = refl
-which false true a b true = refl
-which false true a b false = refl
-which false false a b true = refl
-which false false a b false = refl
+which true true true a b = refl
+which true true false a b = refl
+which true false true a b = refl
+which true false false a b = refl
+which false true true a b = refl
+which false true false a b = refl
+which false false true a b = refl
+which false false false a b = refl
 
 swap : (x y : Bool) → (x && y) ≡ (y && x)
 swap true true = refl
@@ -69,9 +65,35 @@ swap false true = refl
 swap false false = refl
 
 pub primary-symmetric : (a b : List ℕ) → isPrimaryFr a b ≡ isPrimaryFr b a
-unfolding isPrimaryFr
+unfolding isPrimaryFr areOpposite
 primary-symmetric a b =
-    which (isReverse (flagsOf a)) (isReverse (flagsOf b)) a b (bothMapped (flagsOf a) && bothMapped (flagsOf b) && eqℤ (refIdOf a) (refIdOf b))
-    ∙ ap (λ (m : Bool). m && xor (isReverse (flagsOf b)) (isReverse (flagsOf a)) && isFr (cond (isReverse (flagsOf b)) b a))
+    which (isReverse (flagsOf a)) (isReverse (flagsOf b)) (bothMapped (flagsOf a) && bothMapped (flagsOf b) && eqℤ (refIdOf a) (refIdOf b)) a b
+    ∙ ap (λ (m : Bool). cond (m && xor (isReverse (flagsOf b)) (isReverse (flagsOf a))) (isFr (cond (isReverse (flagsOf b)) b a)) (Flag.Is false))
     (ap (λ (m : Bool). m && eqℤ (refIdOf a) (refIdOf b)) (swap (bothMapped (flagsOf a)) (bothMapped (flagsOf b)))
     ∙ ap (λ (m : Bool). bothMapped (flagsOf b) && bothMapped (flagsOf a) && m) (eqℤ-sym (refIdOf a) (refIdOf b)))
+
+-- ---- the fields that a pair test needs, for two records that are both long enough or both too short
+
+module _ (a b : List ℕ) (l : isShort a ≡ isShort b) (s : SamePair a b) where
+  pub opposite-only : oppositePair a ≡ oppositePair b
+  unfolding oppositePair
+  opposite-only = rw (l, opposite-needs a b s)
+
+  pub reverse-only : isReverse (flagsOf a) ≡ true → SameReverse a b → frPair a ≡ frPair b
+  unfolding frPair
+  reverse-only r t = rw (l, fr-needs-reverse a b s r t)
+
+  pub forward-only : isReverse (flagsOf a) ≡ false → templateLenOf a ≡ templateLenOf b → frPair a ≡ frPair b
+  unfolding frPair
+  forward-only r t = rw (l, fr-needs-forward a b s r t)
+
+pub symmetric : (a b : List ℕ) → primaryFrPair a b ≡ primaryFrPair b a
+unfolding primaryFrPair
+symmetric a b = go (isShort a) (isShort b)
+  where
+    go : (t u : Bool) → cond t (Flag.Refused ShortRecord) (cond u (Flag.Refused ShortRecord) (isPrimaryFr a b))
+        ≡ cond u (Flag.Refused ShortRecord) (cond t (Flag.Refused ShortRecord) (isPrimaryFr b a))
+    go true true = refl
+    go true false = refl
+    go false true = refl
+    go false false = primary-symmetric a b

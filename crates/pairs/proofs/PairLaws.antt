@@ -11,8 +11,10 @@ use mir.Val.{SFits}
 use Rattle.signed.specs.Equal.{eqℤ}
 use Rattle.signed.specs.Whole.{raised}
 use Rattle.signed.proofs.Halves.{up, dn, plus, minus, leℤ, gtℤ, raise-fact}
-use Rattle.sam.specs.Record.{refIdOf, posOf, flagsOf, mateRefIdOf, matePosOf, templateLenOf, isPaired, isUnmapped, isMateUnmapped, isReverse, isMateReverse}
-use Rattle.pairs.specs.Pairs.{bothMapped, isOpposite, startOf, lastOf, mateStartsBefore, isFr, isFrWithMate, isPrimaryFr}
+use Rattle.sam.specs.Record.{refIdOf, flagsOf, mateRefIdOf, isPaired, isUnmapped, isMateUnmapped, isReverse, isMateReverse}
+use Rattle.answers.specs.declared.Flag.{Flag}
+use Rattle.answers.specs.declared.Flag.the-variants as Flag
+use Rattle.pairs.specs.Pairs.{bothMapped, isOpposite, startOf, lastOf, mateStartsBefore, frBy, isFr, areOpposite, isPrimaryFr}
 
 pub first-true : (a b : Bool) → a ≡ true → not b ≡ xor a b
 unfolding xor
@@ -51,55 +53,47 @@ module _ (b : List ℕ) (f : ℕ) (e : f ≡ flagsOf b) where
   unfolding isOpposite
   strands r x y p q s t u v = simp (sym e, p, q, s, sym t, sym u) v
 
-  module _ (r : Bool) (o : isOpposite b ≡ true) where
-    pub fr-reverse : isReverse f ≡ true → r ≡ mateStartsBefore b → r ≡ isFr b
-    unfolding isFr
-    fr-reverse p t = simp (o, sym e, p) t
+  module _ (forward : Bool) (o : isOpposite b ≡ true) where
+    pub fr-reverse : (r : Flag) → isReverse f ≡ true → r ≡ mateStartsBefore b → r ≡ frBy forward b
+    unfolding frBy
+    fr-reverse r p t = simp (o, sym e, p) t
 
-    pub fr-forward : isReverse f ≡ false → r ≡ leZ (pos 1) (templateLenOf b) → r ≡ isFr b
-    unfolding isFr
-    fr-forward p t = simp (o, sym e, p) t
+    pub fr-forward : isReverse f ≡ false → Flag.Is forward ≡ frBy forward b
+    unfolding frBy
+    fr-forward p = simp (o, sym e, p)
 
-    pub with-reverse : (n : ℤ) → isReverse f ≡ true → r ≡ mateStartsBefore b → r ≡ isFrWithMate b n
-    unfolding isFrWithMate
-    with-reverse n p t = simp (o, sym e, p) t
+pub not-fr : (forward : Bool) (b : List ℕ) → isOpposite b ≡ false → Flag.Is false ≡ frBy forward b
+unfolding frBy
+not-fr forward b o = simp o
 
-    pub with-forward : (n : ℤ) → isReverse f ≡ false → r ≡ leZ (startOf (posOf b)) (lastOf (matePosOf b) n) → r ≡ isFrWithMate b n
-    unfolding isFrWithMate
-    with-forward n p t = simp (o, sym e, p) t
-
-pub not-fr : (b : List ℕ) → isOpposite b ≡ false → false ≡ isFr b
-unfolding isFr
-not-fr b o = simp o
-
-pub not-fr-with : (b : List ℕ) (n : ℤ) → isOpposite b ≡ false → false ≡ isFrWithMate b n
-unfolding isFrWithMate
-not-fr-with b n o = simp o
+-- ---- two records
 
 module _ (a b : List ℕ) (f g : ℕ) (e : f ≡ flagsOf a) (h : g ≡ flagsOf b) where
-  pub first-unmapped : bothMapped f ≡ false → false ≡ isPrimaryFr a b
-  unfolding isPrimaryFr
+  pub first-unmapped : bothMapped f ≡ false → false ≡ areOpposite a b
+  unfolding areOpposite
   first-unmapped p = simp (sym e, p)
 
   module _ (p : bothMapped f ≡ true) where
-    pub second-unmapped : bothMapped g ≡ false → false ≡ isPrimaryFr a b
-    unfolding isPrimaryFr
+    pub second-unmapped : bothMapped g ≡ false → false ≡ areOpposite a b
+    unfolding areOpposite
     second-unmapped q = simp (sym e, sym h, p, q)
 
     module _ (q : bothMapped g ≡ true) where
-      pub two-apart : eqℤ (refIdOf a) (refIdOf b) ≡ false → false ≡ isPrimaryFr a b
-      unfolding isPrimaryFr
+      pub two-apart : eqℤ (refIdOf a) (refIdOf b) ≡ false → false ≡ areOpposite a b
+      unfolding areOpposite
       two-apart s = simp (sym e, sym h, p, q, s)
 
-      module _ (s : eqℤ (refIdOf a) (refIdOf b) ≡ true) where
-        module _ (x y : Bool) (t : x ≡ isReverse f) (u : y ≡ isReverse g) where
-          pub one-strand : xor x y ≡ false → false ≡ isPrimaryFr a b
-          unfolding isPrimaryFr
-          one-strand v = simp (sym e, sym h, p, q, s, sym t, sym u, v)
+      pub two-strands : (r x y : Bool) → eqℤ (refIdOf a) (refIdOf b) ≡ true → x ≡ isReverse f → y ≡ isReverse g → r ≡ xor x y → r ≡ areOpposite a b
+      unfolding areOpposite
+      two-strands r x y s t u v = simp (sym e, sym h, p, q, s, sym t, sym u) v
 
-          pub decided : (r : Bool) → xor x y ≡ true → r ≡ isFr (cond x a b) → r ≡ isPrimaryFr a b
-          unfolding isPrimaryFr
-          decided r v w = simp (sym e, sym h, p, q, s, sym t, sym u, v) w
+pub no-pair : (a b : List ℕ) → areOpposite a b ≡ false → Flag.Is false ≡ isPrimaryFr a b
+unfolding isPrimaryFr
+no-pair a b o = simp o
+
+pub decided : (a b : List ℕ) (f : ℕ) (r : Flag) (t : Bool) → areOpposite a b ≡ true → f ≡ flagsOf a → isReverse f ≡ t → r ≡ isFr (cond t a b) → r ≡ isPrimaryFr a b
+unfolding isPrimaryFr
+decided a b f r t o e p w = simp (o, sym e, p) w
 
 -- an order of positions, over their raised numbers
 module _ (s p n : ℤ) (i : SFits w32 s) (j : SFits w32 p) (k : SFits w32 n) where

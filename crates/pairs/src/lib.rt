@@ -1,12 +1,15 @@
-// Document 01, module 10: the pair tests. An inner crate: its callers have tested that each record has 32 bytes.
+// Document 01, module 10: the pair tests. `fr_with_mate` and `primary_fr` are inner: their callers have tested that each record has 32 bytes.
 ghost use mathlib.Core.Path.{_≡_};
 ghost use mathlib.Core.Bool.{xor};
 ghost use Prim.Native.Nat.{_≤_};
 ghost use lib.IntN.{pos};
 ghost use lib.ListN.{length};
 ghost use lib.Signed.{leZ};
-ghost use Rattle.pairs.specs.Pairs.{bothMapped, isOpposite, startOf, lastOf, mateStartsBefore, isFr, isFrWithMate, isPrimaryFr};
+ghost use Rattle.pairs.specs.Pairs.{bothMapped, isOpposite, startOf, lastOf, mateStartsBefore, frBy, isFr, isFrWithMate, areOpposite, isPrimaryFr, oppositePair, frPair, primaryFrPair};
+use answers::Flag;
+use answers::Int;
 use answers::Pos0;
+use answers::Refusal;
 
 fn differ(a: bool, b: bool) -> bool
     ensures { λ r. ⌜ r ≡ xor a b ⌝ }
@@ -27,7 +30,7 @@ fn both_mapped(flags: u32) -> bool
 }
 
 // Paired, both mapped, same reference, strands differ.
-pub fn opposite(bam: &[u8]) -> bool
+fn opposite(bam: &[u8]) -> bool
     requires { ⌜ 32 ≤ length (now bam) ⌝ }
     ensures { λ r. ⌜ r ≡ isOpposite (now (bam .entry)) ⌝ }
 {
@@ -55,14 +58,17 @@ fn starts_before_end(s: Pos0, p: Pos0, n: i32) -> bool
     false
 }
 
-// A reverse record's test: its mate's start against its own end.
-fn mate_starts_before(bam: &[u8]) -> bool
+// A reverse record's test: its mate's start against its own end. The refusal of its length is passed on.
+fn mate_starts_before(bam: &[u8]) -> Flag
     requires { ⌜ 32 ≤ length (now bam) ⌝ }
     ensures { λ r. ⌜ r ≡ mateStartsBefore (now (bam .entry)) ⌝ }
 {
     let mate = Pos0(little::i32_at(bam, 24));
     let own = Pos0(little::i32_at(bam, 4));
-    starts_before_end(mate, own, lengths::reference_length_from_raw_bam(bam))
+    match lengths::asked_length(bam) {
+        Int::Number(n) => Flag::Is(starts_before_end(mate, own, n)),
+        Int::Refused(why) => Flag::Refused(why),
+    }
 }
 
 fn at_least_one(n: i32) -> bool
@@ -71,40 +77,42 @@ fn at_least_one(n: i32) -> bool
     1 <= n
 }
 
+// FR, by the test of a forward record.
+fn fr_by(forward: bool, bam: &[u8]) -> Flag
+    requires { ⌜ 32 ≤ length (now bam) ⌝ }
+    ensures { λ r. ⌜ r ≡ frBy forward (now (bam .entry)) ⌝ }
+{
+    if !opposite(bam) {
+        return Flag::Is(false);
+    }
+    if fields::is_reverse(little::u16_at(bam, 14)) {
+        return mate_starts_before(bam);
+    }
+    Flag::Is(forward)
+}
+
 // FR by the record alone; a forward record's template length decides.
-pub fn fr(bam: &[u8]) -> bool
+fn fr(bam: &[u8]) -> Flag
     requires { ⌜ 32 ≤ length (now bam) ⌝ }
     ensures { λ r. ⌜ r ≡ isFr (now (bam .entry)) ⌝ }
 {
-    if !opposite(bam) {
-        return false;
-    }
-    if fields::is_reverse(little::u16_at(bam, 14)) {
-        return mate_starts_before(bam);
-    }
-    at_least_one(little::i32_at(bam, 28))
+    fr_by(at_least_one(little::i32_at(bam, 28)), bam)
 }
 
 // FR by the record and the mate's reference length.
-pub fn fr_with_mate(bam: &[u8], n: i32) -> bool
+pub fn fr_with_mate(bam: &[u8], n: i32) -> Flag
     requires { ⌜ 32 ≤ length (now bam) ⌝ }
     ensures { λ r. ⌜ r ≡ isFrWithMate (now (bam .entry)) n ⌝ }
 {
-    if !opposite(bam) {
-        return false;
-    }
-    if fields::is_reverse(little::u16_at(bam, 14)) {
-        return mate_starts_before(bam);
-    }
     let own = Pos0(little::i32_at(bam, 4));
     let mate = Pos0(little::i32_at(bam, 24));
-    starts_before_end(own, mate, n)
+    fr_by(starts_before_end(own, mate, n), bam)
 }
 
-// FR by both records; the reverse one decides.
-pub fn primary_fr(a: &[u8], b: &[u8]) -> bool
+// Of two records: all of them mapped, same reference, strands differ.
+fn both_opposite(a: &[u8], b: &[u8]) -> bool
     requires { ⌜ (32 ≤ length (now a)) × (32 ≤ length (now b)) ⌝ }
-    ensures { λ r. ⌜ r ≡ isPrimaryFr (now (a .entry)) (now (b .entry)) ⌝ }
+    ensures { λ r. ⌜ r ≡ areOpposite (now (a .entry)) (now (b .entry)) ⌝ }
 {
     let flags = little::u16_at(a, 14);
     let other = little::u16_at(b, 14);
@@ -117,12 +125,52 @@ pub fn primary_fr(a: &[u8], b: &[u8]) -> bool
     if !signed::same(little::i32_at(a, 0), little::i32_at(b, 0)) {
         return false;
     }
-    let reverse = fields::is_reverse(flags);
-    if !differ(reverse, fields::is_reverse(other)) {
-        return false;
+    differ(fields::is_reverse(flags), fields::is_reverse(other))
+}
+
+// FR by both records; the reverse one decides.
+pub fn primary_fr(a: &[u8], b: &[u8]) -> Flag
+    requires { ⌜ (32 ≤ length (now a)) × (32 ≤ length (now b)) ⌝ }
+    ensures { λ r. ⌜ r ≡ isPrimaryFr (now (a .entry)) (now (b .entry)) ⌝ }
+{
+    if !both_opposite(a, b) {
+        return Flag::Is(false);
     }
-    if reverse {
+    if fields::is_reverse(little::u16_at(a, 14)) {
         return fr(a);
     }
     fr(b)
+}
+
+// Paired, both mapped, same reference, strands differ. Refusal 1.
+pub fn is_mapped_opposite_strand_pair_raw(bam: &[u8]) -> Flag
+    ensures { λ r. ⌜ r ≡ oppositePair (now (bam .entry)) ⌝ }
+{
+    if bam.len() < 32 {
+        return Flag::Refused(Refusal::ShortRecord);
+    }
+    Flag::Is(opposite(bam))
+}
+
+// FR by the record alone. Refusal 1.
+pub fn is_fr_pair_raw(bam: &[u8]) -> Flag
+    ensures { λ r. ⌜ r ≡ frPair (now (bam .entry)) ⌝ }
+{
+    if bam.len() < 32 {
+        return Flag::Refused(Refusal::ShortRecord);
+    }
+    fr(bam)
+}
+
+// FR by both records. Refusal 1.
+pub fn is_primary_fr_pair_raw(a: &[u8], b: &[u8]) -> Flag
+    ensures { λ r. ⌜ r ≡ primaryFrPair (now (a .entry)) (now (b .entry)) ⌝ }
+{
+    if a.len() < 32 {
+        return Flag::Refused(Refusal::ShortRecord);
+    }
+    if b.len() < 32 {
+        return Flag::Refused(Refusal::ShortRecord);
+    }
+    primary_fr(a, b)
 }

@@ -9,6 +9,7 @@ use lib.ListN.{length, set, drop, getD, length-append}
 use lib.Seq.{sets, set-comm}
 use lib.Dec.{ltb}
 use borrow.Author.Tests.{lt-ltb, le-ltb, ltb-true, ltb-false}
+use Rattle.lists.proofs.Never.{never}
 use Rattle.lists.proofs.Walks.{step, done}
 use Rattle.sam.specs.Op.{lenOf, codeOf}
 use Rattle.ops.specs.Ops.{letterOf}
@@ -128,8 +129,8 @@ op-stores op r w l at =
 -- which case `roomOf` is
 pub room-bad : (b : Bool) (t : ℕ) → cond b Room.BadCode (Room.Bytes t) ≡ Room.BadCode → b ≡ true
 room-bad true t e = refl
-room-bad false t e = let z : _≡_ {A = ℕ} 0 1 = cc in absurd (omega arith)
+room-bad false t e = never (cc)
 
 pub room-some : (b : Bool) (t n : ℕ) → cond b Room.BadCode (Room.Bytes t) ≡ Room.Bytes n → (b ≡ false) × (t ≡ n)
-room-some true t n e = let z : _≡_ {A = ℕ} 0 1 = cc in absurd (omega arith)
+room-some true t n e = never (cc)
 room-some false t n e = (refl, cc)

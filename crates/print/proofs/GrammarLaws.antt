@@ -6,6 +6,7 @@ use mathlib.Core.List.{List, [], _∷_, _++_, append-assoc}
 use native.Mathlib.Omega.{arith}
 use lib.Dec.{ltb}
 use borrow.Author.Tests.{lt-ltb, le-ltb, ltb-true, ltb-false}
+use Rattle.lists.proofs.Never.{never}
 use Rattle.sam.specs.Op.{lenOf, codeOf, opOf}
 use Rattle.sam.specs.Text.{Digit, Digits, value, Spells, Spells.end, Spells.op}
 use Rattle.ops.specs.Ops.{letterOf}
@@ -137,5 +138,5 @@ print-spells [] e = Spells.end
 print-spells (o ∷ xs) e = go (ltb 8 (codeOf o)) refl e (print-spells xs)
   where
     go : (t : Bool) → ltb 8 (codeOf o) ≡ t → (t || anyBad xs) ≡ false → (anyBad xs ≡ false → Spells (textOf xs) xs) → Spells (opText o ++ textOf xs) (o ∷ xs)
-    go true q f ih = absurd (let z : _≡_ {A = ℕ} 0 1 = cc in omega arith)
+    go true q f ih = never (cc)
     go false q f ih = let low = ltb-false 8 (codeOf o) q in op-spells o (textOf xs) xs (omega arith) (ih f)

@@ -8,6 +8,7 @@ use lib.Dec.{ltb}
 use Rattle.lists.specs.Lists.{sumOf}
 use Rattle.sam.specs.Op.{lenOf}
 use Rattle.sam.specs.Record.{recordOps}
+use Rattle.oplist.specs.Ops.{mostOps}
 use Rattle.answers.specs.declared.Refusal.the-variants.{ShortRecord, TooManyOps, TooLong, NoRoom}
 use Rattle.clip.specs.Answer.{clippedOps, clippedCount, clippedInto, clippedUpTo, clipped, clippedRecord, tellClipped}
 use Rattle.clip.specs.declared.Clipped.{Clipped}
@@ -29,7 +30,7 @@ module _ (amount : ℕ) (start : Bool) (d : List ℕ) where
 
   pub clip-cigar-ops-raw : (xs : List ℕ) → GivesFilled tellClipped (clipped xs amount start d) d (clipRows xs amount start d) (done xs) (clippedOps xs amount start)
   unfolding clippedUpTo
-  clip-cigar-ops-raw xs = kept-row tellClipped (ltb 65535 (length xs)) (Refused TooManyOps) 3 refl refl (into-rows xs)
+  clip-cigar-ops-raw xs = kept-row tellClipped (ltb mostOps (length xs)) (Refused TooManyOps) 3 refl refl (into-rows xs)
 
   pub clip-cigar-ops : (b : List ℕ)
       → GivesFilled tellClipped (clippedRecord b amount start d) d (clipRecordRows b amount start d) (done (recordOps b)) (clippedOps (recordOps b) amount start)

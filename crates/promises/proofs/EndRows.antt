@@ -15,6 +15,7 @@ use Rattle.sam.specs.Op.{refLen}
 use Rattle.sam.specs.Record.{posOf, flagsOf, isUnmapped, isReverse, recordOps}
 use Rattle.ops.specs.Clips.{leadingClips, trailingClips}
 use Rattle.lengths.specs.Lengths.{refLengthOrZero}
+use Rattle.oplist.specs.Ops.{mostOps}
 use Rattle.answers.specs.Answers.{Told}
 use Rattle.answers.specs.declared.Pos0.{Pos0}
 use Rattle.answers.specs.declared.Refusal.the-variants.{ShortRecord, TooManyOps, BadStart}
@@ -115,7 +116,7 @@ alignment-end-from-raw b =
 pub read-pos-at-ref-pos-raw : (xs : List ℕ) (start at : ℕ) (asked : Bool) → Gives (tellFound (lookup xs start at asked)) (lookupRows xs start)
 unfolding lookup
 read-pos-at-ref-pos-raw xs start at asked =
-    row tellFound (ltb 65535 (length xs)) (Found.Refused TooManyOps) _ 3 refl
+    row tellFound (ltb mostOps (length xs)) (Found.Refused TooManyOps) _ 3 refl
     (row-either tellFound (ltb start 1) (ltb 2147483648 start) (Found.Refused BadStart) _ 9 refl
     (never (ltb at start) (look xs (at - start) .before) asked (look xs (at - start) .over)))
   where

@@ -10,6 +10,7 @@ use lib.Signed.{ltZ}
 use Rattle.lists.specs.Lists.{sumOf}
 use Rattle.sam.specs.Op.{refLen, queryLen}
 use Rattle.sam.specs.Record.{opsStart, opCountOf, opsEnd, posOf, recordOps}
+use Rattle.oplist.specs.Ops.{mostOps}
 use Rattle.answers.specs.Answers.{Told, answered, tellInt, tellNat, tellCount}
 use Rattle.answers.specs.declared.Refusal.the-variants.{ShortRecord, AreaOverrun, TooManyOps, Overflow, NoRoom, BadLength}
 use Rattle.answers.specs.declared.Int.{Int}
@@ -25,10 +26,10 @@ use Rattle.ops.specs.Ops.{getOps, kindOf, fromOpType, tellKind, newOp, tellOp}
 use Rattle.ops.specs.declared.CigarKind.{CigarKind}
 use Rattle.ops.specs.declared.KindFound.the-variants.{Kind, Nothing}
 use Rattle.ops.specs.declared.NewOp.the-variants as NewOp
-use Rattle.lengths.specs.Lengths.{asInt, refLength, queryLength, saturatedLength, checkedRefLength, refLengthOrZero, recordQueryLength, withQuery, bothLengths, tellLengths}
+use Rattle.lengths.specs.Lengths.{asInt, refLength, queryLength, saturatedLength, checkedRefLength, refLengthOrZero, askedLength, recordQueryLength, withQuery, bothLengths, tellLengths}
 use Rattle.lengths.specs.declared.Lengths.{Lengths}
 use Rattle.lengths.specs.declared.Lengths.the-variants as Lengths
-use Rattle.bin.specs.Bin.{binTo, reg2bin, spanOf, binUpTo, recordBin, withBin, setBin}
+use Rattle.bin.specs.Bin.{binTo, reg2bin, spanOf, binUpTo, recordBin, withBin, setBin, binFrom}
 use Rattle.promises.specs.Table.{Row, _when_, Gives, GivesKept, GivesFilled}
 use Rattle.promises.specs.Rows.{over, anyOutside, recordRows, opsRows, newRows, listRows, lengthRows, checkedRows, bothRows, regionRows, binRows}
 use Rattle.promises.proofs.RowLaws.{number-alone, answer, row, row-either, row-unless, row-sum, kept-row, last-row}
@@ -101,15 +102,15 @@ total-rows tell to n p q =
 
 pub reference-length-from-cigar : (xs : List ℕ) → Gives (tellInt (refLength xs)) (lengthRows xs)
 unfolding refLength
-reference-length-from-cigar xs = row tellInt (ltb 65535 (length xs)) (Int.Refused TooManyOps) _ 3 refl (total-rows tellInt (λ x. x) (sumOf refLen xs) refl refl)
+reference-length-from-cigar xs = row tellInt (ltb mostOps (length xs)) (Int.Refused TooManyOps) _ 3 refl (total-rows tellInt (λ x. x) (sumOf refLen xs) refl refl)
 
 pub query-length-from-cigar : (xs : List ℕ) → Gives (tellCount (queryLength xs)) (listRows xs)
 unfolding queryLength
-query-length-from-cigar xs = row tellCount (ltb 65535 (length xs)) (Count.Refused TooManyOps) _ 3 refl (answer refl refl)
+query-length-from-cigar xs = row tellCount (ltb mostOps (length xs)) (Count.Refused TooManyOps) _ 3 refl (answer refl refl)
 
 pub saturating-reference-length : (xs : List ℕ) → Gives (tellInt (saturatedLength xs)) (listRows xs)
 unfolding saturatedLength
-saturating-reference-length xs = row tellInt (ltb 65535 (length xs)) (Int.Refused TooManyOps) _ 3 refl (answer refl refl)
+saturating-reference-length xs = row tellInt (ltb mostOps (length xs)) (Int.Refused TooManyOps) _ 3 refl (answer refl refl)
 
 pub reference-length-from-raw-bam-checked : (b : List ℕ) → Gives (tellInt (checkedRefLength b)) (checkedRows b)
 unfolding checkedRefLength
@@ -137,7 +138,7 @@ pub reg2bin-rows : (beg end : ℤ) → Gives (tellNat (reg2bin beg end)) (region
 reg2bin-rows beg end = region beg end
 
 pub bin-from-raw-bam : (b : List ℕ) → Gives (tellNat (recordBin b)) (binRows b)
-unfolding recordBin binUpTo
+unfolding recordBin binFrom askedLength binUpTo
 bin-from-raw-bam b =
     row tellNat (ltb (length b) 32) (Nat.Refused ShortRecord) _ 1 refl
     (row-unless tellNat (ltZ (posOf b) (pos 0)) (Nat.Number 4680) _ refl

@@ -20,7 +20,8 @@ use Rattle.print.proofs.GrammarLaws as Printed
 use Rattle.strict_text.specs.Text.{textOps}
 use Rattle.strict_text.specs.Valid.{validMapped}
 use Rattle.strict_text.specs.Parsed.{strict}
-use Rattle.strict_text.specs.Meaning.{Each, Mapped, MappedText, withoutZeros}
+use Rattle.strict_text.specs.Meaning.{Mapped, MappedText, withoutZeros}
+use Rattle.lists.specs.Lists.{Each}
 use Rattle.strict_text.proofs.GrammarLaws as Strict
 use Rattle.strict_text.proofs.ValidLaws as Valid
 use Rattle.strict_text.proofs.RoundTrip as Round

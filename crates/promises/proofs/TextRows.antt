@@ -6,6 +6,7 @@ use mathlib.Core.List.{List}
 use lib.ListN.{length}
 use lib.Dec.{ltb}
 use Rattle.sam.specs.Record.{recordOps}
+use Rattle.oplist.specs.Ops.{mostOps}
 use Rattle.answers.specs.Answers.{tellCount, tellFlag}
 use Rattle.answers.specs.declared.Refusal.the-variants.{ShortRecord, TooManyOps, NotACigar, NoRoom, BadCode}
 use Rattle.answers.specs.declared.Count.{Count}
@@ -29,9 +30,9 @@ pub parse-cigar-string-ops : (s d : List ℕ) → GivesFilled tellCount (parsed 
 unfolding parsed
 parse-cigar-string-ops s d =
     kept-row tellCount (not (strict s)) (Count.Refused NotACigar) 5 refl refl
-    (kept-row tellCount (ltb 65535 (length (textOps s))) (Count.Refused TooManyOps) 3 refl refl
+    (kept-row tellCount (ltb mostOps (length (textOps s))) (Count.Refused TooManyOps) 3 refl refl
     (last-row tellCount (textOps s) (Count.Refused NoRoom) _ refl refl))
 
 pub is-valid-mapped-cigar : (xs : List ℕ) → Gives (tellFlag (validity xs)) (listRows xs)
 unfolding validity
-is-valid-mapped-cigar xs = row tellFlag (ltb 65535 (length xs)) (Flag.Refused TooManyOps) _ 3 refl (answer refl refl)
+is-valid-mapped-cigar xs = row tellFlag (ltb mostOps (length xs)) (Flag.Refused TooManyOps) _ 3 refl (answer refl refl)

@@ -21,6 +21,8 @@ use Rattle.strict_text.specs.Parsed.{strict}
 use Rattle.ends.specs.Tails.{greatestRun}
 use Rattle.ends.specs.Ends.{noOps}
 use Rattle.clip.specs.Answer.{clippedOps}
+use Rattle.answers.specs.declared.Flag.{Flag}
+use Rattle.answers.specs.declared.Flag.the-variants as Flag
 use Rattle.pairs.specs.Pairs.{isFrWithMate, isPrimaryFr}
 use Rattle.promises.specs.Table.{Row, _when_, only}
 
@@ -180,13 +182,18 @@ twoRows a b = short a ∷ short b ∷ []
 abbrev pub extendingRows : List ℕ → List ℕ → List Row
 extendingRows xs ys = tooMany xs ∷ tooMany ys ∷ []
 
+-- the pair test answers yes
+abbrev pub isYes : Flag → Bool
+isYes (Flag.Is fr) = fr
+isYes (Flag.Refused r) = false
+
 -- of an FR pair both places are counted from 1
 abbrev pub placeRow : Bool → ℤ → ℤ → Row
 placeRow fr p m = 4 when (fr && anyOutside ((p +ℤ pos 1) ∷ (m +ℤ pos 1) ∷ []))
 
 -- the mate's ops decide whether the pair is FR, by their saturated length
 abbrev pub byOps : List ℕ → List ℕ → Row
-byOps b ys = placeRow (isFrWithMate b (clamp32 (pos (sumOf refLen ys)))) (posOf b) (matePosOf b)
+byOps b ys = placeRow (isYes (isFrWithMate b (clamp32 (pos (sumOf refLen ys))))) (posOf b) (matePosOf b)
 
 -- `num_bases_extending_past_mate_cigar_raw`: a list that is no valid mapped CIGAR answers 0
 abbrev pub mateCigarRows : List ℕ → List ℕ → List Row
@@ -194,7 +201,7 @@ mateCigarRows b ys = short b ∷ tooMany ys ∷ only (validMapped ys) (byOps b y
 
 -- `num_bases_extending_past_mate_vs_mate_raw`
 abbrev pub mateRecordRows : List ℕ → List ℕ → List Row
-mateRecordRows b m = short b ∷ short m ∷ placeRow (isPrimaryFr b m) (posOf b) (posOf m) ∷ []
+mateRecordRows b m = short b ∷ short m ∷ placeRow (isYes (isPrimaryFr b m)) (posOf b) (posOf m) ∷ []
 
 -- `num_bases_extending_past_mate_text_raw`: "refusal 5 gives overhang 0 [..]; 3 and 6 are passed on, in the records' order"
 abbrev pub mateTextRows : List ℕ → List ℕ → List ℕ → List Row

@@ -11,6 +11,7 @@ use lib.Signed.{ltZ}
 use borrow.Author.Tests.{ltb-true}
 use mir.Syntax.{w32}
 use mir.Val.{SFits}
+use Rattle.lists.proofs.Never.{never}
 use Rattle.lists.proofs.Walks.{step, done}
 use Rattle.signed.specs.Whole.{raised}
 use Rattle.print.specs.Text.{decimal}
@@ -85,7 +86,7 @@ sign-minus (negsuc n) e = refl
 
 pub sign-none : (z : ℤ) → ltZ z (pos 0) ≡ false → [] ≡ signOf z
 sign-none (pos n) e = refl
-sign-none (negsuc n) e = let z : _≡_ {A = ℕ} 0 1 = cc in absurd (omega arith)
+sign-none (negsuc n) e = never (cc)
 
 pub abs-low : (z : ℤ) → SFits w32 z → raised z < 2147483648 → 2147483648 - raised z ≡ natAbs z
 unfolding raised

@@ -186,9 +186,9 @@ fn overrun(rec: [u8; 96]) -> [u8; 96] {
 fn pair(name: &[u8], rec: &[u8]) {
     shown::text(name);
     shown::text(b": opposite strands ");
-    shown::flag(overlap::is_mapped_opposite_strand_pair_raw(rec));
+    shown::flag(pairs::is_mapped_opposite_strand_pair_raw(rec));
     shown::text(b", FR ");
-    shown::flag(overlap::is_fr_pair_raw(rec));
+    shown::flag(pairs::is_fr_pair_raw(rec));
     shown::end();
 }
 
@@ -247,9 +247,9 @@ fn overruns() {
 fn both(name: &[u8], a: &[u8], b: &[u8]) {
     shown::text(name);
     shown::text(b": primary FR ");
-    shown::flag(overlap::is_primary_fr_pair_raw(a, b));
+    shown::flag(pairs::is_primary_fr_pair_raw(a, b));
     shown::text(b", ");
-    shown::flag(overlap::is_primary_fr_pair_raw(b, a));
+    shown::flag(pairs::is_primary_fr_pair_raw(b, a));
     shown::text(b", past the mate ");
     shown::count(overlap::num_bases_extending_past_mate_vs_mate_raw(a, b));
     shown::text(b", ");

@@ -7,6 +7,7 @@ use native.Mathlib.Omega.{arith}
 use lib.Dec.{ltb, eqb}
 use lib.ListN.{getD}
 use borrow.Author.Tests.{lt-ltb, le-ltb, ltb-true, ltb-false, eqb-true}
+use Rattle.lists.proofs.Never.{never}
 use Rattle.lists.proofs.Tables.{below-same}
 use Rattle.sam.specs.Op.{lenOf, codeOf, isRef}
 use Rattle.strict_text.specs.Valid.{isEmpty, isSoft, isHard, allHard, anyRef, each, noZero, hardOutside, softOutside, known, validMapped}
@@ -14,7 +15,7 @@ use Rattle.strict_text.specs.Pass.{codeClass, classOf, stepOf, acceptOf}
 use Rattle.strict_text.specs.Class.{Class, Class.Reference, Class.Other, Class.Soft, Class.Hard, Class.Unknown}
 use Rattle.strict_text.specs.declared.Place.{Place}
 use Rattle.strict_text.specs.declared.Place.the-variants.{Start, AfterHard, Inner, Good, EndSoft, EndHard, Wrong}
-use Rattle.strict_text.proofs.TextLaws.{false-true, both}
+use Rattle.strict_text.proofs.TextLaws.{both}
 
 -- ---- the rules, without the ops on the left
 
@@ -178,7 +179,7 @@ long-run p o xs h = ap (λ (k : Class). acceptOf (run (stepOf p k) xs)) (long-cl
 
 odd-run : (xs : List ℕ) (p : Place) → plain xs ≡ false → acceptOf (run p xs) ≡ false
 unfolding plain run
-odd-run [] p e = absurd (false-true (sym e))
+odd-run [] p e = never (cc)
 odd-run (o ∷ xs) p e = go (ltb 0 (lenOf o)) (ltb (codeOf o) 9) refl refl e (odd-run xs (stepOf p (classOf o)))
   where
     go : (a b : Bool) → ltb 0 (lenOf o) ≡ a → ltb (codeOf o) 9 ≡ b → ((a && b) && plain xs) ≡ false
@@ -262,7 +263,7 @@ module _ (o : ℕ) (xs : List ℕ) (r : States xs) where
     emptyPlaced = refl;
     emptyHard = simp (eh, and-false);
   }
-  cons Unknown k er es eh u = absurd (false-true (sym u))
+  cons Unknown k er es eh u = never (cc)
 
 states : (xs : List ℕ) → plain xs ≡ true → States xs
 unfolding run placed anyRef allHard isEmpty plain

@@ -6,15 +6,20 @@ use mathlib.Core.List.{List, [], _∷_, _++_}
 use native.Mathlib.Omega.{arith}
 use lib.ListN.{length, getD}
 use lib.Dec.{ltb, eqb}
-use borrow.Author.Tests.{le-leb, ltb-false, eqb-true, eqb-false, not-true}
+use borrow.Author.Tests.{ltb-false, eqb-true, eqb-false, not-true}
+use Rattle.lists.proofs.Each.{each-map}
+use Rattle.lists.proofs.Never.{never}
 use Rattle.lists.proofs.Tables.{below-at}
 use Rattle.sam.specs.Op.{lenOf, opOf, letters}
 use Rattle.sam.specs.Text.{Digit, Digits, value, Spells, Spells.end, Spells.op}
-use Rattle.strict_text.specs.Text.{isDigit, place, letterCode, Next, Next.Number, Next.Letter, Next.Bad, nextOf, onNext, rowFrom, isRow, opsFrom, textOps}
+use Rattle.sam.specs.Text.{isDigit}
+use Rattle.strict_text.specs.Text.{place, letterCode, Next, Next.Number, Next.Letter, Next.Bad, nextOf, onNext, rowFrom, isRow, opsFrom, textOps}
 use Rattle.strict_text.specs.Valid.{validMapped}
 use Rattle.strict_text.specs.Parsed.{strict}
-use Rattle.strict_text.specs.Meaning.{Each, MappedText}
-use Rattle.strict_text.proofs.TextLaws.{false-true, both, digit-bounds, next-digit, next-letter}
+use Rattle.lists.specs.Lists.{Each}
+use Rattle.strict_text.specs.Meaning.{MappedText}
+use Rattle.sam.proofs.TextLaws.{is-digit, a-digit}
+use Rattle.strict_text.proofs.TextLaws.{both, next-digit, next-letter}
 use Rattle.strict_text.proofs.ValidLaws.{valid-mapped, mapped-valid}
 
 -- ---- the letters are the specification's
@@ -40,9 +45,6 @@ unfolding letterCode
 code-letter b h = place-at b letters h
 
 -- ---- a text of the grammar is read
-
-pub is-digit : (b : ℕ) → Digit b → isDigit b ≡ true
-is-digit b d = rw (le-leb 48 b (d .least), le-leb b 57 (d .most))
 
 value-ge : (ds : List ℕ) (m : ℕ) → Digits ds → m ≤ value m ds
 unfolding value
@@ -87,9 +89,7 @@ Says num b Next.Bad = Unit {0}
 says-pick : (num b : ℕ) (t u v w : Bool) → isDigit b ≡ t → ltb 268435455 (num * 10 + (b - 48)) ≡ u → eqb num 0 ≡ v → ltb 8 (letterCode b) ≡ w
     → Says num b (cond t (cond u Next.Bad (Next.Number (num * 10 + (b - 48)))) (cond (v || w) Next.Bad (Next.Letter (letterCode b))))
 says-pick num b true true v w a e f g = tt
-says-pick num b true false v w a e f g =
-    let d = digit-bounds b a in
-    (record { least = d .0; most = d .1 }, refl, ltb-false 268435455 (num * 10 + (b - 48)) e)
+says-pick num b true false v w a e f g = (a-digit b a, refl, ltb-false 268435455 (num * 10 + (b - 48)) e)
 says-pick num b false u true w a e f g = tt
 says-pick num b false u false true a e f g = tt
 says-pick num b false u false false a e f g =
@@ -158,7 +158,7 @@ mid-byte (Next.Letter c) num b s h w ih e = record {
   fits = ih .1 e .1;
   ops-are = refl;
 }
-mid-byte Next.Bad num b s h w ih e = absurd (false-true e)
+mid-byte Next.Bad num b s h w ih e = never (cc)
 
 start-byte : (x : Next) (b : ℕ) (s : List ℕ) → Says 0 b x → Both s
     → onNext x (λ v. rowFrom v true s) (λ c. rowFrom 0 false s) false ≡ true → Whole (b ∷ s) (onNext x (λ v. opsFrom v s) (λ c. opOf 0 c ∷ opsFrom 0 s) [])
@@ -171,21 +171,17 @@ start-byte (Next.Number v) b s w ih e =
     rw (t .split, t .ops-are)
     (Spells.op b (u .digits) (t .code) (t .are) (t .known) (t .row), ((omega (arith, t .some), omega (arith, t .most)), t .fits))
 start-byte (Next.Letter c) b s w ih e = absurd (omega (arith, w .0))
-start-byte Next.Bad b s w ih e = absurd (false-true e)
+start-byte Next.Bad b s w ih e = never (cc)
 
 read : (s : List ℕ) → Both s
 unfolding rowFrom opsFrom
-read [] = ((λ num h e. absurd (false-true e)), (λ e. (Spells.end, tt)))
+read [] = ((λ num h e. never (cc)), (λ e. (Spells.end, tt)))
 read (b ∷ s) = ((λ num h e. mid-byte (nextOf num b) num b s h (says num b) (read s) e), (λ e. start-byte (nextOf 0 b) b s (says 0 b) (read s) e))
 
 pub sound : (s : List ℕ) → isRow s ≡ true → Spells s (textOps s) × Each InRange (textOps s)
 sound s e = read s .1 e
 
 -- ---- the strict reader takes what the specification says, and answers that list
-
-most-of : (xs : List ℕ) → Each InRange xs → Each (λ o. lenOf o ≤ 268435455) xs
-most-of [] h = tt
-most-of (x ∷ xs) h = (h .0 .1, most-of xs (h .1))
 
 range-of : (xs : List ℕ) → Each (λ o. 0 < lenOf o) xs → Each (λ o. lenOf o ≤ 268435455) xs → Each InRange xs
 range-of [] h k = tt
@@ -196,7 +192,7 @@ unfolding strict
 accepts s e =
     let h = both (isRow s) (validMapped (textOps s)) e in
     let r = sound s (h .0) in
-    record { spells = r .0; fits = most-of (textOps s) (r .1); mapped = valid-mapped (textOps s) (h .1) }
+    record { spells = r .0; fits = each-map InRange (λ o. lenOf o ≤ 268435455) (λ o h. h .1) (textOps s) (r .1); mapped = valid-mapped (textOps s) (h .1) }
 
 pub accepted : (s xs : List ℕ) → MappedText s xs → (strict s ≡ true) × (textOps s ≡ xs)
 unfolding strict

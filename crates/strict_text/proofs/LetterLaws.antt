@@ -8,9 +8,11 @@ use lib.Dec.{eqb}
 use lib.ListN.{length, getD}
 use borrow.Author.Tests.{eqb-true}
 use Rattle.lists.proofs.Tables.{below-at}
-use Rattle.strict_text.specs.Text.{isDigit, letterCode, place, nextOf, Next, Next.Number, Next.Letter}
+use Rattle.sam.specs.Text.{isDigit}
+use Rattle.strict_text.specs.Text.{letterCode, place, nextOf, Next, Next.Number, Next.Letter}
 use Rattle.strict_text.specs.Pass.{OpAt, codeWord}
-use Rattle.strict_text.proofs.TextLaws.{digit-bounds, next-digit, next-letter, Reading, reading, read-digit, read-letter}
+use Rattle.sam.proofs.TextLaws.{a-digit}
+use Rattle.strict_text.proofs.TextLaws.{next-digit, next-letter, Reading, reading, read-digit, read-letter}
 
 -- ---- the letters
 
@@ -38,7 +40,7 @@ letter-digit : (b : ℕ) → letterCode b ≤ 8 → isDigit b ≡ false
 letter-digit b h = go (isDigit b) refl
   where
     go : (t : Bool) → isDigit b ≡ t → t ≡ false
-    go true d = let k = digit-bounds b d in let c = code-below b (omega arith) in absurd (omega arith)
+    go true d = let k = a-digit b d in let c = code-below b (omega arith) in absurd (omega arith)
     go false d = refl
 
 -- ---- a digit more, or the letter
@@ -60,19 +62,19 @@ module _ (s : List ℕ) (at i num b : ℕ) (r : Reading s at i num) (e : b ≡ g
 module _ (s : List ℕ) (at first second third : ℕ) (room : at + 4 ≤ length s)
     (e₁ : first ≡ getD s at 0) (e₂ : second ≡ getD s (at + 1) 0) (e₃ : third ≡ getD s (at + 2) 0) (d₁ : isDigit first ≡ true) where
   one : Reading s at (at + 1) (first - 48)
-  one = let k = digit-bounds first d₁ in digit-on s at at 0 first (reading s at) e₁ (omega arith) (omega arith) (at + 1) (first - 48) refl d₁ (omega arith) (omega arith)
+  one = let k = a-digit first d₁ in digit-on s at at 0 first (reading s at) e₁ (omega arith) (omega arith) (at + 1) (first - 48) refl d₁ (omega arith) (omega arith)
 
   both : isDigit second ≡ true → Reading s at (at + 2) (first * 10 + second - 528)
   both d₂ =
-      let k = digit-bounds first d₁ in
-      let m = digit-bounds second d₂ in
+      let k = a-digit first d₁ in
+      let m = a-digit second d₂ in
       digit-on s at (at + 1) (first - 48) second one e₂ (omega arith) (omega arith) (at + 2) (first * 10 + second - 528) (omega arith) d₂ (omega arith) (omega arith)
 
   all : isDigit second ≡ true → isDigit third ≡ true → Reading s at (at + 3) ((first * 10 + second) * 10 + third - 5328)
   all d₂ d₃ =
-      let k = digit-bounds first d₁ in
-      let m = digit-bounds second d₂ in
-      let n = digit-bounds third d₃ in
+      let k = a-digit first d₁ in
+      let m = a-digit second d₂ in
+      let n = a-digit third d₃ in
       digit-on s at (at + 2) (first * 10 + second - 528) third (both d₂) e₃ (omega arith) (omega arith) (at + 3) ((first * 10 + second) * 10 + third - 5328) (omega arith) d₃ (omega arith) (omega arith)
 
   pub short-op : (two three : Bool) → isDigit second ≡ two → isDigit third ≡ three
@@ -80,14 +82,14 @@ module _ (s : List ℕ) (at first second third : ℕ) (room : at + 4 ≤ length 
       → (len ≡ 0 → ⊥) → code ≡ letterCode (cond two (cond three (getD s (at + 3) 0) (getD s (at + 2) 0)) (getD s (at + 1) 0)) → code ≤ 8 → next ≡ at + cond two (cond three 4 3) 2
       → OpAt s at len code next
   short-op true true d₂ d₃ len code next p z c k q =
-      let a = digit-bounds first d₁ in
-      let m = digit-bounds second d₂ in
-      let n = digit-bounds third d₃ in
+      let a = a-digit first d₁ in
+      let m = a-digit second d₂ in
+      let n = a-digit third d₃ in
       letter-on s at (at + 3) _ _ (all d₂ d₃) refl (omega arith) (omega arith) len code next p (omega arith) z (omega arith) c k
   short-op true false d₂ d₃ len code next p z c k q =
-      let a = digit-bounds first d₁ in
-      let m = digit-bounds second d₂ in
+      let a = a-digit first d₁ in
+      let m = a-digit second d₂ in
       letter-on s at (at + 2) _ third (both d₂) e₃ (omega arith) (omega arith) len code next p (omega arith) z (omega arith) (c ∙ ap letterCode (sym e₃)) k
   short-op false three d₂ d₃ len code next p z c k q =
-      let a = digit-bounds first d₁ in
+      let a = a-digit first d₁ in
       letter-on s at (at + 1) _ second one e₂ (omega arith) (omega arith) len code next p (omega arith) z (omega arith) (c ∙ ap letterCode (sym e₂)) k

@@ -9,13 +9,14 @@ use lib.IntN.{ℤ, pos}
 use lib.ListN.{length, drop}
 use lib.Dec.{leb, ltb}
 use borrow.Author.Tests.{leb-true, leb-false, ltb-true, ltb-false}
+use Rattle.lists.proofs.Never.{never}
 use Rattle.lists.specs.Lists.{sumOf}
 use Rattle.signed.specs.Whole.{clamp32}
 use Rattle.signed.proofs.Ranges.{clamp-in, clamp-above}
 use Rattle.sam.specs.Op.{lenOf, codeOf, opOf, isRef, refLen}
 use Rattle.strict_text.specs.Text.{isRow, textOps}
 use Rattle.strict_text.specs.Valid.{validMapped}
-use Rattle.strict_text.specs.Parsed.{strict, measuredOps, measuredText}
+use Rattle.strict_text.specs.Parsed.{strict, measuredText}
 use Rattle.strict_text.specs.Pass.{OpAt, NoneAt, codeClass, classOf, stepOf, acceptOf, isWrong, refOf, tookOf, endOf, onTook, atStart, walkOf}
 use Rattle.strict_text.specs.Class.{Class, Class.Reference, Class.Other, Class.Soft, Class.Hard, Class.Unknown}
 use Rattle.strict_text.specs.declared.Place.{Place}
@@ -25,7 +26,7 @@ use Rattle.strict_text.specs.declared.Took.{Took}
 use Rattle.strict_text.specs.declared.Took.the-variants.{More, Stop}
 use Rattle.strict_text.specs.declared.Measured.{Measured}
 use Rattle.strict_text.specs.declared.Measured.the-variants as Measured
-use Rattle.strict_text.proofs.TextLaws.{false-true, at-end}
+use Rattle.strict_text.proofs.TextLaws.{at-end}
 use Rattle.strict_text.proofs.ClipLaws.{refB, class-ref, long-class, short-class, run, wrong-run, valid-run}
 
 -- ---- the reference bases
@@ -68,12 +69,12 @@ abbrev passed : Place → ℕ → ℕ → List ℕ → Measured
 passed p n refs xs = cond (acceptOf (run p xs)) (Measured.Ops (n + length xs) (pos (min (refs + sumOf refLen xs) 2147483647))) Measured.Bad
 
 pub wrong-accept : (q : Place) (xs : List ℕ) → isWrong q ≡ true → acceptOf (run q xs) ≡ false
-wrong-accept Start xs e = absurd (false-true e)
-wrong-accept AfterHard xs e = absurd (false-true e)
-wrong-accept Inner xs e = absurd (false-true e)
-wrong-accept Good xs e = absurd (false-true e)
-wrong-accept EndSoft xs e = absurd (false-true e)
-wrong-accept EndHard xs e = absurd (false-true e)
+wrong-accept Start xs e = never (cc)
+wrong-accept AfterHard xs e = never (cc)
+wrong-accept Inner xs e = never (cc)
+wrong-accept Good xs e = never (cc)
+wrong-accept EndSoft xs e = never (cc)
+wrong-accept EndHard xs e = never (cc)
 wrong-accept Wrong xs e = wrong-run xs
 
 walk-one : (q : Place) (n refs : ℕ) (xs : List ℕ) → refs ≤ 2147483647
@@ -99,7 +100,11 @@ walk (o ∷ xs) s h =
     ∙ ap (λ (n : ℕ). cond (acceptOf (run q xs)) (Measured.Ops (s .n + length (o ∷ xs)) (pos n)) Measured.Bad)
     {x = min (min r 2147483647 + sumOf refLen xs) 2147483647} {y = min (s .refs + (refLen o + sumOf refLen xs)) 2147483647} (omega arith)
 
-pub walk-measured : (xs : List ℕ) → walkOf atStart xs ≡ measuredOps xs
+-- what the pass says of a list
+unfoldable measuredOps : List ℕ → Measured
+measuredOps xs = cond (validMapped xs) (Measured.Ops (length xs) (clamp32 (pos (sumOf refLen xs)))) Measured.Bad
+
+walk-measured : (xs : List ℕ) → walkOf atStart xs ≡ measuredOps xs
 unfolding measuredOps
 walk-measured xs =
     walk xs atStart (omega arith)
@@ -116,7 +121,7 @@ took-fits s t len k e = go (isWrong (stepOf (s .place) k)) e
     more = record { place = stepOf (s .place) k; n = s .n + 1; refs = min (s .refs + refOf k len) 2147483647 }
 
     go : (w : Bool) → cond w Stop (More (record { place = stepOf (s .place) k; n = s .n + 1; refs = min (s .refs + refOf k len) 2147483647 })) ≡ More t → (t .n ≡ s .n + 1) × (t .refs ≤ 2147483647)
-    go true q = absurd (let z : _≡_ {A = ℕ} 0 1 = cc in omega arith)
+    go true q = never (cc)
     go false q =
         let g : _≡_ {A = Seen} (record { place = stepOf (s .place) k; n = s .n + 1; refs = min (s .refs + refOf k len) 2147483647 }) t = cc in
         let m : t .refs ≡ min (s .refs + refOf k len) 2147483647 = sym (ap (λ (x : Seen). x .refs) g) in
@@ -192,9 +197,9 @@ module _ (s : List ℕ) (i : ℕ) (seen : Seen) where
 -- ---- which case a measured list or text is
 
 pub ops-bad : (b : Bool) (n : ℕ) (z : ℤ) → cond b (Measured.Ops n z) Measured.Bad ≡ Measured.Bad → b ≡ false
-ops-bad true n z e = absurd (let q : _≡_ {A = ℕ} 0 1 = cc in omega arith)
+ops-bad true n z e = never (cc)
 ops-bad false n z e = refl
 
 pub ops-some : (b : Bool) (n m : ℕ) (z w : ℤ) → cond b (Measured.Ops n z) Measured.Bad ≡ Measured.Ops m w → (b ≡ true) × (n ≡ m) × (z ≡ w)
 ops-some true n m z w e = (refl, cc, cc)
-ops-some false n m z w e = absurd (let q : _≡_ {A = ℕ} 0 1 = cc in omega arith)
+ops-some false n m z w e = never (cc)

@@ -4,13 +4,13 @@ use mathlib.Core.Path.{_≡_, refl, sym, ap, _∙_}
 use mathlib.Core.Bool.{Bool, true, false, cond}
 use lib.Dec.{eqb}
 use borrow.Author.Tests.{eq-eqb, ne-eqb}
+use Rattle.lists.proofs.Never.{never}
 use Rattle.lists.proofs.Tables.{below-same}
 use Rattle.sam.specs.Op.{isRef}
 use Rattle.strict_text.specs.Class.{Class, Class.Reference, Class.Other, Class.Soft, Class.Hard, Class.Unknown}
 use Rattle.strict_text.specs.Pass.{codeClass, isInner, isPast, stepOf, acceptOf}
 use Rattle.strict_text.specs.declared.Place.{Place}
 use Rattle.strict_text.specs.declared.Place.the-variants.{Start, AfterHard, Inner, Good, EndSoft, EndHard, Wrong}
-use Rattle.strict_text.proofs.TextLaws.{false-true}
 use Rattle.strict_text.proofs.ClipLaws.{has-is, refB, softB, hardB, class-ref, class-soft, class-hard, step-unknown}
 
 -- the mask of the inner codes
@@ -24,24 +24,24 @@ abbrev pub innerClass : Bool → Class
 innerClass reference = cond reference Reference Other
 
 pub past-inner : (p : Place) (b : Bool) → isPast p ≡ true → Wrong ≡ stepOf p (innerClass b)
-past-inner Start b e = absurd (false-true e)
-past-inner AfterHard b e = absurd (false-true e)
-past-inner Inner b e = absurd (false-true e)
-past-inner Good b e = absurd (false-true e)
+past-inner Start b e = never (cc)
+past-inner AfterHard b e = never (cc)
+past-inner Inner b e = never (cc)
+past-inner Good b e = never (cc)
 past-inner EndSoft true e = refl
 past-inner EndSoft false e = refl
 past-inner EndHard b e = refl
 past-inner Wrong b e = refl
 
 pub good-inner : (p : Place) (b : Bool) → isPast p ≡ false → acceptOf p ≡ true → Good ≡ stepOf p (innerClass b)
-good-inner Start b e f = absurd (false-true f)
-good-inner AfterHard b e f = absurd (false-true f)
-good-inner Inner b e f = absurd (false-true f)
+good-inner Start b e f = never (cc)
+good-inner AfterHard b e f = never (cc)
+good-inner Inner b e f = never (cc)
 good-inner Good true e f = refl
 good-inner Good false e f = refl
-good-inner EndSoft b e f = absurd (false-true (sym e))
-good-inner EndHard b e f = absurd (false-true (sym e))
-good-inner Wrong b e f = absurd (false-true f)
+good-inner EndSoft b e f = never (cc)
+good-inner EndHard b e f = never (cc)
+good-inner Wrong b e f = never (cc)
 
 pub first-inner : (p : Place) (b : Bool) → isPast p ≡ false → acceptOf p ≡ false → cond b Good Inner ≡ stepOf p (innerClass b)
 first-inner Start true e f = refl
@@ -50,25 +50,25 @@ first-inner AfterHard true e f = refl
 first-inner AfterHard false e f = refl
 first-inner Inner true e f = refl
 first-inner Inner false e f = refl
-first-inner Good b e f = absurd (false-true (sym f))
-first-inner EndSoft b e f = absurd (false-true (sym f))
-first-inner EndHard b e f = absurd (false-true (sym f))
-first-inner Wrong b e f = absurd (false-true (sym e))
+first-inner Good b e f = never (cc)
+first-inner EndSoft b e f = never (cc)
+first-inner EndHard b e f = never (cc)
+first-inner Wrong b e f = never (cc)
 
 -- ---- which class a code has
 
 inner-is : (k : Class) → isInner k ≡ true → innerClass (refB k) ≡ k
 inner-is Reference e = refl
 inner-is Other e = refl
-inner-is Soft e = absurd (false-true e)
-inner-is Hard e = absurd (false-true e)
-inner-is Unknown e = absurd (false-true e)
+inner-is Soft e = never (cc)
+inner-is Hard e = never (cc)
+inner-is Unknown e = never (cc)
 
 rest-is : (k : Class) → isInner k ≡ false → softB k ≡ false → hardB k ≡ false → Unknown ≡ k
-rest-is Reference e f g = absurd (false-true (sym e))
-rest-is Other e f g = absurd (false-true (sym e))
-rest-is Soft e f g = absurd (false-true (sym f))
-rest-is Hard e f g = absurd (false-true (sym g))
+rest-is Reference e f g = never (cc)
+rest-is Other e f g = never (cc)
+rest-is Soft e f g = never (cc)
+rest-is Hard e f g = never (cc)
 rest-is Unknown e f g = refl
 
 module _ (c : ℕ) (h : c < 16) where

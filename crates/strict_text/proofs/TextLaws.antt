@@ -5,24 +5,20 @@ use mathlib.Core.Bool.{Bool, true, false, not, _&&_, or-true}
 use mathlib.Core.List.{List, [], _∷_}
 use native.Mathlib.Omega.{arith}
 use lib.ListN.{length, getD, drop}
-use lib.Dec.{ltb, leb}
-use borrow.Author.Tests.{lt-ltb, le-ltb, leb-true, eq-eqb, ne-eqb}
+use lib.Dec.{ltb}
+use borrow.Author.Tests.{lt-ltb, le-ltb, eq-eqb, ne-eqb}
+use Rattle.lists.proofs.Never.{never}
 use Rattle.lists.proofs.Walks.{step, done}
 use Rattle.sam.specs.Op.{opOf}
 use Rattle.strict_text.specs.Pass.{OpAt, NoneAt}
-use Rattle.strict_text.specs.Text.{isDigit, letterCode, Next, Next.Number, Next.Letter, Next.Bad, nextOf, rowFrom, opsFrom}
-
-pub false-true : false ≡ true → ⊥
-false-true e = let z : _≡_ {A = ℕ} 0 1 = cc in omega arith
+use Rattle.sam.specs.Text.{isDigit}
+use Rattle.strict_text.specs.Text.{letterCode, Next, Next.Number, Next.Letter, Next.Bad, nextOf, rowFrom, opsFrom}
 
 pub both : (a b : Bool) → (a && b) ≡ true → (a ≡ true) × (b ≡ true)
 both true b e = (refl, e)
-both false b e = absurd (false-true e)
+both false b e = never (cc)
 
 -- ---- what a byte does
-
-pub digit-bounds : (b : ℕ) → isDigit b ≡ true → (48 ≤ b) × (b ≤ 57)
-digit-bounds b e = let h = both (leb 48 b) (leb b 57) e in (leb-true 48 b (h .0), leb-true b 57 (h .1))
 
 module _ (num b : ℕ) where
   pub next-digit : isDigit b ≡ true → num * 10 + (b - 48) ≤ 268435455 → nextOf num b ≡ Next.Number (num * 10 + (b - 48))

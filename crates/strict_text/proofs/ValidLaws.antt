@@ -4,20 +4,21 @@ use mathlib.Core.Path.{_≡_, refl, sym, ap, _∙_, subst}
 use mathlib.Core.Bool.{Bool, true, false, cond, not, _&&_, _||_}
 use mathlib.Core.List.{List, [], _∷_, _++_, append-assoc, append-nil}
 use mathlib.Core.Logic.{_⊎_, inl, inr, ⊎-elim}
-use native.Mathlib.Omega.{arith}
 use lib.Dec.{ltb}
 use borrow.Author.Tests.{lt-ltb, ltb-true, eq-eqb, eqb-true}
+use Rattle.lists.proofs.Never.{never}
 use Rattle.sam.specs.Op.{lenOf, codeOf, isRef}
 use Rattle.sam.specs.Placement.{AllHard, WellPlaced}
 use Rattle.strict_text.specs.Valid.{isEmpty, isSoft, isHard, allHard, anyRef, each, noZero, hardOutside, softOutside, known, validMapped}
-use Rattle.strict_text.specs.Meaning.{Each, HasReference, Mapped}
-use Rattle.strict_text.proofs.TextLaws.{false-true, both}
+use Rattle.lists.specs.Lists.{Each}
+use Rattle.strict_text.specs.Meaning.{HasReference, Mapped}
+use Rattle.strict_text.proofs.TextLaws.{both}
 
 -- ---- a rule at each op
 
 no-nil : (l : List ℕ) (o : ℕ) (r : List ℕ) → [] ≡ l ++ (o ∷ r) → ⊥
-no-nil [] o r e = let z : _≡_ {A = ℕ} 0 1 = cc in omega arith
-no-nil (x ∷ l) o r e = let z : _≡_ {A = ℕ} 0 1 = cc in omega arith
+no-nil [] o r e = never (cc)
+no-nil (x ∷ l) o r e = never (cc)
 
 both-true : (a b : Bool) → a ≡ true → b ≡ true → (a && b) ≡ true
 both-true a b p q = rw p q
@@ -61,7 +62,7 @@ module _ (test : ℕ → Bool) (P : ℕ → Type 0) where
 empty-is : (xs : List ℕ) → isEmpty xs ≡ true → xs ≡ []
 unfolding isEmpty
 empty-is [] e = refl
-empty-is (x ∷ xs) e = absurd (false-true e)
+empty-is (x ∷ xs) e = never (cc)
 
 is-empty : (xs : List ℕ) → xs ≡ [] → isEmpty xs ≡ true
 unfolding isEmpty
@@ -83,12 +84,12 @@ either false b e = inr e
 
 one : (a b : Bool) → (a ≡ true) ⊎ (b ≡ true) → (a || b) ≡ true
 one true b h = refl
-one false b h = ⊎-elim (λ p. absurd (false-true p)) (λ q. q) h
+one false b h = ⊎-elim (λ p. never (cc)) (λ q. q) h
 
 -- a clause "if c then t" that holds
 cond-then : (c t : Bool) → cond c t true ≡ true → c ≡ true → t ≡ true
 cond-then true t e q = e
-cond-then false t e q = absurd (false-true q)
+cond-then false t e q = never (cc)
 
 then-cond : (c t : Bool) → (c ≡ true → t ≡ true) → cond c t true ≡ true
 then-cond true t f = f refl
@@ -118,7 +119,7 @@ softs-placed xs w =
 
 ref-has : (xs : List ℕ) → anyRef xs ≡ true → HasReference xs
 unfolding anyRef
-ref-has [] e = absurd (false-true e)
+ref-has [] e = never (cc)
 ref-has (x ∷ xs) e = go (isRef (codeOf x)) refl e (ref-has xs)
   where
     go : (t : Bool) → isRef (codeOf x) ≡ t → (t || anyRef xs) ≡ true → (anyRef xs ≡ true → HasReference xs) → HasReference (x ∷ xs)

@@ -5,14 +5,10 @@ use mathlib.Core.Path.{_≡_}
 use mathlib.Core.Bool.{Bool, true, false, cond, not, _&&_}
 use mathlib.Core.List.{List, [], _∷_, _++_}
 use lib.Dec.{eqb}
+use Rattle.lists.specs.Lists.{Each}
 use Rattle.sam.specs.Op.{lenOf, codeOf, isRef}
 use Rattle.sam.specs.Placement.{WellPlaced}
-use Rattle.sam.specs.Text.{Spells}
-use Rattle.strict_text.specs.Text.{isDigit}
-
-abbrev pub Each : (ℕ → Type 0) → List ℕ → Type 0
-Each P [] = Unit {0}
-Each P (o ∷ xs) = P o × Each P xs
+use Rattle.sam.specs.Text.{isDigit, Spells}
 
 pub record HasReference (xs : List ℕ) : Type 0 where
   pub left : List ℕ

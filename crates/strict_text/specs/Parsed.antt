@@ -25,9 +25,6 @@ unfoldable pub strict : List ℕ → Bool
 strict s = isRow s && validMapped (textOps s)
 
 -- the measuring pass: the ops of a valid mapped CIGAR, and its reference length, saturated
-unfoldable pub measuredOps : List ℕ → Measured
-measuredOps xs = cond (validMapped xs) (Measured.Ops (length xs) (clamp32 (pos (sumOf refLen xs)))) Measured.Bad
-
 unfoldable pub measuredText : List ℕ → Measured
 unfolding strict
 measuredText s = cond (strict s) (Measured.Ops (length (textOps s)) (clamp32 (pos (sumOf refLen (textOps s))))) Measured.Bad

@@ -1,23 +1,20 @@
 -- Document 01, module 5: "One or more digits and a letter, repeated. Refused: no digits, length 0 or above 268,435,455, unknown letter,
 -- digits at the end". The text, byte by byte from the left.
 use Prim.Native.Nat.{ℕ, suc, _+_, _-_, _*_}
-use mathlib.Core.Bool.{Bool, true, false, cond, not, _&&_, _||_}
+use mathlib.Core.Bool.{Bool, true, false, cond, not, _||_}
 use mathlib.Core.List.{List, [], _∷_}
-use lib.Dec.{ltb, leb, eqb}
-use Rattle.sam.specs.Op.{opOf}
-
--- the bytes 0 to 9
-abbrev pub isDigit : ℕ → Bool
-isDigit b = leb 48 b && leb b 57
+use lib.Dec.{ltb, eqb}
+use Rattle.sam.specs.Op.{opOf, letters}
+use Rattle.sam.specs.Text.{isDigit}
 
 -- where b first stands in a list, or the list's length
 unfoldable pub place : ℕ → List ℕ → ℕ
 place b [] = 0
 place b (x ∷ xs) = cond (eqb b x) 0 (suc (place b xs))
 
--- the letters M I D N S H P = X are the codes 0 to 8; 9 for any other byte
+-- a letter's code, 0 to 8; 9 for any other byte
 unfoldable pub letterCode : ℕ → ℕ
-letterCode b = place b (77 ∷ 73 ∷ 68 ∷ 78 ∷ 83 ∷ 72 ∷ 80 ∷ 61 ∷ 88 ∷ [])
+letterCode b = place b letters
 
 -- what a byte does: the number that it makes of the digits so far, the op's code, or no CIGAR
 pub data Next : Type 0 where

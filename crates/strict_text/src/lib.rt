@@ -6,8 +6,9 @@ ghost use lib.ListN.{length, take};
 ghost use Rattle.lists.specs.Lists.{splice};
 ghost use Rattle.answers.specs.Settled.{Settled};
 ghost use Rattle.oplist.specs.Ops.{opsOf};
-ghost use Rattle.strict_text.specs.Text.{isDigit, letterCode, textOps};
-ghost use Rattle.strict_text.specs.Parsed.{measuredOps, measuredText, parsed, validity};
+ghost use Rattle.sam.specs.Text.{isDigit};
+ghost use Rattle.strict_text.specs.Text.{letterCode, textOps};
+ghost use Rattle.strict_text.specs.Parsed.{measuredText, parsed, validity};
 ghost use Rattle.strict_text.specs.Valid.{validMapped};
 ghost use Rattle.strict_text.specs.Class.{Class.Reference, Class.Other, Class.Soft, Class.Hard};
 ghost use Rattle.strict_text.specs.Pass.{codeWord, codeClass, isInner, isPast, stepOf, acceptOf, isWrong, refOf, tookOf, endOf, TokenAt, ShortAt};
@@ -374,7 +375,7 @@ pub fn measure(text: &[u8]) -> Measured
 }
 
 // Whether the ops that lie at a place are a valid mapped CIGAR. The place comes as numbers, which the compiler sees through.
-fn valid(words: &[u32], rec: &[u8], inside: bool, at: usize, n: u32) -> bool
+pub fn valid(words: &[u32], rec: &[u8], inside: bool, at: usize, n: u32) -> bool
     ensures { λ r. ⌜ r ≡ validMapped (opsOf (now (words .entry)) (now (rec .entry)) (record { inside = inside; at = at; n = n })) ⌝ }
 {
     let list = Ops { inside, at, n };
@@ -393,18 +394,6 @@ fn valid(words: &[u32], rec: &[u8], inside: bool, at: usize, n: u32) -> bool
         i += 1;
     }
     accept(p)
-}
-
-// The same of an op list.
-pub fn measure_ops(words: &[u32], rec: &[u8], list: Ops) -> Measured
-    ensures { λ r. ⌜ r ≡ measuredOps (opsOf (now (words .entry)) (now (rec .entry)) list) ⌝ }
-{
-    if !valid(words, rec, list.inside, list.at, list.n) {
-        return Measured::Bad;
-    }
-    let n = oplist::count(words, rec, list);
-    let total = lengths::sums(words, rec, list);
-    Measured::Ops(n as u64, lengths::saturated(total.refs))
 }
 
 // Writes the ops of a text, up to its end or its first wrong byte, as far as there is room.

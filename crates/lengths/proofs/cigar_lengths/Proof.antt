@@ -2,7 +2,6 @@ use mir.Syntax.{w32}
 use mir.Val.{toZ, ofZ}
 use Rattle.lengths.specs.Lengths.{asInt, bothLengths, withQuery}
 use lib.ListN.{length}
-use Rattle.sam.specs.Record.{opsEnd}
 use Rattle.sam.specs.Op.{refLen, queryLen}
 use Rattle.lists.specs.Lists.{sumOf}
 use borrow.Author.Tests.{lt-ltb, le-ltb}

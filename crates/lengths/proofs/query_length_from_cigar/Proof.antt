@@ -1,7 +1,5 @@
 use Rattle.answers.specs.declared.Count.the-variants.{Number}
 use Rattle.lengths.specs.Lengths.{queryLength}
-use lib.ListN.{length}
-use Rattle.sam.specs.Record.{opsEnd}
 use Rattle.sam.specs.Op.{queryLen}
 use Rattle.lists.specs.Lists.{sumOf}
 use borrow.Author.Tests.{lt-ltb, le-ltb}

@@ -1,6 +1,4 @@
 use Rattle.lengths.specs.Lengths.{asInt, refLength}
-use lib.ListN.{length}
-use Rattle.sam.specs.Record.{opsEnd}
 use Rattle.sam.specs.Op.{refLen}
 use Rattle.lists.specs.Lists.{sumOf}
 use borrow.Author.Tests.{lt-ltb, le-ltb}

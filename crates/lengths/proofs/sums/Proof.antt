@@ -3,7 +3,7 @@ use Rattle.oplist.specs.Ops.{opsOf}
 use Rattle.sam.specs.Op.{refLen, queryLen}
 use Rattle.lists.proofs.Walks.{sum-step, sum-done}
 use Rattle.lists.specs.Lists.{sumOf}
-use lib.ListN.{length, drop}
+use lib.ListN.{drop}
 use Prim.Native.Nat.{_+_, _-_, _*_, _≤_}
 use mathlib.Core.Path.{_≡_}
 use native.Mathlib.Omega.{arith}

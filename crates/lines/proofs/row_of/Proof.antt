@@ -14,8 +14,6 @@ use Rattle.sam.specs.Record.{recordOps, opsEnd}
 use Rattle.oplist.proofs.OpsLaws.{lies, overruns}
 use Rattle.lengths.specs.Lengths.{checkedRefLength}
 use Rattle.answers.specs.declared.Int.the-variants as Int
-use Rattle.answers.specs.declared.Nat.the-variants as Nat
-use Rattle.ends.specs.declared.Place1.the-variants as Place1
 use Rattle.lines.specs.Inner.{rowOf}
 use Rattle.lines.proofs.LineLaws.{refs-overrun, refs-over, refs-are, figures-are}
 use borrow.Author.Needs.{needs}

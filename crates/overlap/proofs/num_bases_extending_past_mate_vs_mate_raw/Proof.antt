@@ -1,4 +1,4 @@
--- One test after another, and then the overhang where the mate lies.
+-- One test after another, and then the overhang by the pair test.
 use mathlib.Core.Path.{_≡_, _∙_}
 use denote.Ref.{now}
 use mir.Syntax.{w32}
@@ -21,27 +21,22 @@ primary-fr-requires c κs = search needs
 i32-at-requires : tie.Need-i32-at-requires
 i32-at-requires c κs = search needs
 
-placed-pair-requires : tie.Need-placed-pair-requires
-placed-pair-requires c κs = search needs
-
-slice-aggregate-overhang-at : tie.Need-slice-aggregate-overhang-at
-slice-aggregate-overhang-at c = search needs
+slice-aggregate-pair-overhang : tie.Need-slice-aggregate-pair-overhang
+slice-aggregate-pair-overhang c = search needs
 
 of-record-requires : tie.Need-of-record-requires
 of-record-requires c κs = search needs
 
-overhang-at-requires : tie.Need-overhang-at-requires
-overhang-at-requires c κs = search needs
+pair-overhang-requires : tie.Need-pair-overhang-requires
+pair-overhang-requires c κs = search needs
 
 returns-3 : tie.Need-returns-3
-returns-3 c =
-    let k = c .before .before .before .before .before in
+returns-3 c = let k = c .before .before .before .before in
     let s = k .before .before .before .before .before in
-    let i = c .before .before .before .before .i32-at .result in
+    let i = c .before .before .before .i32-at .result in
     let e : toZ w32 (ofZ w32 i) ≡ i = search needs in
-    record-is (now (s .args .rec)) (now (s .args .mate)) (k .before .before .if1 .left) (k .before .if2 .left)
-    (k .primary-fr .ensures) (e ∙ c .before .before .before .before .i32-at .ensures) (c .before .before .before .placed-pair .ensures)
-    (c .before .of-record .ensures .0 []) (c .overhang-at .ensures)
+    record-is (now (s .args .rec)) (now (s .args .mate)) (k .before .before .if1 .left) (k .before .if2 .left) (k .primary-fr .ensures) (e ∙ c .before .before .before .i32-at .ensures)
+    (c .before .of-record .ensures .0 []) (c .pair-overhang .ensures)
 
 pub num-bases-extending-past-mate-vs-mate-raw-spec : {M : Type 1} → statement M
 num-bases-extending-past-mate-vs-mate-raw-spec =
@@ -51,8 +46,7 @@ num-bases-extending-past-mate-vs-mate-raw-spec =
     returns-2
     primary-fr-requires
     i32-at-requires
-    placed-pair-requires
-    slice-aggregate-overhang-at
+    slice-aggregate-pair-overhang
     of-record-requires
-    overhang-at-requires
+    pair-overhang-requires
     returns-3)

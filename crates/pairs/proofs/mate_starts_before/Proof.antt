@@ -1,9 +1,11 @@
--- The record's own fields.
-use mathlib.Core.Path.{_≡_, _∙_}
+-- The record's own fields, and the length that it is asked for.
+use mathlib.Core.Path.{_≡_, sym, ap, _∙_}
 use denote.Ref.{now}
 use mir.Syntax.{w32}
 use mir.Val.{toZ, ofZ}
-use Rattle.pairs.specs.Pairs.{mateStartsBefore}
+use Rattle.answers.specs.declared.Flag.the-variants as Flag
+use Rattle.sam.specs.Record.{posOf, matePosOf}
+use Rattle.pairs.specs.Pairs.{startsBeforeEnd, mateStartsBefore}
 use borrow.Author.Needs.{needs}
 use Rattle.pairs.proofs.mate_starts_before.Statement.{statement}
 use Rattle.pairs.proofs.mate_starts_before.Tie as tie
@@ -14,23 +16,39 @@ i32-at-requires c κs = search needs
 i32-at-requires-2 : tie.Need-i32-at-requires-2
 i32-at-requires-2 c κs = search needs
 
-reference-length-from-raw-bam-requires : tie.Need-reference-length-from-raw-bam-requires
-reference-length-from-raw-bam-requires c κs = search needs
+asked-length-requires : tie.Need-asked-length-requires
+asked-length-requires c κs = search needs
+
+enum-known-n : tie.Need-enum-known-n
+enum-known-n c = search needs
 
 starts-before-end-requires : tie.Need-starts-before-end-requires
 starts-before-end-requires c κs = search needs
 
+enum-known-why : tie.Need-enum-known-why
+enum-known-why c = search needs
+
 returns : tie.Need-returns
 unfolding mateStartsBefore
 returns c =
-    let b = now (c .before .before .before .before .before .args .bam) in
-    let m = c .before .before .before .i32-at .result in
-    let p = c .before .before .i32-at2 .result in
-    let n = c .before .reference-length-from-raw-bam .result in
+    let k = c .before .before in
+    let a = k .before .before in
+    let b = now (a .before .before .before .before .args .bam) in
+    let m = a .before .before .i32-at .result in
+    let p = a .before .i32-at2 .result in
+    let n = k .n .given .0 .0 in
     let e : toZ w32 (ofZ w32 m) ≡ m = search needs in
     let f : toZ w32 (ofZ w32 p) ≡ p = search needs in
     let g : toZ w32 (ofZ w32 n) ≡ n = search needs in
-    simp (e ∙ c .before .before .before .i32-at .ensures, f ∙ c .before .before .i32-at2 .ensures, g ∙ c .before .reference-length-from-raw-bam .ensures) at (c .starts-before-end .ensures)
+    ap Flag.Is (simp (e ∙ a .before .before .i32-at .ensures, f ∙ a .before .i32-at2 .ensures, g) at (c .starts-before-end .ensures))
+    ∙ ap (startsBeforeEnd (matePosOf b) (posOf b)) (sym (k .n .given .1) ∙ a .asked-length .ensures)
+
+returns-2 : tie.Need-returns-2
+unfolding mateStartsBefore
+returns-2 c =
+    let a = c .before .before .before in
+    let b = now (a .before .before .before .before .args .bam) in
+    ap (startsBeforeEnd (matePosOf b) (posOf b)) (sym (c .before .why .given .1) ∙ a .asked-length .ensures)
 
 pub mate-starts-before-spec : {M : Type 1} → statement M
 mate-starts-before-spec =
@@ -38,6 +56,9 @@ mate-starts-before-spec =
     (tie.spec
     i32-at-requires
     i32-at-requires-2
-    reference-length-from-raw-bam-requires
+    asked-length-requires
+    enum-known-n
     starts-before-end-requires
-    returns)
+    enum-known-why
+    returns
+    returns-2)

@@ -5,8 +5,10 @@ use mathlib.Core.Bool.{true, false}
 use native.Mathlib.Omega.{arith}
 use borrow.Author.Tests.{not-true, not-false}
 use lib.ListN.{length, getD}
-use Rattle.strict_text.specs.Text.{isDigit, Next, Next.Letter}
-use Rattle.strict_text.proofs.TextLaws.{digit-bounds, next-digit, next-over, next-letter, next-zero, next-unknown, Reading, reading, read-bad, read-digit, read-letter, read-end}
+use Rattle.sam.specs.Text.{isDigit}
+use Rattle.strict_text.specs.Text.{Next, Next.Letter}
+use Rattle.sam.proofs.TextLaws.{a-digit}
+use Rattle.strict_text.proofs.TextLaws.{next-digit, next-over, next-letter, next-zero, next-unknown, Reading, reading, read-bad, read-digit, read-letter, read-end}
 use Rattle.strict_text.proofs.long_token.Statement.{statement}
 use Rattle.strict_text.proofs.long_token.Tie as tie
 
@@ -76,17 +78,17 @@ wide-requires : tie.Need-wide-requires Inv-loop μ-loop
 wide-requires c κs = tt
 
 add-num : tie.Need-add-num Inv-loop μ-loop
-add-num c = omega (arith, c .wide .ensures, digit-bounds (here (c .before .before .before .before .before)) (digit (c .before)))
+add-num c = omega (arith, c .wide .ensures, a-digit (here (c .before .before .before .before .before)) (digit (c .before)))
 
 sub-num : tie.Need-sub-num Inv-loop μ-loop
-sub-num c = omega (arith, c .wide .ensures, digit-bounds (here (c .before .before .before .before .before)) (digit (c .before)))
+sub-num c = omega (arith, c .wide .ensures, a-digit (here (c .before .before .before .before .before)) (digit (c .before)))
 
 returns-4 : tie.Need-returns-4 Inv-loop μ-loop
 returns-4 c =
     let w = c .before in
     let l = w .before .before .before .before .before in
     let a = l .before .before .args in
-    let d = digit-bounds (here l) (digit (w .before)) in
+    let d = a-digit (here l) (digit (w .before)) in
     read-bad (a .text .now) (a .at) (l .loop .i) (l .loop .num) (l .loop .inv .3) (w .before .before .before .before .loop-test .taken)
     (next-over (l .loop .num) (here l) (digit (w .before)) (omega (arith, w .wide .ensures)))
 
@@ -101,7 +103,7 @@ loop-again c =
     let w = c .before in
     let l = w .before .before .before .before .before in
     let a = l .before .before .args in
-    let d = digit-bounds (here l) (digit (w .before)) in
+    let d = a-digit (here l) (digit (w .before)) in
     let e : l .loop .num * 10 + (here l - 48) ≡ l .loop .num * 10 + w .wide .result - 48 = omega (arith, w .wide .ensures) in
     let m : l .loop .num * 10 + (here l - 48) ≤ 268435455 = omega arith in (
       omega arith,

@@ -6,8 +6,9 @@ use mathlib.Core.Logic.{⊎-elim}
 use native.Mathlib.Omega.{arith}
 use borrow.Author.Needs.{needs}
 use borrow.Author.Tests.{not-false}
-use Rattle.strict_text.specs.Text.{isDigit, letterCode}
-use Rattle.strict_text.proofs.TextLaws.{digit-bounds}
+use Rattle.sam.specs.Text.{isDigit}
+use Rattle.strict_text.specs.Text.{letterCode}
+use Rattle.sam.proofs.TextLaws.{a-digit}
 use Rattle.strict_text.proofs.LetterLaws.{short-op}
 use Rattle.strict_text.proofs.short_token.Statement.{statement}
 use Rattle.strict_text.proofs.short_token.Tie as tie
@@ -103,24 +104,24 @@ add-c c =
 sub-len : tie.Need-sub-len
 sub-len c =
     let w = c .before .before in
-    let a = digit-bounds (w .before .before .wide .result) (first (w .before .before)) in
-    let b = digit-bounds (w .before .wide2 .result) (second (w .before) ∙ c .before .if3 .taken) in
-    let d = digit-bounds (w .wide3 .result) (third w ∙ c .if4 .taken) in
+    let a = a-digit (w .before .before .wide .result) (first (w .before .before)) in
+    let b = a-digit (w .before .wide2 .result) (second (w .before) ∙ c .before .if3 .taken) in
+    let d = a-digit (w .wide3 .result) (third w ∙ c .if4 .taken) in
     let h : 5328 ≤ (w .before .before .wide .result * 10 + w .before .wide2 .result) * 10 + w .wide3 .result = omega arith in
     h
 
 sub-len-2 : tie.Need-sub-len-2
 sub-len-2 c =
     let w = c .before .before in
-    let a = digit-bounds (w .before .before .wide .result) (first (w .before .before)) in
-    let b = digit-bounds (w .before .wide2 .result) (second (w .before) ∙ c .before .if3 .taken) in
+    let a = a-digit (w .before .before .wide .result) (first (w .before .before)) in
+    let b = a-digit (w .before .wide2 .result) (second (w .before) ∙ c .before .if3 .taken) in
     let h : 528 ≤ w .before .before .wide .result * 10 + w .before .wide2 .result = omega arith in
     h
 
 sub-len-3 : tie.Need-sub-len-3
 sub-len-3 c =
     let w = c .before in
-    let a = digit-bounds (w .before .before .wide .result) (first (w .before .before)) in
+    let a = a-digit (w .before .before .wide .result) (first (w .before .before)) in
     let h : 48 ≤ w .before .before .wide .result = omega arith in
     h
 

@@ -3,12 +3,12 @@ use Prim.Native.Nat.{ℕ, _+_, _-_, _≤_}
 use mathlib.Core.Path.{_≡_, sym, ap, _∙_}
 use native.Mathlib.Omega.{arith}
 use borrow.Author.Needs.{needs}
-use lib.ListN.{length, drop}
+use lib.ListN.{drop}
 use mathlib.Core.List.{List, _∷_}
 use Rattle.lists.proofs.Walks.{step, done}
 use Rattle.oplist.specs.Ops.{opsOf}
 use Rattle.strict_text.specs.Valid.{validMapped}
-use Rattle.strict_text.specs.Pass.{stepOf, acceptOf}
+use Rattle.strict_text.specs.Pass.{acceptOf}
 use Rattle.strict_text.specs.declared.Place.{Place}
 use Rattle.strict_text.proofs.ClipLaws.{run, valid-run, short-class, unknown-run, long-run}
 use Rattle.strict_text.proofs.PassLaws.{wrong-accept}

@@ -2,10 +2,10 @@
 use mathlib.Core.Path.{ap}
 use borrow.Author.Tests.{lt-ltb, le-ltb}
 use Rattle.answers.specs.declared.Flag.the-variants.{Is}
-use Rattle.overlap.specs.Overlap.{oppositePair}
+use Rattle.pairs.specs.Pairs.{oppositePair}
 use borrow.Author.Needs.{needs}
-use Rattle.overlap.proofs.is_mapped_opposite_strand_pair_raw.Statement.{statement}
-use Rattle.overlap.proofs.is_mapped_opposite_strand_pair_raw.Tie as tie
+use Rattle.pairs.proofs.is_mapped_opposite_strand_pair_raw.Statement.{statement}
+use Rattle.pairs.proofs.is_mapped_opposite_strand_pair_raw.Tie as tie
 
 returns : tie.Need-returns
 unfolding oppositePair

@@ -1,12 +1,10 @@
 -- The two tests, and then the rule.
-use mathlib.Core.Path.{ap}
 use borrow.Author.Tests.{lt-ltb, le-ltb}
 use lib.ListN.{length}
-use Rattle.answers.specs.declared.Flag.the-variants.{Is}
-use Rattle.overlap.specs.Overlap.{primaryFrPair}
+use Rattle.pairs.specs.Pairs.{primaryFrPair}
 use borrow.Author.Needs.{needs}
-use Rattle.overlap.proofs.is_primary_fr_pair_raw.Statement.{statement}
-use Rattle.overlap.proofs.is_primary_fr_pair_raw.Tie as tie
+use Rattle.pairs.proofs.is_primary_fr_pair_raw.Statement.{statement}
+use Rattle.pairs.proofs.is_primary_fr_pair_raw.Tie as tie
 
 returns : tie.Need-returns
 unfolding primaryFrPair
@@ -21,7 +19,7 @@ primary-fr-requires c κs = search needs
 
 returns-3 : tie.Need-returns-3
 unfolding primaryFrPair
-returns-3 c = simp (le-ltb (length (c .before .before .before .before .before .args .a .now)) 32 (c .before .before .if1 .left), le-ltb (length (c .before .before .before .before .before .args .b .now)) 32 (c .before .if2 .left)) (ap Is (c .primary-fr .ensures))
+returns-3 c = simp (le-ltb (length (c .before .before .before .before .before .args .a .now)) 32 (c .before .before .if1 .left), le-ltb (length (c .before .before .before .before .before .args .b .now)) 32 (c .before .if2 .left)) (c .primary-fr .ensures)
 
 pub is-primary-fr-pair-raw-spec : {M : Type 1} → statement M
 is-primary-fr-pair-raw-spec = tie.close (tie.spec returns returns-2 primary-fr-requires returns-3)

@@ -1,11 +1,9 @@
 -- The one test, and then the rule.
-use mathlib.Core.Path.{ap}
 use borrow.Author.Tests.{lt-ltb, le-ltb}
-use Rattle.answers.specs.declared.Flag.the-variants.{Is}
-use Rattle.overlap.specs.Overlap.{frPair}
+use Rattle.pairs.specs.Pairs.{frPair}
 use borrow.Author.Needs.{needs}
-use Rattle.overlap.proofs.is_fr_pair_raw.Statement.{statement}
-use Rattle.overlap.proofs.is_fr_pair_raw.Tie as tie
+use Rattle.pairs.proofs.is_fr_pair_raw.Statement.{statement}
+use Rattle.pairs.proofs.is_fr_pair_raw.Tie as tie
 
 returns : tie.Need-returns
 unfolding frPair
@@ -16,7 +14,7 @@ fr-requires c κs = search needs
 
 returns-2 : tie.Need-returns-2
 unfolding frPair
-returns-2 c = simp (le-ltb _ _ (c .before .if1 .left)) (ap Is (c .fr .ensures))
+returns-2 c = simp (le-ltb _ _ (c .before .if1 .left)) (c .fr .ensures)
 
 pub is-fr-pair-raw-spec : {M : Type 1} → statement M
 is-fr-pair-raw-spec = tie.close (tie.spec returns fr-requires returns-2)
