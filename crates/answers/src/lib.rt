@@ -46,19 +46,6 @@ pub struct Pos0(pub i32);
 // A position as answers have it, counted from 1.
 pub struct Pos1(pub i32);
 
-// What stands over a reference base: a query base; none, as the read lacks it; or there is no such reference base.
-pub enum Over {
-    Base,
-    Gap,
-    Off,
-}
-
-// That, and the query bases in the columns before it (in all columns, if there is no such reference base).
-pub struct Spot {
-    pub before: u64,
-    pub over: Over,
-}
-
 // Document 01's number of a refusal.
 pub fn number(why: Refusal) -> u32
     ensures { λ r. ⌜ r ≡ numberOf why ⌝ }

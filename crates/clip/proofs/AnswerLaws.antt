@@ -1,6 +1,7 @@
 -- Which case of the answer a call's tests lead to, and what a plan makes of it.
 use mathlib.Core.Path.{_≡_, refl, ap, _∙_}
 use mathlib.Core.Bool.{Bool, true, false}
+use mathlib.Core.Logic.{inl, inr}
 use mathlib.Core.List.{List, [], _∷_, _++_, reverse}
 use Prim.Native.Nat.{ℕ, _+_, _-_, _≤_, _<_}
 use native.Mathlib.Omega.{arith}
@@ -11,15 +12,21 @@ use Rattle.lists.specs.Lists.{facing, splice, sumOf}
 use Rattle.lists.proofs.ListLaws.{length-facing}
 use Rattle.sam.specs.Op.{lenOf}
 use Rattle.answers.specs.Settled.{Settled, keeps}
+use Rattle.answers.specs.declared.Refusal.{Refusal}
 use Rattle.answers.specs.declared.Refusal.the-variants.{TooLong, NoRoom}
 use Rattle.answers.proofs.Unique.{settled, outcome}
 use Rattle.clip.specs.Clipping.{Cut, clip}
-use Rattle.clip.specs.Plan.{PlanIs}
-use Rattle.clip.specs.Answer.{clippedOps, clippedCount, clippedInto, written}
+use Rattle.clip.specs.Plan.{PlanIs, Unplanned}
+use Rattle.clip.specs.Answer.{clippedOps, clippedCount, clippedInto, clippedUpTo, written}
 use Rattle.clip.specs.declared.Clipped.{Clipped}
 use Rattle.clip.specs.declared.Clipped.the-variants.{Done, Refused}
 
 module _ (xs : List ℕ) (a : ℕ) (b : Bool) (d : List ℕ) where
+  -- of a list that is within the limit
+  pub within : {limit : ℕ} → length xs ≤ limit → clippedUpTo limit xs a b d ≡ clippedInto xs a b d
+  unfolding clippedUpTo
+  within {limit} h = simp (le-ltb limit (length xs) h)
+
   pub too-long : 268435455 < sumOf lenOf xs → clippedInto xs a b d ≡ keeps (Refused TooLong) d
   unfolding clippedInto
   too-long h = simp (lt-ltb 268435455 (sumOf lenOf xs) h)
@@ -65,6 +72,17 @@ module _ (xs : List ℕ) (b : Bool) {a skip heads first second lost : ℕ} (P : 
     unfolding clippedOps clippedCount
     done-end e w = done (reverse (take heads (first ∷ (second ∷ [])) ++ drop skip (reverse xs))) 0 (rw e (ap reverse (rw e at ops-are))) (rw e refl) w
 
--- what holds of an op list holds of the list that it stands for
-pub over : (a : ℕ) (b : Bool) (d : List ℕ) {xs ys m : List ℕ} {r : Clipped} → xs ≡ ys → Settled (clippedInto xs a b d) r m → Settled (clippedInto ys a b d) r m
-over a b d e s = rw e at s
+-- a refusal that comes before the plan
+pub unplanned : (limit : ℕ) (xs : List ℕ) (a : ℕ) (b : Bool) (d : List ℕ) {r : Refusal} → Unplanned limit xs r → clippedUpTo limit xs a b d ≡ keeps (Refused r) d
+unfolding clippedUpTo
+unplanned limit xs a b d (inl (h, e)) = rw e (simp (lt-ltb limit (length xs) h))
+unplanned limit xs a b d (inr (h, l, e)) = rw e (simp (le-ltb limit (length xs) h) (too-long xs a b d l))
+
+-- what holds of an op list and an end holds of the list that it stands for and of the end that was chosen
+module _ (a : ℕ) (b c : Bool) (d : List ℕ) {xs ys m : List ℕ} {r : Clipped} (e : b ≡ c) (f : xs ≡ ys) where
+  pub over : (limit : ℕ) → Settled (clippedUpTo limit xs a c d) r m → Settled (clippedUpTo limit ys a b d) r m
+  over limit s = rw e (rw f at s)
+
+  -- and with a limit of its own number of ops, no limit is left
+  pub over-own : (n : ℕ) → n ≡ length xs → Settled (clippedUpTo n xs a c d) r m → Settled (clippedInto ys a b d) r m
+  over-own n h s = rw e (rw f at (rw (within xs a c d {limit = n} (omega arith)) at s))

@@ -1,30 +1,10 @@
--- What the tables of codes say of each other: a test that antt computes over the 16 codes, carried to each.
-use mathlib.Core.Path.{_≡_, refl, ap}
+-- An op reads no more than its length, and a D nothing.
+use mathlib.Core.Path.{_≡_, ap}
 use mathlib.Core.Bool.{Bool, true, false, cond}
-use Prim.Native.Nat.{ℕ, _≤_, _<_}
+use Prim.Native.Nat.{ℕ, _≤_}
 use native.Mathlib.Omega.{arith}
-use Rattle.lists.proofs.Tables.{below-same}
 use Rattle.sam.specs.Op.{lenOf, codeOf}
-use Rattle.ops.specs.Ops.{isRead, readLen, isClip}
-use Rattle.clip.specs.Clipping.{isHard, isSoft}
-use Rattle.clip.specs.Plan.{inMask}
-
-pub code-small : (o : ℕ) → codeOf o < 16
-code-small o = omega arith
-
--- ---- the masks
-
-pub in-clips : (o : ℕ) → inMask 48 (codeOf o) ≡ isClip (codeOf o)
-unfolding isClip
-in-clips o = below-same (inMask 48) isClip 16 (codeOf o) refl (code-small o)
-
-pub in-hard : (o : ℕ) → inMask 32 (codeOf o) ≡ isHard (codeOf o)
-in-hard o = below-same (inMask 32) isHard 16 (codeOf o) refl (code-small o)
-
-pub in-soft : (o : ℕ) → inMask 16 (codeOf o) ≡ isSoft (codeOf o)
-in-soft o = below-same (inMask 16) isSoft 16 (codeOf o) refl (code-small o)
-
--- ---- read bases
+use Rattle.ops.specs.Ops.{isRead, readLen}
 
 pub read-le : (o : ℕ) → readLen o ≤ lenOf o
 unfolding readLen

@@ -11,60 +11,13 @@ use lib.Dec.{eqb, leb}
 use borrow.Author.Tests.{le-leb, lt-leb, leb-true, leb-false, eq-eqb, ne-eqb, eqb-true, eqb-false}
 use Rattle.lists.specs.Lists.{sumOf}
 use Rattle.sam.specs.Op.{lenOf, codeOf, opOf, refLen}
-use Rattle.ops.specs.Ops.{readLen, isClip}
-use Rattle.clip.specs.Clipping.{isHard, isSoft, runLen, afterRun, Taken, more, goes, ends, taking, Cut, softOf, upgraded, cutInto, hardLen, softLen, inside, clipLen, clip}
-use Rattle.clip.specs.Plan.{inMask, takenOf, cutOf, RunIs, TakingIs}
-use Rattle.clip.proofs.CodeLaws.{in-clips, in-hard, in-soft, read-le, read-D}
-
--- ---- runs
-
-module _ (p : ℕ → Bool) (o : ℕ) (xs : List ℕ) where
-  pub len-in : p (codeOf o) ≡ true → runLen p (o ∷ xs) ≡ lenOf o + runLen p xs
-  unfolding runLen
-  len-in e = simp e
-
-  pub rest-in : p (codeOf o) ≡ true → afterRun p (o ∷ xs) ≡ afterRun p xs
-  unfolding afterRun
-  rest-in e = simp e
-
-  pub len-out : p (codeOf o) ≡ false → runLen p (o ∷ xs) ≡ 0
-  unfolding runLen
-  len-out e = simp e
-
-  pub rest-out : p (codeOf o) ≡ false → afterRun p (o ∷ xs) ≡ o ∷ xs
-  unfolding afterRun
-  rest-out e = simp e
-
-module _ (p : ℕ → Bool) where
-  pub len-nil : runLen p [] ≡ 0
-  unfolding runLen
-  len-nil = refl
-
-  pub rest-nil : afterRun p [] ≡ []
-  unfolding afterRun
-  rest-nil = refl
-
-  pub run-total : (xs : List ℕ) → runLen p xs + sumOf lenOf (afterRun p xs) ≡ sumOf lenOf xs
-  unfolding runLen afterRun sumOf
-  run-total [] = refl
-  run-total (o ∷ xs) = go (p (codeOf o)) (run-total xs)
-    where
-      go : (b : Bool) → runLen p xs + sumOf lenOf (afterRun p xs) ≡ sumOf lenOf xs
-          → cond b (lenOf o + runLen p xs) 0 + sumOf lenOf (cond b (afterRun p xs) (o ∷ xs)) ≡ lenOf o + sumOf lenOf xs
-      go true e = omega arith
-      go false e = omega arith
-
--- two tests that agree on the codes make the same run
-module _ (p q : ℕ → Bool) (same : (o : ℕ) → p (codeOf o) ≡ q (codeOf o)) where
-  len-same : (xs : List ℕ) → runLen p xs ≡ runLen q xs
-  unfolding runLen
-  len-same [] = refl
-  len-same (o ∷ xs) = rw (same o, len-same xs) refl
-
-  rest-same : (xs : List ℕ) → afterRun p xs ≡ afterRun q xs
-  unfolding afterRun
-  rest-same [] = refl
-  rest-same (o ∷ xs) = rw (same o, rest-same xs) refl
+use Rattle.ops.specs.Ops.{readLen}
+use Rattle.clip_runs.specs.Clips.{leadingClips}
+use Rattle.clip_runs.specs.Walked.{OuterIs}
+use Rattle.clip_runs.proofs.RunLaws.{outer-total}
+use Rattle.clip.specs.Clipping.{Taken, more, goes, ends, taking, Cut, softOf, upgraded, cutInto, clip}
+use Rattle.clip.specs.Plan.{takenOf, cutOf, TakingIs}
+use Rattle.clip.proofs.CodeLaws.{read-le, read-D}
 
 -- ---- taking
 
@@ -184,40 +137,18 @@ pub clip-empty : (xs : List ℕ) (a : ℕ) → (a ≡ 0 → ⊥) → length xs �
 unfolding clip
 clip-empty xs a n z = simp (ne-eqb a 0 n, eq-eqb (length xs) 0 z)
 
-module _ {xs : List ℕ} {e en h hn s sn : ℕ} (E : RunIs xs 0 (inMask 48) e en) (H : RunIs xs 0 (inMask 32) h hn) (S : RunIs xs hn (inMask 16) s sn) where
-  after-hard : drop hn xs ≡ afterRun isHard xs
-  after-hard = H .rest-is ∙ rest-same (inMask 32) isHard in-hard xs
-
-  soft-is : s ≡ softLen xs
-  unfolding softLen
-  soft-is = S .sum-is ∙ len-same (inMask 16) isSoft in-soft (drop hn xs) ∙ ap (runLen isSoft) after-hard
-
-  inside-is : drop sn xs ≡ inside xs
-  unfolding inside
-  inside-is = S .rest-is ∙ rest-same (inMask 16) isSoft in-soft (drop hn xs) ∙ ap (afterRun isSoft) after-hard
-
-  hard-is : h ≡ hardLen xs
-  unfolding hardLen
-  hard-is = H .sum-is ∙ len-same (inMask 32) isHard in-hard xs
-
-  clips-are : e ≡ clipLen xs
-  unfolding clipLen
-  clips-are = E .sum-is ∙ len-same (inMask 48) isClip in-clips xs
-
-  pub clips-fit : h + s + sumOf lenOf (drop sn xs) ≤ sumOf lenOf xs
-  clips-fit =
-      let p : h + sumOf lenOf (drop hn xs) ≡ sumOf lenOf xs = cc (run-total (inMask 32) xs, H .sum-is, H .rest-is) in
-      let q : s + sumOf lenOf (drop sn xs) ≡ sumOf lenOf (drop hn xs) = cc (run-total (inMask 16) (drop hn xs), S .sum-is, S .rest-is) in
-      omega arith
+module _ {xs : List ℕ} {e h s next : ℕ} (E : e ≡ leadingClips xs) (O : OuterIs xs h s next) where
+  pub outer-fits : h + s + sumOf lenOf (drop next xs) ≡ sumOf lenOf xs
+  outer-fits = omega (arith, O .hard-is, O .soft-is, ap (sumOf lenOf) (O .rest-is), outer-total xs)
 
   module _ (a : ℕ) (some : a ≡ 0 → ⊥) (any : length xs ≡ 0 → ⊥) where
-    pub clip-upgrade : a ≤ e → upgraded h s a (drop sn xs) ≡ clip xs a
+    pub clip-upgrade : a ≤ e → upgraded h s a (drop next xs) ≡ clip xs a
     unfolding clip
     clip-upgrade k =
-        simp (ne-eqb a 0 some, ne-eqb (length xs) 0 any, ← clips-are, le-leb a e k, ← hard-is, ← soft-is, ← inside-is)
+        simp (ne-eqb a 0 some, ne-eqb (length xs) 0 any, ← E, le-leb a e k, ← O .hard-is, ← O .soft-is, ← O .rest-is)
 
-    pub clip-cut : {next bases lost cut rest : ℕ} (first : ℕ) → e < a → TakingIs xs sn (a - e) next bases lost cut rest → first ≡ opOf (h + s + bases) 5
-        → cutOf xs next (1 + cut) first rest lost ≡ clip xs a
+    pub clip-cut : {end bases lost cut rest : ℕ} (first : ℕ) → e < a → TakingIs xs next (a - e) end bases lost cut rest → first ≡ opOf (h + s + bases) 5
+        → cutOf xs end (1 + cut) first rest lost ≡ clip xs a
     unfolding clip cutInto
     clip-cut first k T f =
-        simp (ne-eqb a 0 some, ne-eqb (length xs) 0 any, ← clips-are, lt-leb a e k, ← hard-is, ← soft-is, ← inside-is, ← T .taken-is, one-add, f)
+        simp (ne-eqb a 0 some, ne-eqb (length xs) 0 any, ← E, lt-leb a e k, ← O .hard-is, ← O .soft-is, ← O .rest-is, ← T .taken-is, one-add, f)

@@ -1,43 +1,12 @@
--- Document 01, "Clipping": the rule, on the list as seen from the chosen end.
+-- Document 01, "Clipping": the rule, on the list as seen from the chosen end. E, h, s and the ops inside the two runs are of crate clip_runs.
 use Prim.Native.Nat.{ℕ, _+_, _-_, min}
 use mathlib.Core.Bool.{Bool, cond}
 use mathlib.Core.List.{List, [], _∷_, _++_}
 use lib.ListN.{length}
 use lib.Dec.{eqb, leb}
 use Rattle.sam.specs.Op.{lenOf, codeOf, opOf, refLen}
-use Rattle.ops.specs.Ops.{readLen, isClip}
-
-abbrev pub isHard : ℕ → Bool
-isHard c = eqb c 5
-
-abbrev pub isSoft : ℕ → Bool
-isSoft c = eqb c 4
-
--- the run that a list begins with, of ops whose codes pass a test: its total
-unfoldable pub runLen : (ℕ → Bool) → List ℕ → ℕ
-runLen p [] = 0
-runLen p (o ∷ xs) = cond (p (codeOf o)) (lenOf o + runLen p xs) 0
-
--- and the ops inside it
-unfoldable pub afterRun : (ℕ → Bool) → List ℕ → List ℕ
-afterRun p [] = []
-afterRun p (o ∷ xs) = cond (p (codeOf o)) (afterRun p xs) (o ∷ xs)
-
--- "E is the total of the run of S and H (any order) at the chosen end;
-unfoldable pub clipLen : List ℕ → ℕ
-clipLen xs = runLen isClip xs
-
--- h its outermost H run;
-unfoldable pub hardLen : List ℕ → ℕ
-hardLen xs = runLen isHard xs
-
--- s the S run next inside."
-unfoldable pub softLen : List ℕ → ℕ
-softLen xs = runLen isSoft (afterRun isHard xs)
-
--- the "ops inside those two runs"
-unfoldable pub inside : List ℕ → List ℕ
-inside xs = afterRun isSoft (afterRun isHard xs)
+use Rattle.ops.specs.Ops.{readLen}
+use Rattle.clip_runs.specs.Clips.{leadingClips, outerHard, nextSoft, inside}
 
 -- what a taking leaves of a list, the read bases taken, and the reference length taken
 pub record Taken : Type 0 where
@@ -91,9 +60,9 @@ cutInto h s t = record { ops = hardOf (h + s + t .bases) ∷ t .left; lost = t .
 -- THE RULE. "Amount 0 or an empty list: unchanged, count 0."
 unfoldable pub clip : List ℕ → ℕ → Cut
 clip xs amount =
-    let E = clipLen xs in
-    let h = hardLen xs in
-    let s = softLen xs in
+    let E = leadingClips xs in
+    let h = outerHard xs in
+    let s = nextSoft xs in
     let n = amount - E in
     cond (eqb amount 0) (record { ops = xs; lost = 0 })
     (cond (eqb (length xs) 0) (record { ops = xs; lost = 0 })

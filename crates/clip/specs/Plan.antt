@@ -1,21 +1,17 @@
 -- What the planning functions hand on, as it stands to the rule of document 01, "Clipping" (`Clipping.antt`): places and numbers for lists.
-use Prim.Native.Nat.{ℕ, _/_, _%_, _^_, _≤_}
+use Prim.Native.Nat.{ℕ, _≤_, _<_}
 use mathlib.Core.Path.{_≡_}
 use mathlib.Core.Bool.{Bool}
+use mathlib.Core.Logic.{_⊎_}
 use mathlib.Core.List.{List, [], _∷_, _++_}
 use lib.ListN.{length, take, drop}
-use lib.Dec.{eqb}
-use Rattle.clip.specs.Clipping.{Taken, Cut, runLen, afterRun, taking, clip}
-
--- bit c of a mask is code c's
-abbrev pub inMask : ℕ → ℕ → Bool
-inMask mask c = eqb (mask / 2 ^ c % 2) 1
-
--- a run from place `from` on: its total is sum, and it ends before place next
-pub record RunIs (xs : List ℕ) (from : ℕ) (p : ℕ → Bool) (sum next : ℕ) : Type 0 where
-  pub sum-is : sum ≡ runLen p (drop from xs)
-  pub rest-is : drop next xs ≡ afterRun p (drop from xs)
-  pub next-in : next ≤ length xs
+use Rattle.lists.specs.Lists.{facing, sumOf}
+use Rattle.sam.specs.Op.{lenOf}
+use Rattle.answers.specs.declared.Refusal.{Refusal}
+use Rattle.answers.specs.declared.Refusal.the-variants.{TooManyOps, TooLong}
+use Rattle.clip.specs.declared.plan.Planned.{Planned}
+use Rattle.clip.specs.declared.plan.Planned.the-variants as Planned
+use Rattle.clip.specs.Clipping.{Taken, Cut, taking, clip}
 
 -- what is left of xs: the first `cut` of the one op `rest`, then the ops from place next on
 abbrev pub takenOf : List ℕ → ℕ → ℕ → ℕ → ℕ → ℕ → Taken
@@ -31,8 +27,17 @@ pub record TakingIs (xs : List ℕ) (from n next bases lost cut rest : ℕ) : Ty
 abbrev pub cutOf : List ℕ → ℕ → ℕ → ℕ → ℕ → ℕ → Cut
 cutOf xs skip heads first second lost = record { ops = take heads (first ∷ (second ∷ [])) ++ drop skip xs; lost = lost }
 
--- a plan of a clip
+-- a plan of a clip: what it makes is what the rule makes
 pub record PlanIs (xs : List ℕ) (amount skip heads first second lost : ℕ) : Type 0 where
   pub cut-is : cutOf xs skip heads first second lost ≡ clip xs amount
   pub skip-in : skip ≤ length xs
   pub heads-in : heads ≤ 2
+
+-- what planning answers for a list of at most `limit` ops: 3, then 8, then a plan of the list as seen from the chosen end
+abbrev pub Unplanned : ℕ → List ℕ → Refusal → Type 0
+Unplanned limit xs r = ((limit < length xs) × (r ≡ TooManyOps)) ⊎ ((length xs ≤ limit) × (268435455 < sumOf lenOf xs) × (r ≡ TooLong))
+
+abbrev pub PlannedIs : ℕ → List ℕ → ℕ → Bool → Planned → Type 0
+PlannedIs limit xs amount start (Planned.Made p) =
+    (length xs ≤ limit) × (sumOf lenOf xs ≤ 268435455) × PlanIs (facing start xs) amount (p .skip) (p .heads) (p .first) (p .second) (p .lost)
+PlannedIs limit xs amount start (Planned.Refused r) = Unplanned limit xs r

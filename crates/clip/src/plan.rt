@@ -1,28 +1,17 @@
-// Planning: what a clip takes away and what it puts in its place. Nothing is written.
+// Planning: what a clip takes away and what it puts in its place. Nothing is written; whoever writes or compares a clipped list goes by the plan.
 ghost use mathlib.Core.Path.{_≡_};
 ghost use mathlib.Core.Bool.{false};
 ghost use mathlib.Core.List.{List, _∷_};
-ghost use Prim.Native.Nat.{ℕ, _+_, _-_, _<_, _≤_, _^_};
+ghost use Prim.Native.Nat.{ℕ, _+_, _-_, _*_, _/_, _<_, _≤_, _^_};
+ghost use lib.Dec.{ltb};
 ghost use lib.ListN.{length, drop};
 ghost use Rattle.lists.specs.Lists.{facing, sumOf};
-ghost use Rattle.sam.specs.Op.{lenOf, codeOf, opOf};
+ghost use Rattle.sam.specs.Op.{lenOf, opOf};
 ghost use Rattle.oplist.specs.Ops.{opsOf};
 ghost use Rattle.clip.specs.Clipping.{goes, more, ends, upgraded};
-ghost use Rattle.clip.specs.Plan.{inMask, RunIs, TakingIs, PlanIs, takenOf, cutOf};
+ghost use Rattle.clip.specs.Plan.{TakingIs, PlanIs, PlannedIs, takenOf, cutOf};
+use answers::Refusal;
 use oplist::Ops;
-
-// The codes of clips, as masks: bit c is code c's.
-const SOFT: u32 = 16;
-
-const HARD: u32 = 32;
-
-const CLIPS: u32 = 48;
-
-// A run of clips: its total, and the place after it.
-pub struct Run {
-    pub sum: u64,
-    pub next: usize,
-}
 
 // Read bases taken: `next` is the place of the first op that is left whole, and where `cut` is 1,
 // `rest` is what is left of the op before it.
@@ -44,6 +33,78 @@ pub struct Plan {
     pub lost: u64,
 }
 
+// A plan, or the refusal that comes before it.
+pub enum Planned {
+    Made(Plan),
+    Refused(Refusal),
+}
+
+// The longest total that clipping takes: 28 bits, as one op holds.
+pub const MOST_BASES: u64 = 268435455;
+
+// What a clip does, as seen from the chosen end, to an op list of at most `limit` ops. Refusals 3, 8.
+pub fn plan_clip(
+    words: &[u32],
+    rec: &[u8],
+    list: Ops,
+    limit: usize,
+    amount: u64,
+    start: bool,
+) -> Planned
+    ensures { λ r. ⌜ PlannedIs limit (opsOf (now (words .entry)) (now (rec .entry)) list) amount start r ⌝ }
+{
+    if limit < oplist::count(words, rec, list) {
+        return Planned::Refused(Refusal::TooManyOps);
+    }
+    if is_too_long(words, rec, list) {
+        return Planned::Refused(Refusal::TooLong);
+    }
+    Planned::Made(make_plan(words, rec, list, amount, start))
+}
+
+// Whether the lengths sum to more than clipping takes. The longest length that all ops' bits could make bounds the sum, and costs less to find.
+fn is_too_long(words: &[u32], rec: &[u8], list: Ops) -> bool
+    ensures { λ r. ⌜ r ≡ ltb 268435455 (sumOf lenOf (opsOf (now (words .entry)) (now (rec .entry)) list)) ⌝ }
+{
+    let n = oplist::count(words, rec, list) as u64;
+    let most = ops::length_of(all_bits(words, rec, list));
+    if n * most <= MOST_BASES {
+        return false;
+    }
+    if MOST_BASES < total(words, rec, list) {
+        return true;
+    }
+    false
+}
+
+// The bits that any op has.
+fn all_bits(words: &[u32], rec: &[u8], list: Ops) -> u32
+    ensures { λ r. ⌜ sumOf lenOf (opsOf (now (words .entry)) (now (rec .entry)) list) ≤ length (opsOf (now (words .entry)) (now (rec .entry)) list) * (r / 16) ⌝ }
+{
+    let n = oplist::count(words, rec, list);
+    let mut bits: u32 = 0;
+    let mut i: usize = 0;
+    while i < n {
+        bits = bits | oplist::op_at(words, rec, list, i);
+        i += 1;
+    }
+    bits
+}
+
+// The sum of the lengths of all ops.
+fn total(words: &[u32], rec: &[u8], list: Ops) -> u64
+    ensures { λ r. ⌜ r ≡ sumOf lenOf (opsOf (now (words .entry)) (now (rec .entry)) list) ⌝ }
+{
+    let n = oplist::count(words, rec, list);
+    let mut sum: u64 = 0;
+    let mut i: usize = 0;
+    while i < n {
+        sum += ops::length_of(oplist::op_at(words, rec, list, i));
+        i += 1;
+    }
+    sum
+}
+
 // An op from its code and its length.
 fn encode_op(code: u32, len: u64) -> u32
     requires { ⌜ code < 16 ⌝ }
@@ -51,39 +112,6 @@ fn encode_op(code: u32, len: u64) -> u32
     ensures { λ r. ⌜ r ≡ opOf len code ⌝ }
 {
     (len as u32) * 16 + code
-}
-
-// Whether an op's code is in a mask.
-fn in_mask(mask: u32, op: u32) -> bool
-    ensures { λ r. ⌜ r ≡ inMask mask (codeOf op) ⌝ }
-{
-    (mask >> (op % 16)) % 2 == 1
-}
-
-// The run of ops with codes in a mask, from place `from` on.
-pub(crate) fn run_from(
-    words: &[u32],
-    rec: &[u8],
-    list: Ops,
-    start: bool,
-    from: usize,
-    mask: u32,
-) -> Run
-    requires { ⌜ from ≤ length (opsOf (now words) (now rec) list) ⌝ }
-    ensures { λ r. ⌜ RunIs (facing start (opsOf (now (words .entry)) (now (rec .entry)) list)) from (inMask mask) (r .sum) (r .next) ⌝ }
-{
-    let n = oplist::count(words, rec, list);
-    let mut sum: u64 = 0;
-    let mut i = from;
-    while i < n {
-        let op = oplist::op_from(words, rec, list, start, i);
-        if !in_mask(mask, op) {
-            return Run { sum: sum, next: i };
-        }
-        sum += ops::length_of(op);
-        i += 1;
-    }
-    Run { sum: sum, next: i }
 }
 
 // Whether an op goes whole and the taking goes on, with n bases wanted.
@@ -218,7 +246,7 @@ fn unchanged() -> Plan
     }
 }
 
-// What clipping does, as seen from the chosen end.
+// The plan of a list that is not too long.
 pub(crate) fn make_plan(words: &[u32], rec: &[u8], list: Ops, amount: u64, start: bool) -> Plan
     requires { ⌜ sumOf lenOf (opsOf (now words) (now rec) list) < 2 ^ 28 ⌝ }
     ensures { λ r. ⌜ PlanIs (facing start (opsOf (now (words .entry)) (now (rec .entry)) list)) amount (r .skip) (r .heads) (r .first) (r .second) (r .lost) ⌝ }
@@ -229,17 +257,16 @@ pub(crate) fn make_plan(words: &[u32], rec: &[u8], list: Ops, amount: u64, start
     if oplist::count(words, rec, list) == 0 {
         return unchanged();
     }
-    let e = run_from(words, rec, list, start, 0, CLIPS);
-    let h = run_from(words, rec, list, start, 0, HARD);
-    let s = run_from(words, rec, list, start, h.next, SOFT);
-    if amount <= e.sum {
-        return upgrade(h.sum, s.sum, amount, s.next);
+    let clips = clip_runs::leading_clips(words, rec, list, start);
+    let outer = clip_runs::outer_runs(words, rec, list, start);
+    if amount <= clips {
+        return upgrade(outer.hard, outer.soft, amount, outer.next);
     }
-    let t = take_bases(words, rec, list, start, s.next, amount - e.sum);
+    let t = take_bases(words, rec, list, start, outer.next, amount - clips);
     Plan {
         skip: t.next,
         heads: 1 + t.cut,
-        first: encode_op(5, h.sum + s.sum + t.bases),
+        first: encode_op(5, outer.hard + outer.soft + t.bases),
         second: t.rest,
         lost: t.lost,
     }

@@ -11,7 +11,8 @@ use Rattle.lists.specs.Lists.{sumOf}
 use Rattle.lists.proofs.Sums.{sum-cons}
 use Rattle.sam.specs.Op.{lenOf, codeOf}
 use Rattle.ops.specs.Ops.{readLen, isClip}
-use Rattle.clip.specs.Clipping.{Taken, more, taking, Cut, hardOf, softOf, upgraded, cutInto, hardLen, clip}
+use Rattle.clip_runs.specs.Clips.{outerHard}
+use Rattle.clip.specs.Clipping.{Taken, more, taking, Cut, hardOf, softOf, upgraded, cutInto, clip}
 use Rattle.clip.proofs.RuleLaws.{cut-eq, take-nil, goes-enough, clip-none}
 use Rattle.clip_laws.specs.Demand3.{keptLen, All, isInner, EndsInsertion}
 use Rattle.clip_laws.proofs.TakeLaws.{Way, whole, none, over, cuts, way, take-whole, take-none, take-over, take-cut, two-goes, same-take}
@@ -221,7 +222,7 @@ module _ {xs : List ℕ} {h s : ℕ} {l : List ℕ} (R : Runs xs h s l) (a b : �
 
 -- what one clip does: enough is hard clipped, and the query and hard bases are kept
 pub record Once (xs : List ℕ) (a : ℕ) : Type 0 where
-  pub floor : a ≤ hardLen (clip xs a .ops)
+  pub floor : a ≤ outerHard (clip xs a .ops)
   pub kept : sumOf keptLen (clip xs a .ops) ≡ sumOf keptLen xs
 
 module _ {xs : List ℕ} (inner tail : List ℕ) {h s : ℕ} (R : Runs xs h s (inner ++ tail)) (I : All isInner inner) (T : All isClip tail) (a : ℕ) (le : a ≤ h + s + sumOf readLen inner) where

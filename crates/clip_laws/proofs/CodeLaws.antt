@@ -1,19 +1,17 @@
 -- What the tables of codes say of each other: a test that antt computes over the 16 codes, carried to each.
-use mathlib.Core.Path.{_≡_, refl, sym, ap, _∙_, subst}
+use mathlib.Core.Path.{_≡_, refl, sym, ap, _∙_}
 use mathlib.Core.Bool.{Bool, true, false, cond, not, Bool·beq}
 use Prim.Native.Nat.{ℕ, _<_}
 use native.Mathlib.Omega.{arith}
 use lib.Dec.{eqb}
 use borrow.Author.Tests.{ne-eqb}
-use Rattle.lists.proofs.Tables.{below, below-at}
+use Rattle.lists.proofs.Absurd.{false-true}
+use Rattle.lists.proofs.Tables.{below, below-at, same-true}
 use Rattle.sam.specs.Op.{lenOf, codeOf, opOf, isRef, isQuery, refLen, queryLen}
 use Rattle.ops.specs.Ops.{isRead, readLen}
-use Rattle.clip.specs.Clipping.{isHard, hardOf}
-use Rattle.clip.proofs.CodeLaws.{code-small}
+use Rattle.clip_runs.specs.Clips.{isHard, lenIf}
+use Rattle.clip.specs.Clipping.{hardOf}
 use Rattle.clip_laws.specs.Demand3.{isInner, keptLen}
-
-pub false-is-true : false ≡ true → ⊥
-false-is-true e = subst (λ (b : Bool). cond b ⊥ (Unit {0})) e tt
 
 -- if one test holds of a code, so does another: computed for the codes
 abbrev pub imp : Bool → Bool → Bool
@@ -22,14 +20,14 @@ imp false q = true
 
 imp-true : (p q : Bool) → imp p q ≡ true → p ≡ true → q ≡ true
 imp-true true q h e = h
-imp-true false q h e = absurd (false-is-true e)
+imp-true false q h e = false-true e
 
 pub by-codes : (p q : ℕ → Bool) → below (λ d. imp (p d) (q d)) 16 ≡ true → (o : ℕ) → p (codeOf o) ≡ true → q (codeOf o) ≡ true
-by-codes p q h o = imp-true (p (codeOf o)) (q (codeOf o)) (below-at (λ d. imp (p d) (q d)) 16 (codeOf o) h (code-small o))
+by-codes p q h o = imp-true (p (codeOf o)) (q (codeOf o)) (below-at (λ d. imp (p d) (q d)) 16 (codeOf o) h (omega arith))
 
 -- and so does it not
 not-so : (b : Bool) → not b ≡ true → b ≡ false
-not-so true e = absurd (false-is-true e)
+not-so true e = false-true e
 not-so false e = refl
 
 pub never : (p q : ℕ → Bool) → below (λ d. imp (p d) (not (q d))) 16 ≡ true → (o : ℕ) → p (codeOf o) ≡ true → q (codeOf o) ≡ false
@@ -103,23 +101,17 @@ soft-code n = omega arith
 -- ---- query plus hard bases
 
 pub kept-H : (o : ℕ) → codeOf o ≡ 5 → keptLen o ≡ lenOf o
-unfolding keptLen queryLen isQuery
+unfolding keptLen lenIf queryLen isQuery
 kept-H o e = simp e (omega arith)
 
 pub kept-S : (o : ℕ) → codeOf o ≡ 4 → keptLen o ≡ lenOf o
-unfolding keptLen queryLen isQuery
+unfolding keptLen lenIf queryLen isQuery
 kept-S o e = simp e (omega arith)
 
 -- an inner op keeps what it reads
 pub kept-read : (o : ℕ) → isInner (codeOf o) ≡ true → keptLen o ≡ readLen o
-unfolding keptLen queryLen readLen isInner isQuery isRead
+unfolding keptLen lenIf queryLen readLen isInner isQuery isRead
 kept-read o e =
     let h = never isInner isHard refl o e in
-    let q = same (isQuery (codeOf o)) (isRead (codeOf o)) (by-codes isInner (λ d. Bool·beq (isQuery d) (isRead d)) refl o e) in
+    let q = same-true (isQuery (codeOf o)) (isRead (codeOf o)) (by-codes isInner (λ d. Bool·beq (isQuery d) (isRead d)) refl o e) in
     simp (h, q) (omega arith)
-  where
-    same : (p q : Bool) → Bool·beq p q ≡ true → p ≡ q
-    same true true h = refl
-    same true false h = sym h
-    same false true h = h
-    same false false h = refl

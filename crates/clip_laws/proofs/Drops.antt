@@ -8,13 +8,15 @@ use lib.ListN.{length}
 use lib.Dec.{eqb, leb}
 use borrow.Author.Tests.{eqb-true}
 use Rattle.lists.specs.Lists.{facing, sumOf}
+use Rattle.lists.specs.Runs.{leading, afterLeading}
 use Rattle.lists.proofs.Sums.{facing-facing}
 use Rattle.sam.specs.Op.{lenOf, codeOf, opOf, isRef, isQuery, refLen}
 use Rattle.sam.specs.Columns.{Column, spell, columns, refs}
 use Rattle.sam.proofs.ColumnLaws.{columns-cons, spell-add, spell-none, refs-append, refs-spell}
 use Rattle.sam.proofs.LengthLaws.{reference-length}
 use Rattle.ops.specs.Ops.{readLen}
-use Rattle.clip.specs.Clipping.{isHard, runLen, afterRun, taking, Cut, hardOf, softOf, upgraded, cutInto, hardLen, softLen, inside, clipLen, clip}
+use Rattle.clip_runs.specs.Clips.{isHard, run, runLen, afterRun, outerHard, nextSoft, inside, leadingClips}
+use Rattle.clip.specs.Clipping.{taking, Cut, hardOf, softOf, upgraded, cutInto, clip}
 use Rattle.clip.specs.Answer.{clippedOps}
 use Rattle.clip.proofs.CodeLaws.{read-le}
 use Rattle.clip.proofs.RuleLaws.{take-nil}
@@ -77,12 +79,12 @@ drops-take (o ∷ xs) n = go (way n o) (drops-take xs (n - readLen o))
 
 -- a run of one code spells its length
 run-spells : (q r : Bool) (c : ℕ) → isQuery c ≡ q → isRef c ≡ r → (xs : List ℕ) → columns xs ≡ spell q r (runLen (λ d. eqb d c) xs) ++ columns (afterRun (λ d. eqb d c) xs)
-unfolding runLen afterRun
+unfolding leading sumOf afterLeading
 run-spells q r c f g [] = ap (λ (l : List Column). l ++ columns []) (sym (spell-none q r))
 run-spells q r c f g (o ∷ xs) = go (eqb (codeOf o) c) refl (run-spells q r c f g xs)
   where
     go : (b : Bool) → eqb (codeOf o) c ≡ b → columns xs ≡ spell q r (runLen (λ d. eqb d c) xs) ++ columns (afterRun (λ d. eqb d c) xs)
-        → columns (o ∷ xs) ≡ spell q r (cond b (lenOf o + runLen (λ d. eqb d c) xs) 0) ++ columns (cond b (afterRun (λ d. eqb d c) xs) (o ∷ xs))
+        → columns (o ∷ xs) ≡ spell q r (sumOf lenOf (cond b (o ∷ run (λ d. eqb d c) xs) [])) ++ columns (cond b (afterRun (λ d. eqb d c) xs) (o ∷ xs))
     go true e ih =
         let k = eqb-true (codeOf o) c e in
         let p = spell q r (lenOf o) in
@@ -93,8 +95,8 @@ run-spells q r c f g (o ∷ xs) = go (eqb (codeOf o) c) refl (run-spells q r c f
         ∙ ap (λ (l : List Column). l ++ columns (afterRun (λ d. eqb d c) xs)) (sym (spell-add q r (lenOf o) (runLen (λ d. eqb d c) xs)))
     go false e ih = ap (λ (l : List Column). l ++ columns (o ∷ xs)) (sym (spell-none q r))
 
-parts : (xs : List ℕ) → columns xs ≡ spell true false (softLen xs) ++ columns (inside xs)
-unfolding softLen inside isQuery isRef
+parts : (xs : List ℕ) → columns xs ≡ spell true false (nextSoft xs) ++ columns (inside xs)
+unfolding nextSoft inside isQuery isRef
 parts xs = run-spells false false 5 refl refl xs ∙ run-spells true false 4 refl refl (afterRun isHard xs)
 
 -- ---- the rule
@@ -111,10 +113,10 @@ soft-spells n l = go (eqb n 0) refl
     go true e = rw (eqb-true n 0 e) refl
     go false e = columns-cons (opOf n 4) l ∙ rw (soft-code n, soft-len n) refl
 
-drops-soft : (xs : List ℕ) (h a : ℕ) → Drops xs (upgraded h (softLen xs) a (inside xs) .ops) (upgraded h (softLen xs) a (inside xs) .lost)
+drops-soft : (xs : List ℕ) (h a : ℕ) → Drops xs (upgraded h (nextSoft xs) a (inside xs) .ops) (upgraded h (nextSoft xs) a (inside xs) .lost)
 unfolding upgraded
 drops-soft xs h a =
-    let s = softLen xs in
+    let s = nextSoft xs in
     let u = min s (a - h) in
     let e : s ≡ u + (s - u) = omega arith in
     record {
@@ -132,9 +134,9 @@ unfolding cutInto
 drops-cut xs h s n =
     let t = taking (inside xs) n in
     let D = drops-take (inside xs) n in
-    let p = spell true false (softLen xs) in
+    let p = spell true false (nextSoft xs) in
     let a = refs-append p (D .gone) in
-    let r = refs-spell true false (softLen xs) in
+    let r = refs-spell true false (nextSoft xs) in
     let d = D .lost-is in
     record {
       gone = p ++ D .gone;
@@ -147,17 +149,17 @@ drops-cut xs h s n =
 
 drops : (xs : List ℕ) (a : ℕ) → Drops xs (clip xs a .ops) (clip xs a .lost)
 unfolding clip
-drops xs a = go (eqb a 0) (eqb (length xs) 0) (leb a (clipLen xs))
+drops xs a = go (eqb a 0) (eqb (length xs) 0) (leb a (leadingClips xs))
   where
     by : Bool → Bool → Bool → Cut
     by z e w = cond z (record { ops = xs; lost = 0 }) (cond e (record { ops = xs; lost = 0 })
-        (cond w (upgraded (hardLen xs) (softLen xs) a (inside xs)) (cutInto (hardLen xs) (softLen xs) (taking (inside xs) (a - clipLen xs)))))
+        (cond w (upgraded (outerHard xs) (nextSoft xs) a (inside xs)) (cutInto (outerHard xs) (nextSoft xs) (taking (inside xs) (a - leadingClips xs)))))
 
     go : (z e w : Bool) → Drops xs (by z e w .ops) (by z e w .lost)
     go true e w = drops-none xs
     go false true w = drops-none xs
-    go false false true = drops-soft xs (hardLen xs) a
-    go false false false = drops-cut xs (hardLen xs) (softLen xs) (a - clipLen xs)
+    go false false true = drops-soft xs (outerHard xs) a
+    go false false false = drops-cut xs (outerHard xs) (nextSoft xs) (a - leadingClips xs)
 
 -- the two sentences, for both ends: what is left has the columns of the list less a first part, seen from the chosen end, and that part's reference bases are those taken
 pub clip-drops : (xs : List ℕ) (a : ℕ) (start : Bool) → Drops (facing start xs) (facing start (clippedOps xs a start)) (clip (facing start xs) a .lost)

@@ -7,9 +7,11 @@ use native.Mathlib.Omega.{arith}
 use lib.Dec.{lit<, lit≤}
 use lib.ListN.{length}
 use Rattle.lists.specs.Lists.{sumOf}
+use Rattle.lists.specs.Runs.{leading, afterLeading}
 use Rattle.sam.specs.Op.{opOf, isRef, refLen}
 use Rattle.ops.specs.Ops.{isRead, readLen, isClip}
-use Rattle.clip.specs.Clipping.{runLen, afterRun, goes, ends, taking, softOf, upgraded, cutInto, hardLen, softLen, inside, clipLen, clip}
+use Rattle.clip_runs.specs.Clips.{outerHard, nextSoft, inside, leadingClips}
+use Rattle.clip.specs.Clipping.{goes, ends, taking, softOf, upgraded, cutInto, clip}
 use Rattle.clip.specs.Answer.{clippedOps}
 use Rattle.clip_laws.specs.Demand3.{isInner, Takes, most, survives, EndsInsertion, ClipsTwice}
 
@@ -40,15 +42,15 @@ takes =
     }
 
 pub in-bounds : 8 ≤ most (takes .shape) true
-unfolding takes clipLen runLen isClip sumOf readLen isRead
+unfolding takes leadingClips leading sumOf isClip readLen isRead
 in-bounds = lit≤ tt
 
 pub survivor : survives (clippedOps inserted 6 true) ≡ true
-unfolding isRead isRef isClip isInner readLen refLen runLen afterRun goes ends taking softOf upgraded cutInto hardLen softLen inside clipLen clip clippedOps survives
+unfolding isRead isRef isClip isInner readLen refLen leading sumOf afterLeading goes ends taking softOf upgraded cutInto outerHard nextSoft inside leadingClips clip clippedOps survives
 survivor = refl
 
 pub excluded : EndsInsertion inserted 6 8
-unfolding inside clipLen runLen afterRun isClip sumOf readLen isRead
+unfolding inside leadingClips leading sumOf afterLeading isClip readLen isRead
 excluded =
     record {
       before = opOf 5 0 ∷ [];
@@ -63,7 +65,7 @@ excluded =
 
 -- three ops are left, and two
 pub needed : (d : List ℕ) → ClipsTwice 65535 inserted 6 8 true d → ⊥
-unfolding isRead isRef isClip readLen refLen runLen afterRun goes ends taking softOf upgraded cutInto hardLen softLen inside clipLen clip clippedOps
+unfolding isRead isRef isClip readLen refLen leading sumOf afterLeading goes ends taking softOf upgraded cutInto outerHard nextSoft inside leadingClips clip clippedOps
 needed d T = let e : _≡_ {A = ℕ} 3 2 = ap length (T .list-is) in omega arith
 
 -- no equivalence is claimed: 3I5M by 1 then 3 is excluded too, and is 3
@@ -71,7 +73,7 @@ abbrev first : List ℕ
 first = opOf 3 1 ∷ (opOf 5 0 ∷ [])
 
 pub excluded-too : EndsInsertion first 1 3
-unfolding inside clipLen runLen afterRun isClip sumOf readLen isRead
+unfolding inside leadingClips leading sumOf afterLeading isClip readLen isRead
 excluded-too =
     record {
       before = [];
@@ -85,5 +87,5 @@ excluded-too =
     }
 
 pub equal-too : clippedOps (clippedOps first 1 true) 3 true ≡ clippedOps first 3 true
-unfolding isRead isRef isClip readLen refLen runLen afterRun goes ends taking softOf upgraded cutInto hardLen softLen inside clipLen clip clippedOps
+unfolding isRead isRef isClip readLen refLen leading sumOf afterLeading goes ends taking softOf upgraded cutInto outerHard nextSoft inside leadingClips clip clippedOps
 equal-too = refl

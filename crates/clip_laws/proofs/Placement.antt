@@ -9,10 +9,14 @@ use lib.ListN.{length}
 use lib.Dec.{eqb, leb}
 use borrow.Author.Tests.{eqb-false}
 use Rattle.lists.specs.Lists.{facing}
+use Rattle.lists.specs.Runs.{afterLeading}
+use Rattle.lists.proofs.Absurd.{nil-cons}
+use Rattle.lists.proofs.EachLaws.{each-reverse}
 use Rattle.sam.specs.Op.{lenOf, codeOf, opOf}
 use Rattle.sam.specs.Placement.{AllHard, WellPlaced}
 use Rattle.ops.specs.Ops.{readLen}
-use Rattle.clip.specs.Clipping.{isHard, isSoft, afterRun, taking, Cut, hardOf, softOf, upgraded, cutInto, hardLen, softLen, inside, clipLen, clip}
+use Rattle.clip_runs.specs.Clips.{isHard, isSoft, afterRun, outerHard, nextSoft, inside, leadingClips}
+use Rattle.clip.specs.Clipping.{taking, Cut, hardOf, softOf, upgraded, cutInto, clip}
 use Rattle.clip.specs.Answer.{clippedOps}
 use Rattle.clip.proofs.RuleLaws.{take-nil}
 use Rattle.clip_laws.specs.Placed.{KeepsPlaced}
@@ -20,14 +24,6 @@ use Rattle.clip_laws.proofs.CodeLaws.{op-code, hard-code, soft-code}
 use Rattle.clip_laws.proofs.TakeLaws.{Way, whole, none, over, cuts, way, take-whole, take-none, take-over, take-cut}
 
 -- ---- from the other end
-
-hard-append : (xs ys : List ℕ) → AllHard xs → AllHard ys → AllHard (xs ++ ys)
-hard-append [] ys a b = b
-hard-append (o ∷ xs) ys a b = (a .0, hard-append xs ys (a .1) b)
-
-hard-reverse : (xs : List ℕ) → AllHard xs → AllHard (reverse xs)
-hard-reverse [] a = tt
-hard-reverse (o ∷ xs) a = rw (reverse-cons o xs) (hard-append (reverse xs) (o ∷ []) (hard-reverse xs (a .1)) (a .0, tt))
 
 parts-reverse : (xs left : List ℕ) (o : ℕ) (right : List ℕ) → reverse xs ≡ left ++ (o ∷ right) → xs ≡ reverse right ++ (o ∷ reverse left)
 parts-reverse xs left o right e =
@@ -49,8 +45,8 @@ placed-reverse xs W =
     turn left right (inr p) = inl (none-reverse left p)
 
     hard-turn : (left right : List ℕ) → AllHard (reverse right) ⊎ AllHard (reverse left) → AllHard left ⊎ AllHard right
-    hard-turn left right (inl p) = inr (rw (reverse-reverse right) at (hard-reverse (reverse right) p))
-    hard-turn left right (inr p) = inl (rw (reverse-reverse left) at (hard-reverse (reverse left) p))
+    hard-turn left right (inl p) = inr (rw (reverse-reverse right) at (each-reverse _ (reverse right) p))
+    hard-turn left right (inr p) = inl (rw (reverse-reverse left) at (each-reverse _ (reverse left) p))
 
 placed-facing : (b : Bool) (xs : List ℕ) → WellPlaced xs → WellPlaced (facing b xs)
 placed-facing true xs W = W
@@ -96,7 +92,7 @@ module _ (xs : List ℕ) (W : WellPlaced xs) where
   from-inner pre o l e h s = (λ c. absurd (h c), λ c. absurd (s c), behind (pre ++ (o ∷ [])) l (longer xs pre o l e) (λ a. h (hard-first pre o a .1)))
 
   after-softs : (pre l : List ℕ) → xs ≡ pre ++ l → (AllHard pre → ⊥) → Placed (afterRun isSoft l)
-  unfolding Placed afterRun
+  unfolding Placed afterLeading
   after-softs pre [] e n = tt
   after-softs pre (o ∷ l) e n = go (isSoft (codeOf o)) (after-softs (pre ++ (o ∷ [])) l (longer xs pre o l e) (λ a. n (hard-first pre o a .0)))
     where
@@ -106,7 +102,7 @@ module _ (xs : List ℕ) (W : WellPlaced xs) where
 
   -- the S run next inside, where no H stands first
   softs-off : (pre : List ℕ) (o : ℕ) (l : List ℕ) → xs ≡ pre ++ (o ∷ l) → (codeOf o ≡ 5 → ⊥) → Placed (afterRun isSoft (o ∷ l))
-  unfolding afterRun
+  unfolding afterLeading
   softs-off pre o l e h = go (isSoft (codeOf o)) refl
     where
       go : (b : Bool) → isSoft (codeOf o) ≡ b → Placed (cond b (afterRun isSoft l) (o ∷ l))
@@ -114,7 +110,7 @@ module _ (xs : List ℕ) (W : WellPlaced xs) where
       go false q = from-inner pre o l e h (eqb-false (codeOf o) 4 q)
 
   runs-off : (pre l : List ℕ) → xs ≡ pre ++ l → Placed (afterRun isSoft (afterRun isHard l))
-  unfolding Placed afterRun
+  unfolding Placed afterLeading
   runs-off pre [] e = tt
   runs-off pre (o ∷ l) e = go (isHard (codeOf o)) refl (runs-off (pre ++ (o ∷ [])) l (longer xs pre o l e))
     where
@@ -145,14 +141,8 @@ left-placed (o ∷ l) n P = go (way n o) (left-placed l (n - readLen o) (P .2))
 
 in-placed : (l left : List ℕ) (o : ℕ) (right : List ℕ) → Placed l → l ≡ left ++ (o ∷ right) → (codeOf o ≡ 5 → right ≡ []) × (codeOf o ≡ 4 → AllHard right)
 unfolding Placed
-in-placed [] [] o right P e = (λ c. sym (nil e), λ c. rw (sym (nil e)) tt)
-  where
-    nil : [] ≡ o ∷ right → [] ≡ right
-    nil e = cc
-in-placed [] (x ∷ left) o right P e = absurd (no e)
-  where
-    no : [] ≡ x ∷ (left ++ (o ∷ right)) → ⊥
-    no e = let z : _≡_ {A = ℕ} 0 1 = cc in omega arith
+in-placed [] [] o right P e = nil-cons e
+in-placed [] (x ∷ left) o right P e = nil-cons e
 in-placed (x ∷ l) [] o right P e = (λ c. sym tail ∙ P .0 (code ∙ c), λ c. rw tail at (P .1 (code ∙ c)))
   where
     tail : l ≡ right
@@ -190,19 +180,19 @@ front-placed k m l P = go (eqb m 0)
 
 placed-clip : (xs : List ℕ) (a : ℕ) → WellPlaced xs → WellPlaced (clip xs a .ops)
 unfolding clip upgraded cutInto softOf
-placed-clip xs a W = go (eqb a 0) (eqb (length xs) 0) (leb a (clipLen xs))
+placed-clip xs a W = go (eqb a 0) (eqb (length xs) 0) (leb a (leadingClips xs))
   where
     by : Bool → Bool → Bool → Cut
     by z e w = cond z (record { ops = xs; lost = 0 }) (cond e (record { ops = xs; lost = 0 })
-        (cond w (upgraded (hardLen xs) (softLen xs) a (inside xs)) (cutInto (hardLen xs) (softLen xs) (taking (inside xs) (a - clipLen xs)))))
+        (cond w (upgraded (outerHard xs) (nextSoft xs) a (inside xs)) (cutInto (outerHard xs) (nextSoft xs) (taking (inside xs) (a - leadingClips xs)))))
 
     go : (z e w : Bool) → WellPlaced (by z e w .ops)
     go true e w = W
     go false true w = W
-    go false false true = let u = min (softLen xs) (a - hardLen xs) in front-placed (hardLen xs + u) (softLen xs - u) (inside xs) (inside-placed xs W)
+    go false false true = let u = min (nextSoft xs) (a - outerHard xs) in front-placed (outerHard xs + u) (nextSoft xs - u) (inside xs) (inside-placed xs W)
     go false false false =
-        let t = taking (inside xs) (a - clipLen xs) in
-        front-placed (hardLen xs + softLen xs + t .bases) 0 (t .left) (left-placed (inside xs) (a - clipLen xs) (inside-placed xs W))
+        let t = taking (inside xs) (a - leadingClips xs) in
+        front-placed (outerHard xs + nextSoft xs + t .bases) 0 (t .left) (left-placed (inside xs) (a - leadingClips xs) (inside-placed xs W))
 
 pub clip-well-placed : (xs : List ℕ) (a : ℕ) (start : Bool) → KeepsPlaced xs a start
 unfolding clippedOps

@@ -8,30 +8,27 @@ use lib.ListN.{length, length-reverse}
 use lib.Dec.{eqb}
 use borrow.Author.Tests.{eq-eqb, eqb-true}
 use Rattle.lists.specs.Lists.{facing, sumOf}
+use Rattle.lists.proofs.Absurd.{false-true}
+use Rattle.lists.proofs.EachLaws.{each-append, each-reverse, each-map}
 use Rattle.lists.proofs.Sums.{sum-cons, sum-facing}
 use Rattle.sam.specs.Op.{lenOf, codeOf, opOf}
 use Rattle.ops.specs.Ops.{isRead, readLen, isClip}
-use Rattle.clip.specs.Clipping.{isHard, isSoft, runLen, afterRun, Taken, goes, taking, hardOf, softOf, hardLen, softLen, inside, clipLen}
+use Rattle.clip_runs.specs.Clips.{isHard, isSoft, runLen, afterRun, outerHard, nextSoft, inside, leadingClips}
+use Rattle.clip.specs.Clipping.{Taken, goes, taking, hardOf, softOf}
 use Rattle.clip.proofs.CodeLaws.{read-le}
-use Rattle.clip.proofs.RuleLaws.{len-in, rest-in, len-out, rest-out, take-nil, goes-enough}
+use Rattle.clip_runs.proofs.RunLaws.{run-in, run-out, rest-in, rest-out, run-sum, run-same}
+use Rattle.clip.proofs.RuleLaws.{take-nil, goes-enough}
 use Rattle.clip_laws.specs.Demand3.{isInner, keptLen, All, Shaped, survives}
-use Rattle.clip_laws.proofs.CodeLaws.{false-is-true, by-codes, never, read-all, read-is, read-I, cut-read, op-len, op-code, hard-len, hard-code, soft-len, soft-code, kept-H, kept-S, kept-read}
+use Rattle.clip_laws.proofs.CodeLaws.{by-codes, never, read-all, read-is, read-I, cut-read, op-len, op-code, hard-len, hard-code, soft-len, soft-code, kept-H, kept-S, kept-read}
 use Rattle.clip_laws.proofs.TakeLaws.{Way, whole, none, over, cuts, way, take-whole, take-none, take-over, take-cut}
 
 -- ---- the query and hard bases of the two runs
 
 run-kept : (p : ℕ → Bool) → ((o : ℕ) → p (codeOf o) ≡ true → keptLen o ≡ lenOf o) → (xs : List ℕ) → sumOf keptLen xs ≡ runLen p xs + sumOf keptLen (afterRun p xs)
-unfolding sumOf runLen afterRun
-run-kept p w [] = refl
-run-kept p w (o ∷ xs) = go (p (codeOf o)) refl (run-kept p w xs)
-  where
-    go : (b : Bool) → p (codeOf o) ≡ b → sumOf keptLen xs ≡ runLen p xs + sumOf keptLen (afterRun p xs)
-        → keptLen o + sumOf keptLen xs ≡ cond b (lenOf o + runLen p xs) 0 + sumOf keptLen (cond b (afterRun p xs) (o ∷ xs))
-    go true e ih = let q = w o e in omega arith
-    go false e ih = omega arith
+run-kept p w xs = omega (arith, run-sum p keptLen xs, run-same p keptLen lenOf w xs)
 
-pub kept-split : (xs : List ℕ) → sumOf keptLen xs ≡ hardLen xs + softLen xs + sumOf keptLen (inside xs)
-unfolding hardLen softLen inside
+pub kept-split : (xs : List ℕ) → sumOf keptLen xs ≡ outerHard xs + nextSoft xs + sumOf keptLen (inside xs)
+unfolding outerHard nextSoft inside
 kept-split xs =
     let h = run-kept isHard (λ o e. kept-H o (eqb-true (codeOf o) 5 e)) xs in
     let s = run-kept isSoft (λ o e. kept-S o (eqb-true (codeOf o) 4 e)) (afterRun isHard xs) in
@@ -121,11 +118,11 @@ clips-go (o ∷ tail) n c = go (way n o) (clips-go tail (n - readLen o) (c .1))
     go (cuts g z q s) ih = let e = unread o (c .0) in absurd (omega arith)
 
 all-headed : (inner tail : List ℕ) → All isInner inner → All isClip tail → survives (inner ++ tail) ≡ true → Headed (inner ++ tail)
-all-headed [] tail i c s = absurd (false-is-true (sym (none-survives tail c) ∙ s))
+all-headed [] tail i c s = false-true (sym (none-survives tail c) ∙ s)
 all-headed (o ∷ inner) tail i c s = record { head = o; rest = inner ++ tail; list-is = refl; is-inner = i .0 }
 
 pub left-headed : (inner tail : List ℕ) (n : ℕ) → All isInner inner → All isClip tail → survives (taking (inner ++ tail) n .left) ≡ true → Headed (taking (inner ++ tail) n .left)
-left-headed [] tail n i c s = absurd (false-is-true (sym (clips-go tail n c) ∙ s))
+left-headed [] tail n i c s = false-true (sym (clips-go tail n c) ∙ s)
 left-headed (o ∷ inner) tail n i c s = go (way n o) s (left-headed inner tail (n - readLen o) (i .1) c)
   where
     go : Way n o → survives (taking (o ∷ (inner ++ tail)) n .left) ≡ true
@@ -142,15 +139,15 @@ left-headed (o ∷ inner) tail n i c s = go (way n o) s (left-headed inner tail 
 
 pub record Runs (xs : List ℕ) (h s : ℕ) (l : List ℕ) : Type 0 where
   pub some : length xs ≡ 0 → ⊥
-  pub hard-is : hardLen xs ≡ h
-  pub soft-is : softLen xs ≡ s
-  pub clips-are : clipLen xs ≡ h + s
+  pub hard-is : outerHard xs ≡ h
+  pub soft-is : nextSoft xs ≡ s
+  pub clips-are : leadingClips xs ≡ h + s
   pub inside-is : inside xs ≡ l
   pub begins : Headed l
 
 module _ (p : ℕ → Bool) (l : List ℕ) (H : Headed l) (out : p (codeOf (H .head)) ≡ false) where
   headed-len : runLen p l ≡ 0
-  headed-len = rw (H .list-is) (len-out p (H .head) (H .rest) out)
+  headed-len = rw (H .list-is) (run-out p (H .head) (H .rest) lenOf out)
 
   headed-rest : afterRun p l ≡ l
   headed-rest = rw (H .list-is) (rest-out p (H .head) (H .rest) out)
@@ -160,7 +157,7 @@ module _ (p q : ℕ → Bool) (w : (o : ℕ) → p (codeOf o) ≡ true → q (co
   prefix-len : (hs l : List ℕ) → All p hs → runLen q (hs ++ l) ≡ sumOf lenOf hs + runLen q l
   unfolding sumOf
   prefix-len [] l a = omega arith
-  prefix-len (o ∷ hs) l a = let e = len-in q o (hs ++ l) (w o (a .0)) in let ih = prefix-len hs l (a .1) in omega arith
+  prefix-len (o ∷ hs) l a = let e = run-in q o (hs ++ l) lenOf (w o (a .0)) in let ih = prefix-len hs l (a .1) in omega arith
 
   prefix-rest : (hs l : List ℕ) → All p hs → afterRun q (hs ++ l) ≡ afterRun q l
   prefix-rest [] l a = refl
@@ -191,7 +188,7 @@ soft-clip = by-codes isSoft isClip refl
 module _ (l : List ℕ) (H : Headed l) where
   no-hard : (softs : List ℕ) → All isSoft softs → runLen isHard (softs ++ l) ≡ 0
   no-hard [] a = headed-len isHard l H (inner-hard (H .head) (H .is-inner))
-  no-hard (o ∷ softs) a = len-out isHard o (softs ++ l) (never isSoft isHard refl o (a .0))
+  no-hard (o ∷ softs) a = run-out isHard o (softs ++ l) lenOf (never isSoft isHard refl o (a .0))
 
   all-left : (softs : List ℕ) → All isSoft softs → afterRun isHard (softs ++ l) ≡ softs ++ l
   all-left [] a = headed-rest isHard l H (inner-hard (H .head) (H .is-inner))
@@ -204,7 +201,7 @@ module _ (l : List ℕ) (H : Headed l) where
 
 -- a list's runs, from its parts
 runs : (hards softs l : List ℕ) → All isHard hards → All isSoft softs → Headed l → Runs (hards ++ (softs ++ l)) (sumOf lenOf hards) (sumOf lenOf softs) l
-unfolding hardLen softLen clipLen inside
+unfolding outerHard nextSoft leadingClips inside
 runs hards softs l a b H =
     let p = prefix-len isHard isHard (λ o e. e) hards (softs ++ l) a in
     let q = prefix-rest isHard isHard (λ o e. e) hards (softs ++ l) a ∙ all-left l H softs b in
@@ -251,9 +248,9 @@ runs-clipped k m l H =
     let s : All isSoft (softOf m) = soft-cases (All isSoft) m (λ z. tt) (eq-eqb (codeOf (opOf m 4)) 4 (soft-code m), tt) in
     rw (sum-one lenOf (hardOf k), hard-len k, soft-total m) at (runs (hardOf k ∷ []) (softOf m) l (eq-eqb (codeOf (hardOf k)) 5 (hard-code k), tt) s H)
 
-pub hard-head : (k : ℕ) (l : List ℕ) → hardLen (hardOf k ∷ l) ≡ k + hardLen l
-unfolding hardLen
-hard-head k l = len-in isHard (hardOf k) l (eq-eqb (codeOf (hardOf k)) 5 (hard-code k)) ∙ ap (λ n. n + runLen isHard l) (hard-len k)
+pub hard-head : (k : ℕ) (l : List ℕ) → outerHard (hardOf k ∷ l) ≡ k + outerHard l
+unfolding outerHard
+hard-head k l = run-in isHard (hardOf k) l lenOf (eq-eqb (codeOf (hardOf k)) 5 (hard-code k)) ∙ ap (λ n. n + runLen isHard l) (hard-len k)
 
 pub kept-hard : (k : ℕ) (l : List ℕ) → sumOf keptLen (hardOf k ∷ l) ≡ k + sumOf keptLen l
 kept-hard k l =
@@ -296,18 +293,6 @@ left-total (o ∷ l) n = rw (sum-cons lenOf o l) (go (way n o) (left-total l (n 
 
 -- ---- a shaped list, from either end
 
-all-append : (p : ℕ → Bool) (xs ys : List ℕ) → All p xs → All p ys → All p (xs ++ ys)
-all-append p [] ys a b = b
-all-append p (o ∷ xs) ys a b = (a .0, all-append p xs ys (a .1) b)
-
-all-reverse : (p : ℕ → Bool) (xs : List ℕ) → All p xs → All p (reverse xs)
-all-reverse p [] a = tt
-all-reverse p (o ∷ xs) a = rw (reverse-cons o xs) (all-append p (reverse xs) (o ∷ []) (all-reverse p xs (a .1)) (a .0, tt))
-
-all-map : (p q : ℕ → Bool) → ((o : ℕ) → p (codeOf o) ≡ true → q (codeOf o) ≡ true) → (xs : List ℕ) → All p xs → All q xs
-all-map p q f [] a = tt
-all-map p q f (o ∷ xs) a = (f o (a .0), all-map p q f xs (a .1))
-
 reverse-parts : (a b c d e : List ℕ) → reverse (a ++ (b ++ (c ++ (d ++ e)))) ≡ reverse e ++ (reverse d ++ (reverse c ++ (reverse b ++ reverse a)))
 reverse-parts a b c d e =
     reverse-append a (b ++ (c ++ (d ++ e)))
@@ -324,12 +309,12 @@ shaped-facing false xs S =
       softs' = reverse (S .softs);
       hards' = reverse (S .hards);
       list-is = ap reverse (S .list-is) ∙ reverse-parts (S .hards) (S .softs) (S .inner) (S .softs') (S .hards');
-      hards-are = all-reverse isHard (S .hards') (S .hards'-are);
-      softs-are = all-reverse isSoft (S .softs') (S .softs'-are);
-      inner-are = all-reverse isInner (S .inner) (S .inner-are);
+      hards-are = each-reverse _ (S .hards') (S .hards'-are);
+      softs-are = each-reverse _ (S .softs') (S .softs'-are);
+      inner-are = each-reverse _ (S .inner) (S .inner-are);
       inner-some = rw (length-reverse (S .inner)) (S .inner-some);
-      softs'-are = all-reverse isSoft (S .softs) (S .softs-are);
-      hards'-are = all-reverse isHard (S .hards) (S .hards-are);
+      softs'-are = each-reverse _ (S .softs) (S .softs-are);
+      hards'-are = each-reverse _ (S .hards) (S .hards-are);
     }
 
 inner-headed : (inner tail : List ℕ) → All isInner inner → 0 < length inner → Headed (inner ++ tail)
@@ -338,7 +323,7 @@ inner-headed (o ∷ inner) tail a h = record { head = o; rest = inner ++ tail; l
 
 module _ {xs : List ℕ} (S : Shaped xs) where
   pub tail-clips : All isClip (S .softs' ++ S .hards')
-  tail-clips = all-append isClip (S .softs') (S .hards') (all-map isSoft isClip soft-clip (S .softs') (S .softs'-are)) (all-map isHard isClip hard-clip (S .hards') (S .hards'-are))
+  tail-clips = each-append _ (S .softs') (S .hards') (each-map _ _ soft-clip (S .softs') (S .softs'-are)) (each-map _ _ hard-clip (S .hards') (S .hards'-are))
 
   pub shaped-runs : Runs xs (sumOf lenOf (S .hards)) (sumOf lenOf (S .softs)) (S .inner ++ (S .softs' ++ S .hards'))
   shaped-runs =

@@ -1,14 +1,14 @@
 -- Demand 3, over the definitions that clipping's contract uses: the lists that it takes, what one call promises, and what two calls at one end promise.
 use Prim.Native.Nat.{ℕ, _+_, _^_, _≤_, _<_}
 use mathlib.Core.Path.{_≡_}
-use mathlib.Core.Bool.{Bool, true, false, cond, _||_}
+use mathlib.Core.Bool.{Bool, true, false, _||_}
 use mathlib.Core.List.{List, [], _∷_, _++_}
 use lib.ListN.{length, getD}
-use Rattle.lists.specs.Lists.{facing, sumOf}
+use Rattle.lists.specs.Lists.{Each, facing, sumOf}
 use Rattle.sam.specs.Op.{lenOf, codeOf, refLen, queryLen}
 use Rattle.sam.specs.Record.{recordOps}
 use Rattle.ops.specs.Ops.{readLen}
-use Rattle.clip.specs.Clipping.{isHard, isSoft, hardLen, inside, clipLen}
+use Rattle.clip_runs.specs.Clips.{isHard, isSoft, hardLen, outerHard, inside, leadingClips}
 use Rattle.clip.specs.Answer.{clippedOps, clippedCount, clippedUpTo, clippedRecord, written}
 
 -- "inner ops (M, I, D, N, P, =, X)"
@@ -17,8 +17,7 @@ isInner c = getD (true ∷ true ∷ true ∷ true ∷ false ∷ false ∷ true �
 
 -- each op's code passes a test
 abbrev pub All : (ℕ → Bool) → List ℕ → Type 0
-All p [] = Unit {0}
-All p (o ∷ xs) = (p (codeOf o) ≡ true) × All p xs
+All p xs = Each (λ o. p (codeOf o) ≡ true) xs
 
 -- "hard clips, soft clips, one or more inner ops, soft clips, hard clips; clip runs may be absent". A length may be 0
 pub record Shaped (xs : List ℕ) : Type 0 where
@@ -43,11 +42,11 @@ pub record Takes (limit : ℕ) (xs : List ℕ) : Type 0 where
 
 -- "the chosen end's clips plus inner M, I, = and X bases": E + R
 abbrev pub most : {xs : List ℕ} → Shaped xs → Bool → ℕ
-most {xs} S start = clipLen (facing start xs) + sumOf readLen (S .inner)
+most {xs} S start = leadingClips (facing start xs) + sumOf readLen (S .inner)
 
 -- "query plus hard bases" of an op
 unfoldable pub keptLen : ℕ → ℕ
-keptLen o = queryLen o + cond (isHard (codeOf o)) (lenOf o) 0
+keptLen o = queryLen o + hardLen o
 
 -- a call, over a list or over a record that holds it, answers the list ys and the count
 pub record Answers (limit : ℕ) (xs : List ℕ) (amount : ℕ) (start : Bool) (d ys : List ℕ) (count : ℕ) : Type 0 where
@@ -59,7 +58,7 @@ pub record ClipsOnce (limit : ℕ) (xs : List ℕ) (a : ℕ) (start : Bool) (d :
   -- it answers
   pub answers : Answers limit xs a start d (clippedOps xs a start) (clippedCount xs a start)
   -- "clipping leaves at least that amount hard clipped there"
-  pub floor : a ≤ hardLen (facing start (clippedOps xs a start))
+  pub floor : a ≤ outerHard (facing start (clippedOps xs a start))
   -- "and conserves query plus hard bases"
   pub kept : sumOf keptLen (clippedOps xs a start) ≡ sumOf keptLen xs
   -- "at the start it returns exactly the reference length lost", and 0 at the end
@@ -81,9 +80,9 @@ pub record EndsInsertion (xs : List ℕ) (a b : ℕ) : Type 0 where
   pub after : List ℕ
   pub list-is : inside xs ≡ before ++ (insertion ∷ after)
   pub is-insertion : codeOf insertion ≡ 1
-  pub a-past : clipLen xs + sumOf readLen before < a
+  pub a-past : leadingClips xs + sumOf readLen before < a
   pub a-within : a < b
-  pub b-end : b ≡ clipLen xs + (sumOf readLen before + lenOf insertion)
+  pub b-end : b ≡ leadingClips xs + (sumOf readLen before + lenOf insertion)
 
 -- a second call, by b at the same end, on the list that the first one answered
 pub record ClipsTwice (limit : ℕ) (xs : List ℕ) (a b : ℕ) (start : Bool) (d : List ℕ) : Type 0 where

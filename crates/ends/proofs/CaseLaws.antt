@@ -14,7 +14,7 @@ use Rattle.signed.specs.declared.Sum.the-variants.{Number}
 use Rattle.sam.specs.Op.{refLen}
 use Rattle.sam.specs.Record.{posOf, flagsOf, isUnmapped, isReverse, recordOps}
 use Rattle.lengths.specs.Lengths.{refLengthOrZero}
-use Rattle.ops.specs.Clips.{leadingClips, trailingClips}
+use Rattle.clip_runs.specs.Clips.{leadingClips, trailingClips}
 use Rattle.answers.specs.declared.Pos0.{Pos0}
 use Rattle.ends.specs.declared.Found1.the-variants.{Nothing}
 use Rattle.ends.specs.declared.Unclipped.the-variants.{Unmapped, NoOps}

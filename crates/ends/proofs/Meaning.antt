@@ -12,7 +12,7 @@ use Rattle.signed.specs.declared.Sum.{Sum}
 use Rattle.signed.specs.declared.Sum.the-variants.{Number, Over}
 use Rattle.sam.specs.Columns.{columns, refs}
 use Rattle.sam.proofs.LengthLaws.{reference-length}
-use Rattle.ops.specs.Clips.{leadingClips, trailingClips}
+use Rattle.clip_runs.specs.Clips.{leadingClips, trailingClips}
 use Rattle.ends.specs.Sums.{both, total}
 use Rattle.ends.specs.Tails.{greatestRun}
 use Rattle.ends.specs.Ends.{unclippedStart, provided, trailingSum, unclippedEnd}

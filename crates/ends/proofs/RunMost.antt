@@ -10,7 +10,7 @@ use borrow.Author.Tests.{leb-true, leb-false}
 use Rattle.lists.specs.Lists.{sumOf}
 use Rattle.lists.specs.Runs.{leading, holds, afterLast}
 use Rattle.lists.proofs.RunLaws.{after-none}
-use Rattle.ops.specs.Clips.{clipLen, trailingClips}
+use Rattle.clip_runs.specs.Clips.{clipLen, trailingClips}
 use Rattle.ends.specs.Tails.{refOp, clipsToNext, greatestRun}
 use Rattle.ends.proofs.TailLaws.{sum-pick, no-clips, next-ref, run-ref, next-other, run-other}
 

@@ -1,7 +1,5 @@
 -- An op moves the walk's sums as the words for the rest say: a reference op begins a new run of clips, a clip lengthens the run, and any other op does neither.
-use Prim.Native.Nat.{ℕ, _+_, _≤_, _<_, max}
-use lib.ListN.{length, getD, drop}
-use Rattle.lists.proofs.Walks.{step, done}
+use Prim.Native.Nat.{ℕ, _+_, _≤_, max}
 use Rattle.lists.proofs.RunLaws.{after-none}
 use mathlib.Core.Path.{_≡_, refl, sym, ap, _∙_}
 use mathlib.Core.Bool.{Bool, true, false, cond}
@@ -11,7 +9,7 @@ use Rattle.lists.specs.Lists.{sumOf}
 use Rattle.lists.specs.Runs.{leading, holds, afterLast}
 use Rattle.sam.specs.Op.{lenOf, codeOf, refLen}
 use Rattle.ops.specs.Ops.{isClip}
-use Rattle.ops.specs.Clips.{clipLen, leadingClips, trailingClips}
+use Rattle.clip_runs.specs.Clips.{clipLen, trailingClips}
 use Rattle.ends.specs.declared.tails.Tail.{Tail}
 use Rattle.ends.specs.Tails.{refOp, clipsToNext, greatestRun, Met, met}
 
@@ -148,18 +146,3 @@ met-none w h = go (w .saw)
     go : (t : Bool) → _≡_ {A = Met} (record { refs = w .refs + 0; clips = cond t (w .clips + 0) (w .clips); most = max (w .most) (max (cond t (w .clips + 0) 0) 0) }) (record { refs = w .refs; clips = w .clips; most = w .most })
     go true = met-eq (omega arith) (omega arith) (omega arith)
     go false = met-eq (omega arith) refl (omega arith)
-
--- ---- the clips that a list begins with
-
-module _ (xs : List ℕ) (i o : ℕ) (e : o ≡ getD xs i 0) (h : i < length xs) where
-  pub lead-more : isClip (codeOf o) ≡ true → leadingClips (drop i xs) ≡ lenOf o + leadingClips (drop (i + 1) xs)
-  unfolding leadingClips leading sumOf
-  lead-more t = rw (step xs i o e h) (simp t)
-
-  pub lead-stop : isClip (codeOf o) ≡ false → leadingClips (drop i xs) ≡ 0
-  unfolding leadingClips leading sumOf
-  lead-stop t = rw (step xs i o e h) (simp t)
-
-pub lead-done : (xs : List ℕ) (i : ℕ) → length xs ≤ i → leadingClips (drop i xs) ≡ 0
-unfolding leadingClips leading sumOf
-lead-done xs i h = rw (done xs i h)

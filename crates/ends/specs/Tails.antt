@@ -7,7 +7,7 @@ use mathlib.Core.List.{List, [], _∷_}
 use Rattle.lists.specs.Lists.{sumOf}
 use Rattle.lists.specs.Runs.{leading, holds}
 use Rattle.sam.specs.Op.{codeOf, isRef, refLen}
-use Rattle.ops.specs.Clips.{clipLen, trailingClips}
+use Rattle.clip_runs.specs.Clips.{clipLen, trailingClips}
 use Rattle.ends.specs.declared.tails.Tail.{Tail}
 
 abbrev pub refOp : ℕ → Bool

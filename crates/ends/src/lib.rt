@@ -146,7 +146,7 @@ fn unclipped_5prime(bam: &[u8]) -> Unclipped
             if fields::is_reverse(flags) {
                 return as_unclipped(end_from(p.0, tails::tail_of(&[], bam, list)));
             }
-            as_unclipped(start_from(p.0, tails::leading_clips(&[], bam, list)))
+            as_unclipped(start_from(p.0, clip_runs::leading_clips(&[], bam, list, true)))
         }
         Place1::Refused(why) => Unclipped::Refused(why),
     }
@@ -178,7 +178,7 @@ pub fn unclipped_5prime_raw(bam: &[u8], pos: Pos0, reverse: bool) -> Place0
     if reverse {
         return to_place0(end_from(pos.0, tails::tail_of(&[], bam, list)));
     }
-    to_place0(start_from(pos.0, tails::leading_clips(&[], bam, list)))
+    to_place0(start_from(pos.0, clip_runs::leading_clips(&[], bam, list, true)))
 }
 
 fn to_found1(p: Place1) -> Found1

@@ -1,11 +1,11 @@
-// The walks over a record's ops, to its start and to its end.
+// The walk over a record's ops to its end.
 ghost use mathlib.Core.Path.{_≡_};
 ghost use Prim.Native.Nat.{ℕ, _+_, _≤_, _<_};
 ghost use mathlib.Core.List.{List, _∷_};
 ghost use Rattle.lists.specs.Lists.{sumOf};
 ghost use Rattle.sam.specs.Op.{refLen};
 ghost use Rattle.oplist.specs.Ops.{opsOf};
-ghost use Rattle.ops.specs.Clips.{leadingClips, trailingClips};
+ghost use Rattle.clip_runs.specs.Clips.{trailingClips};
 ghost use Rattle.ends.specs.Tails.{greatestRun, met};
 use oplist::Ops;
 
@@ -73,22 +73,4 @@ pub(crate) fn tail_of(words: &[u32], rec: &[u8], list: Ops) -> Tail
         i += 1;
     }
     w
-}
-
-// The S and H that the list begins with.
-pub(crate) fn leading_clips(words: &[u32], rec: &[u8], list: Ops) -> u64
-    ensures { λ r. ⌜ r ≡ leadingClips (opsOf (now (words .entry)) (now (rec .entry)) list) ⌝ }
-{
-    let n = oplist::count(words, rec, list);
-    let mut sum: u64 = 0;
-    let mut i: usize = 0;
-    while i < n {
-        let op = oplist::op_at(words, rec, list, i);
-        if !ops::is_clip(op) {
-            return sum;
-        }
-        sum += ops::length_of(op);
-        i += 1;
-    }
-    sum
 }

@@ -9,7 +9,7 @@ use lib.ListN.{length, length-replicate}
 use lib.Signed.{ltZ}
 use lib.IntN.{ℤ, pos, _+ℤ_, _-ℤ_}
 use borrow.Author.Tests.{le-ltb, ltb-false, eqb-true}
-use Rattle.lists.proofs.Never.{never}
+use Rattle.lists.proofs.Absurd.{never}
 use Rattle.lists.specs.Lists.{splice, sumOf}
 use Rattle.lists.specs.Runs.{holds}
 use Rattle.signed.specs.Whole.{checked}

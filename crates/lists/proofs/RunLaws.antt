@@ -3,7 +3,7 @@ use mathlib.Core.Path.{_≡_, refl}
 use mathlib.Core.Bool.{Bool, true, false, cond}
 use mathlib.Core.List.{List, [], _∷_}
 use Rattle.lists.specs.Runs.{holds, afterLast}
-use Rattle.lists.proofs.Never.{never}
+use Rattle.lists.proofs.Absurd.{never}
 
 pub after-none : {A : Type 0} (p : A → Bool) (xs : List A) → holds p xs ≡ false → afterLast p xs ≡ []
 unfolding holds afterLast

@@ -13,12 +13,12 @@ facing false xs = reverse xs
 unfoldable pub splice : List ℕ → ℕ → List ℕ → List ℕ
 splice d at vs = take at d ++ (vs ++ drop (at + length vs) d)
 
--- P holds of each element
-abbrev pub Each : (ℕ → Type 0) → List ℕ → Type 0
-Each P [] = Unit {0}
-Each P (x ∷ xs) = P x × Each P xs
-
 -- the sum of f over a list
 unfoldable pub sumOf : (ℕ → ℕ) → List ℕ → ℕ
 sumOf f [] = 0
 sumOf f (x ∷ xs) = f x + sumOf f xs
+
+-- P holds of each element
+abbrev pub Each : {A : Type 0} → (A → Type 0) → List A → Type 0
+Each P [] = Unit {0}
+Each P (x ∷ xs) = P x × Each P xs

@@ -7,6 +7,11 @@ unfoldable pub leading : {A : Type 0} → (A → Bool) → List A → List A
 leading p [] = []
 leading p (x ∷ xs) = cond (p x) (x ∷ leading p xs) []
 
+-- what stands after that run
+unfoldable pub afterLeading : {A : Type 0} → (A → Bool) → List A → List A
+afterLeading p [] = []
+afterLeading p (x ∷ xs) = cond (p x) (afterLeading p xs) (x ∷ xs)
+
 -- whether a list holds an element of a kind
 unfoldable pub holds : {A : Type 0} → (A → Bool) → List A → Bool
 holds p [] = false

@@ -7,12 +7,10 @@ use native.Mathlib.Omega.{arith}
 use lib.ListN.{length, drop, getD}
 use borrow.Author.Tests.{lt-ltb, le-ltb}
 use Rattle.lists.proofs.Walks.{step, done}
+use Rattle.sam.specs.Columns.{Off, Spot, past}
 use Rattle.sam.specs.Op.{codeOf, isQuery, queryLen, refLen}
-use Rattle.answers.specs.declared.Over.the-variants.{Off}
-use Rattle.answers.specs.declared.Spot.{Spot}
-use Rattle.lookup.specs.Lookup.{held, look}
-use Rattle.lookup.specs.Seen.{past}
-use Rattle.lookup.proofs.SeenLaws.{past-past, spot-eq}
+use Rattle.lookup.specs.Lookup.{spotIn, look}
+use Rattle.sam.proofs.ColumnLaws.{past-past, spot-eq}
 
 module _ (xs : List ℕ) (i o : ℕ) (e : o ≡ getD xs i 0) (h : i < length xs) where
   pub look-turn : (b k n q : ℕ) → n ≡ refLen o → q ≡ queryLen o → n ≤ k → past (b + q) (look (drop (i + 1) xs) (k - n)) ≡ past b (look (drop i xs) k)
@@ -21,7 +19,7 @@ module _ (xs : List ℕ) (i o : ℕ) (e : o ≡ getD xs i 0) (h : i < length xs)
       let w : refLen o ≤ k = omega arith in
       rw (step xs i o e h, le-ltb k (refLen o) w, f, g) (sym (past-past b (queryLen o) (look (drop (i + 1) xs) (k - refLen o))))
 
-  pub look-held : (b k n : ℕ) (q : Bool) → n ≡ refLen o → q ≡ isQuery (codeOf o) → k < n → past b (held q k) ≡ past b (look (drop i xs) k)
+  pub look-held : (b k n : ℕ) (q : Bool) → n ≡ refLen o → q ≡ isQuery (codeOf o) → k < n → past b (spotIn q k) ≡ past b (look (drop i xs) k)
   unfolding look
   look-held b k n q f g l =
       let w : k < refLen o = omega arith in

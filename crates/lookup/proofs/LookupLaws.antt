@@ -1,42 +1,25 @@
 -- Lookup's walk sees what the columns show: the columns of one op are all alike.
-use Prim.Native.Nat.{ℕ, zero, suc, _+_, _-_, _≤_, _<_}
+use Prim.Native.Nat.{ℕ, _+_, _-_, _≤_, _<_}
 use mathlib.Core.Path.{_≡_, refl, sym, ap, _∙_}
 use mathlib.Core.Bool.{Bool, true, false, cond}
 use mathlib.Core.List.{List, [], _∷_, _++_}
 use mathlib.Core.Logic.{inl, inr}
 use native.Mathlib.Omega.{arith}
 use lib.Dec.{ltb}
-use lib.ListN.{length, replicate}
+use lib.ListN.{length}
 use borrow.Author.Tests.{ltb-true, ltb-false, lt-ltb, le-ltb}
-use Rattle.lists.specs.Lists.{sumOf}
 use Rattle.sam.specs.Op.{lenOf, codeOf, isRef, isQuery, queryLen, refLen}
-use Rattle.answers.specs.declared.Spot.{Spot}
-use Rattle.sam.specs.Columns.{Column, Both, Reference, spell, columns, queries, refs}
-use Rattle.lookup.specs.Seen.{Seen, base, gap, off, past}
-use Rattle.lookup.specs.Lookup.{held, look, readOver, lookup, onBase, upTo}
+use Rattle.sam.specs.Columns.{Spot, Column, spell, columns, refs, Seen, base, gap, off, past}
+use Rattle.lookup.specs.Lookup.{spotIn, look, readOver, lookup}
 use Rattle.lookup.specs.Meaning.{Reads}
 use Rattle.lookup.specs.Meaning as means
 use Rattle.lookup.specs.declared.Found.{Found}
 use Rattle.lookup.specs.declared.Found.the-variants.{Nothing}
 use Rattle.oplist.specs.Ops.{mostOps}
-use Rattle.sam.proofs.LengthLaws.{query-length}
-use Rattle.sam.proofs.ColumnLaws.{queries-spell, refs-spell, queries-append}
-use Rattle.lookup.proofs.SeenLaws.{seen, seen-past, seen-in, seen-is, is-seen, spot-eq}
-
-seen-both : (n k : ℕ) → k < n → seen (replicate n Both) k ≡ held true k
-unfolding seen
-seen-both zero k h = absurd (omega arith)
-seen-both (suc n) zero h = refl
-seen-both (suc n) (suc k) h = ap (past 1) (seen-both n k (omega arith)) ∙ spot-eq (omega arith) refl
-
-seen-gap : (n k : ℕ) → k < n → seen (replicate n Reference) k ≡ held false k
-unfolding seen
-seen-gap zero k h = absurd (omega arith)
-seen-gap (suc n) zero h = refl
-seen-gap (suc n) (suc k) h = ap (past 0) (seen-gap n k (omega arith))
+use Rattle.sam.proofs.ColumnLaws.{seen, seen-past, seen-in, seen-both, seen-gap, seen-is, is-seen, queries-spell, refs-spell}
 
 -- within one op
-seen-spell : (q r : Bool) (n k : ℕ) → k < cond r n 0 → seen (spell q r n) k ≡ held q k
+seen-spell : (q r : Bool) (n k : ℕ) → k < cond r n 0 → seen (spell q r n) k ≡ spotIn q k
 seen-spell true true n k h = seen-both n k h
 seen-spell true false n k h = absurd (omega arith)
 seen-spell false true n k h = seen-gap n k h
@@ -51,7 +34,7 @@ look-seen (o ∷ xs) k = go (ltb k (refLen o)) refl (look-seen xs (k - refLen o)
     p = spell (isQuery (codeOf o)) (isRef (codeOf o)) (lenOf o)
 
     go : (b : Bool) → ltb k (refLen o) ≡ b → look xs (k - refLen o) ≡ seen (columns xs) (k - refLen o)
-        → cond b (held (isQuery (codeOf o)) k) (past (queryLen o) (look xs (k - refLen o))) ≡ seen (p ++ columns xs) k
+        → cond b (spotIn (isQuery (codeOf o)) k) (past (queryLen o) (look xs (k - refLen o))) ≡ seen (p ++ columns xs) k
     go true e ih =
         let l = ltb-true k (refLen o) e in
         let r = refs-spell (isQuery (codeOf o)) (isRef (codeOf o)) (lenOf o) in
@@ -108,40 +91,3 @@ module _ (xs : List ℕ) (start at : ℕ) (asked : Bool) (t : Taken xs start) wh
   lookup-only r (means.gap left right e f g) = g ∙ sym (spot-at _ (omega arith) (look-only xs (at - start) _ (gap left right e (omega arith) refl)))
   lookup-only r (means.off (inl h) g) = g ∙ sym (not-yet h)
   lookup-only r (means.off (inr h) g) = g ∙ sym (spot-at _ (omega arith) (look-only xs (at - start) _ (off (omega arith) refl)))
-
--- ---- the overhang's count
-
-pub up-to-look : (on : ℕ) (xs : List ℕ) (k : ℕ) → upTo on xs k ≡ look xs k .before + onBase on (look xs k .over)
-unfolding upTo look
-up-to-look on [] k = refl
-up-to-look on (o ∷ xs) k = go (ltb k (refLen o)) (isQuery (codeOf o)) (up-to-look on xs (k - refLen o))
-  where
-    go : (b q : Bool) → upTo on xs (k - refLen o) ≡ look xs (k - refLen o) .before + onBase on (look xs (k - refLen o) .over)
-        → cond b (cond q (k + on) 0) (queryLen o + upTo on xs (k - refLen o))
-        ≡ cond {A = Spot} b (held q k) (past (queryLen o) (look xs (k - refLen o))) .before + onBase on (cond {A = Spot} b (held q k) (past (queryLen o) (look xs (k - refLen o))) .over)
-    go true true ih = refl
-    go true false ih = refl
-    go false q ih = omega arith
-
--- the columns before reference base k, and with on = 1 its own; all of them, where there is no such base
-pub up-to-means : (on : ℕ) (xs : List ℕ) (k : ℕ) (left right : List Column) → columns xs ≡ left ++ (Both ∷ right) → refs left ≡ k → upTo on xs k ≡ queries left + on
-up-to-means on xs k left right e f = let l = look-only xs k _ (base left right e f refl) in up-to-look on xs k ∙ ap (λ (s : Spot). s .before + onBase on (s .over)) (sym l)
-
-pub up-to-gap : (on : ℕ) (xs : List ℕ) (k : ℕ) (left right : List Column) → columns xs ≡ left ++ (Reference ∷ right) → refs left ≡ k → upTo on xs k ≡ queries left
-up-to-gap on xs k left right e f = let l = look-only xs k _ (gap left right e f refl) in up-to-look on xs k ∙ ap (λ (s : Spot). s .before + onBase on (s .over)) (sym l) ∙ omega arith
-
-pub up-to-off : (on : ℕ) (xs : List ℕ) (k : ℕ) → refs (columns xs) ≤ k → upTo on xs k ≡ queries (columns xs)
-up-to-off on xs k h = let l = look-only xs k _ (off h refl) in up-to-look on xs k ∙ ap (λ (s : Spot). s .before + onBase on (s .over)) (sym l) ∙ omega arith
-
--- never more than the query bases there are
-pub up-to-most : (xs : List ℕ) (k : ℕ) → upTo 1 xs k ≤ sumOf queryLen xs
-unfolding queries
-up-to-most xs k = go (look-means xs k)
-  where
-    q : sumOf queryLen xs ≡ queries (columns xs)
-    q = query-length xs
-
-    go : Seen (columns xs) k (look xs k) → upTo 1 xs k ≤ sumOf queryLen xs
-    go (base left right e f g) = let a = ap queries e ∙ queries-append left (Both ∷ right) in let m = up-to-means 1 xs k left right e f in let q₁ = q in omega arith
-    go (gap left right e f g) = let a = ap queries e ∙ queries-append left (Reference ∷ right) in let m = up-to-gap 1 xs k left right e f in let q₁ = q in omega arith
-    go (off h g) = let m = up-to-off 1 xs k h in let q₁ = q in omega arith

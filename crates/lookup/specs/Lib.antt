@@ -1,3 +1,2 @@
-pub mod Seen
 pub mod Lookup
 pub mod Meaning

@@ -1,35 +1,43 @@
 -- Document 01, module 8: "The 1-based query position of a reference position. In D or N: none, or if asked the last query base before it, at least 1."
--- And module 10's count, which the overhang reads off the same walk.
 use Prim.Native.Nat.{ℕ, _+_, _-_, max}
 use mathlib.Core.Bool.{Bool, true, false, cond}
 use mathlib.Core.List.{List, [], _∷_}
 use lib.Dec.{ltb}
 use lib.IntN.{pos}
 use lib.ListN.{length}
+use Rattle.sam.specs.Columns.{Over, Base, Gap, Off, Spot, past}
 use Rattle.sam.specs.Op.{codeOf, isQuery, queryLen, refLen}
 use Rattle.answers.specs.Answers.{Told, answered, refused, some, none}
-use Rattle.answers.specs.declared.Over.{Over}
-use Rattle.answers.specs.declared.Over.the-variants.{Base, Gap, Off}
-use Rattle.answers.specs.declared.Spot.{Spot}
 use Rattle.answers.specs.declared.Refusal.the-variants.{TooManyOps, BadStart}
 use Rattle.oplist.specs.Ops.{mostOps}
-use Rattle.lookup.specs.Seen.{past}
+use Rattle.lookup.specs.declared.Over as TheOver
+use Rattle.lookup.specs.declared.Over.the-variants as Code
+use Rattle.lookup.specs.declared.Spot as TheSpot
 use Rattle.lookup.specs.declared.Found.{Found}
 use Rattle.lookup.specs.declared.Found.the-variants.{At, Nothing, Refused}
+
+-- what the code's words mean
+abbrev pub overOf : TheOver.Over → Over
+overOf Code.Base = Base
+overOf Code.Gap = Gap
+overOf Code.Off = Off
+
+abbrev pub spotOf : TheSpot.Spot → Spot
+spotOf s = record { before = s .before; over = overOf (s .over) }
 
 -- the op that decides: the one that holds reference base k of those from it on
 abbrev pub decides : ℕ → ℕ → Bool
 decides o k = ltb k (refLen o)
 
 -- what is seen there, by whether the op consumes the query
-abbrev pub held : Bool → ℕ → Spot
-held true k = record { before = k; over = Base }
-held false k = record { before = 0; over = Gap }
+abbrev pub spotIn : Bool → ℕ → Spot
+spotIn true k = record { before = k; over = Base }
+spotIn false k = record { before = 0; over = Gap }
 
 -- what is seen at reference base k of the alignment, counted from 0
 unfoldable pub look : List ℕ → ℕ → Spot
 look [] k = record { before = 0; over = Off }
-look (o ∷ xs) k = cond (decides o k) (held (isQuery (codeOf o)) k) (past (queryLen o) (look xs (k - refLen o)))
+look (o ∷ xs) k = cond (decides o k) (spotIn (isQuery (codeOf o)) k) (past (queryLen o) (look xs (k - refLen o)))
 
 -- "The 1-based query position"; "In D or N: none, or if asked the last query base before it, at least 1"
 abbrev pub readOver : Bool → ℕ → Over → Found
@@ -51,15 +59,3 @@ abbrev pub tellFound : Found → Told
 tellFound (At n) = answered (some (pos n))
 tellFound Nothing = answered none
 tellFound (Refused r) = refused r
-
--- the query base over a reference base, if on is 1
-abbrev pub onBase : ℕ → Over → ℕ
-onBase on Base = on
-onBase on Gap = 0
-onBase on Off = 0
-
--- the overhang's count (where no position saturates): the query bases before reference base k, and with on = 1 the one over it
-unfoldable pub upTo : ℕ → List ℕ → ℕ → ℕ
-unfolding queryLen
-upTo on [] k = 0
-upTo on (o ∷ xs) k = cond (decides o k) (cond (isQuery (codeOf o)) (k + on) 0) (queryLen o + upTo on xs (k - refLen o))

@@ -1,12 +1,9 @@
-// Document 01, module 8: the query base over a reference position. The overhang's count is read off the same walk.
+// Document 01, module 8: the query base over a reference position.
 ghost use mathlib.Core.Path.{_≡_};
 ghost use Prim.Native.Nat.{_≤_, max};
-ghost use mathlib.Core.Bool.{cond};
 ghost use Rattle.oplist.specs.Ops.{opsOf};
-ghost use Rattle.lookup.specs.Lookup.{look, lookup, readOver, onBase, upTo};
-use answers::Over;
+ghost use Rattle.lookup.specs.Lookup.{spotOf, overOf, look, lookup, readOver};
 use answers::Refusal;
-use answers::Spot;
 use oplist::Ops;
 
 // A query position, counted from 1; or none.
@@ -16,12 +13,25 @@ pub enum Found {
     Refused(Refusal),
 }
 
+// What stands over a reference base: a query base; none, as the read lacks it; or there is no such reference base.
+pub enum Over {
+    Base,
+    Gap,
+    Off,
+}
+
+// That, and the query bases in the columns before it (in all columns, if there is no such reference base).
+pub struct Spot {
+    pub before: u64,
+    pub over: Over,
+}
+
 // The last alignment start that lookup takes: one past the last `pos`, counted from 1.
 pub const LAST_START: u64 = 2147483648;
 
 // What is seen at reference base k of the alignment, counted from 0.
-pub fn look_at(words: &[u32], rec: &[u8], list: Ops, k: u64) -> Spot
-    ensures { λ r. ⌜ (r ≡ look (opsOf (now (words .entry)) (now (rec .entry)) list) k) × (r .before ≤ 1152921504606846976) ⌝ }
+fn look_at(words: &[u32], rec: &[u8], list: Ops, k: u64) -> Spot
+    ensures { λ r. ⌜ (spotOf r ≡ look (opsOf (now (words .entry)) (now (rec .entry)) list) k) × (r .before ≤ 1152921504606846976) ⌝ }
 {
     let n = oplist::count(words, rec, list);
     let mut before: u64 = 0;
@@ -52,31 +62,6 @@ pub fn look_at(words: &[u32], rec: &[u8], list: Ops, k: u64) -> Spot
     }
 }
 
-// The query base over a spot, if any and if asked.
-fn on_base(on: bool, over: Over) -> u64
-    ensures { λ r. ⌜ (r ≡ onBase (cond on 1 0) over) × (r ≤ 1) ⌝ }
-{
-    match over {
-        Over::Base => {
-            if on {
-                return 1;
-            }
-            0
-        }
-        Over::Gap => 0,
-        Over::Off => 0,
-    }
-}
-
-// The query bases before reference base k, and if asked the one over it.
-pub fn bases_up_to(words: &[u32], rec: &[u8], list: Ops, k: u64, on: bool) -> u64
-    ensures { λ r. ⌜ r ≡ upTo (cond on 1 0) (opsOf (now (words .entry)) (now (rec .entry)) list) k ⌝ }
-{
-    let s = look_at(words, rec, list, k);
-    let over = s.over;
-    s.before + on_base(on, over)
-}
-
 fn at_least_one(n: u64) -> u64
     ensures { λ r. ⌜ r ≡ max n 1 ⌝ }
 {
@@ -89,7 +74,7 @@ fn at_least_one(n: u64) -> u64
 // What lookup answers at a spot.
 fn read_over(asked: bool, before: u64, over: Over) -> Found
     requires { ⌜ before ≤ 1152921504606846976 ⌝ }
-    ensures { λ r. ⌜ r ≡ readOver asked before over ⌝ }
+    ensures { λ r. ⌜ r ≡ readOver asked before (overOf over) ⌝ }
 {
     match over {
         Over::Base => Found::At(before + 1),

@@ -11,7 +11,7 @@ use Rattle.lists.proofs.Tables.{below-same}
 use Rattle.sam.specs.Op.{lenOf, codeOf, opOf, letters, isRef, refLen}
 use Rattle.sam.specs.Text.{value, Spells, end, op}
 use Rattle.ops.specs.Ops.{isClip}
-use Rattle.ops.specs.Clips.{clipLen, leadingClips, trailingClips}
+use Rattle.clip_runs.specs.Clips.{clipLen, leadingClips, trailingClips}
 use Rattle.mate_text.specs.Run.{isDigit}
 use Rattle.mate_text.specs.Mate.{refLetters, clipLetters, isRefLetter, isClipLetter, Piece, pieces, counts, total, isRefPiece, isClipPiece, refCount, clipCount, mateLeading, mateReference, mateTrailing}
 use Rattle.mate_text.specs.Readers.{Short, Agree}

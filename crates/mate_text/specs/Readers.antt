@@ -5,7 +5,7 @@ use mathlib.Core.Path.{_≡_}
 use mathlib.Core.List.{List}
 use Rattle.lists.specs.Lists.{Each, sumOf}
 use Rattle.sam.specs.Op.{lenOf, refLen}
-use Rattle.ops.specs.Clips.{leadingClips, trailingClips}
+use Rattle.clip_runs.specs.Clips.{leadingClips, trailingClips}
 use Rattle.mate_text.specs.Mate.{mateLeading, mateReference, mateTrailing}
 
 abbrev pub Short : List ℕ → Type 0

@@ -15,14 +15,10 @@ use Rattle.lists.specs.Lists.{sumOf}
 use Rattle.signed.specs.Whole.{raised}
 use Rattle.signed.proofs.Halves.{up, dn, plus, is-lt, is-le, raise-fact}
 use Rattle.sam.specs.Op.{lenOf, codeOf, isQuery, isRef, queryLen, refLen}
-use Rattle.sam.specs.Columns.{Column, Both, Query, Reference, columns, queries, refs, refOf}
-use Rattle.lookup.specs.Seen.{Seen}
-use Rattle.sam.proofs.ColumnLaws.{queries-append}
+use Rattle.sam.specs.Columns.{Spot, Column, Both, Query, Reference, spell, columns, queries, refs, refOf, Seen, base, gap}
+use Rattle.sam.proofs.ColumnLaws.{seen, seen-past, seen-in, seen-both, seen-gap, seen-is, queries-spell, refs-spell, queries-append}
 use Rattle.sam.proofs.LengthLaws.{query-length}
-use Rattle.answers.specs.declared.Spot.{Spot}
-use Rattle.lookup.specs.Lookup.{onBase, upTo}
-use Rattle.lookup.proofs.LookupLaws.{look-only, up-to-look, up-to-means, up-to-gap}
-use Rattle.overhang.specs.Reach.{basesUpTo}
+use Rattle.overhang.specs.Reach.{basesUpTo, upTo, onBase}
 use Rattle.overhang.specs.Overhang.{basesPast}
 use Rattle.overhang.proofs.ReachLaws.{upToPlace, place-is, up-past}
 
@@ -75,6 +71,51 @@ places on t p k (o ∷ xs) h e u =
     go false f true g false i on-past = on-past (ltb-false k (refLen o) f)
     go false f false g c i on-past = on-past (ltb-false k (refLen o) f)
 
+-- ---- the count by reference bases, against the columns
+
+abbrev counted : ℕ → Spot → ℕ
+counted on s = s .before + onBase on (s .over)
+
+-- within one op
+within-op : (on : ℕ) (q r : Bool) (n k : ℕ) → k < cond r n 0 → cond q (k + on) 0 ≡ counted on (seen (spell q r n) k)
+within-op on true true n k h = rw (seen-both n k h) refl
+within-op on true false n k h = absurd (omega arith)
+within-op on false true n k h = rw (seen-gap n k h) refl
+within-op on false false n k h = absurd (omega arith)
+
+up-to-seen : (on : ℕ) (xs : List ℕ) (k : ℕ) → upTo on xs k ≡ counted on (seen (columns xs) k)
+unfolding upTo seen columns queryLen refLen
+up-to-seen on [] k = refl
+up-to-seen on (o ∷ xs) k = go (ltb k (refLen o)) refl (up-to-seen on xs (k - refLen o))
+  where
+    p : List Column
+    p = spell (isQuery (codeOf o)) (isRef (codeOf o)) (lenOf o)
+
+    go : (b : Bool) → ltb k (refLen o) ≡ b → upTo on xs (k - refLen o) ≡ counted on (seen (columns xs) (k - refLen o))
+        → cond b (cond (isQuery (codeOf o)) (k + on) 0) (queryLen o + upTo on xs (k - refLen o)) ≡ counted on (seen (p ++ columns xs) k)
+    go true e ih =
+        let l = ltb-true k (refLen o) e in
+        let r = refs-spell (isQuery (codeOf o)) (isRef (codeOf o)) (lenOf o) in
+        within-op on (isQuery (codeOf o)) (isRef (codeOf o)) (lenOf o) k l ∙ sym (ap (counted on) (seen-in p (columns xs) k (omega arith)))
+    go false e ih =
+        let l = ltb-false k (refLen o) e in
+        let r = refs-spell (isQuery (codeOf o)) (isRef (codeOf o)) (lenOf o) in
+        let q = queries-spell (isQuery (codeOf o)) (isRef (codeOf o)) (lenOf o) in
+        let s = ap (counted on) (seen-past p (columns xs) k (k - refLen o) (omega arith)) in
+        omega arith
+
+module _ (on : ℕ) (xs : List ℕ) (k : ℕ) where
+  -- what stands at reference base k tells the count
+  up-to-spot : (s : Spot) → Seen (columns xs) k s → upTo on xs k ≡ counted on s
+  up-to-spot s S = up-to-seen on xs k ∙ ap (counted on) (sym (seen-is (columns xs) k s S))
+
+  module _ (left right : List Column) (l : refs left ≡ k) where
+    up-to-base : columns xs ≡ left ++ (Both ∷ right) → upTo on xs k ≡ queries left + on
+    up-to-base e = up-to-spot _ (base left right e l refl)
+
+    up-to-gap : columns xs ≡ left ++ (Reference ∷ right) → upTo on xs k ≡ queries left
+    up-to-gap e = up-to-spot _ (gap left right e l refl) ∙ omega arith
+
 -- ---- an alignment from p on, and a target k positions after p
 
 module _ (t p : ℤ) (k : ℕ) (xs : List ℕ) (f : SFits w32 t) (g : SFits w32 p) (e : t ≡ p +ℤ pos k) (u : Unheld t p xs) where
@@ -95,24 +136,24 @@ module _ (t p : ℤ) (k : ℕ) (xs : List ℕ) (f : SFits w32 t) (g : SFits w32 
 
   -- THE MEANING of the overhang's count: the query bases before the target's column, and the one in it if on is 1
   pub bases-up-to-seen : (on : ℕ) (s : Spot) → on ≤ 1 → Seen (columns xs) k s → basesUpTo on t p xs ≡ s .before + onBase on (s .over)
-  bases-up-to-seen on s h S = bases-up-to-is on h ∙ up-to-look on xs k ∙ ap (λ (z : Spot). z .before + onBase on (z .over)) (sym (look-only xs k s S))
+  bases-up-to-seen on s h S = bases-up-to-is on h ∙ up-to-spot on xs k s S
 
   module _ (left right : List Column) (l : refs left ≡ k) where
     -- the query bases before the target are those of the columns on its left
     pub before-left : (c : Column) → refOf c ≡ 1 → columns xs ≡ left ++ (c ∷ right) → basesUpTo 0 t p xs ≡ queries left
-    before-left Both r d = bases-up-to-is 0 (omega arith) ∙ up-to-means 0 xs k left right d l ∙ omega arith
+    before-left Both r d = bases-up-to-is 0 (omega arith) ∙ up-to-base 0 xs k left right l d ∙ omega arith
     before-left Query r d = absurd (omega arith)
-    before-left Reference r d = bases-up-to-is 0 (omega arith) ∙ up-to-gap 0 xs k left right d l
+    before-left Reference r d = bases-up-to-is 0 (omega arith) ∙ up-to-gap 0 xs k left right l d
 
     -- the query bases past the target are those of the columns on its right
     pub past-right : (c : Column) → refOf c ≡ 1 → columns xs ≡ left ++ (c ∷ right) → basesPast t p xs ≡ queries right
     unfolding queries
     past-right Both r d =
         let q = query-length xs ∙ ap queries d ∙ queries-append left (Both ∷ right) in
-        let n = bases-up-to-is 1 (omega arith) ∙ up-to-means 1 xs k left right d l in
+        let n = bases-up-to-is 1 (omega arith) ∙ up-to-base 1 xs k left right l d in
         omega arith
     past-right Query r d = absurd (omega arith)
     past-right Reference r d =
         let q = query-length xs ∙ ap queries d ∙ queries-append left (Reference ∷ right) in
-        let n = bases-up-to-is 1 (omega arith) ∙ up-to-gap 1 xs k left right d l in
+        let n = bases-up-to-is 1 (omega arith) ∙ up-to-gap 1 xs k left right l d in
         omega arith

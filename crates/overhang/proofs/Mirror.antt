@@ -17,8 +17,7 @@ use Rattle.lists.proofs.Sums.{sum-facing}
 use Rattle.lists.proofs.Walks.{step, done}
 use Rattle.signed.specs.Whole.{raised}
 use Rattle.sam.specs.Op.{codeOf, isQuery, queryLen, refLen}
-use Rattle.lookup.specs.Lookup.{upTo}
-use Rattle.overhang.specs.Reach.{basesUpTo}
+use Rattle.overhang.specs.Reach.{basesUpTo, upTo}
 use Rattle.overhang.specs.Overhang.{basesPast}
 use Rattle.overhang.proofs.ReachLaws.{place-is, up-past}
 use Rattle.overhang.proofs.Meaning.{both-len, gap-len, places}

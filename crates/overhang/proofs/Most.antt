@@ -7,13 +7,15 @@ use native.Mathlib.Omega.{arith}
 use lib.IntN.{ℤ, pos, _+ℤ_}
 use lib.Dec.{ltb}
 use lib.Signed.{ltZ}
-use borrow.Author.Tests.{ltb-true}
+use borrow.Author.Tests.{ltb-true, eqb-true}
 use Rattle.lists.specs.Lists.{facing, sumOf}
+use Rattle.lists.specs.Runs.{leading}
 use Rattle.lists.proofs.Sums.{sum-facing}
 use Rattle.signed.specs.Whole.{clamp32}
 use Rattle.sam.specs.Op.{lenOf, codeOf, isQuery, isRef, queryLen, refLen}
 use Rattle.ops.specs.Ops.{isClip}
-use Rattle.overhang.specs.Reach.{spanTo, basesUpTo, clippedBases, softClip}
+use Rattle.clip_runs.specs.Clips.{isSoft, lenIf, softLen, run, leadingSoft}
+use Rattle.overhang.specs.Reach.{spanTo, basesUpTo, softClip}
 use Rattle.overhang.specs.Overhang.{endOf, softStart, softEnd, gapTo, earlierOf, laterOf, basesPast, forwardOverhang, reverseOverhang, overhangOf}
 
 -- bases of an op that lie over reference bases are query bases
@@ -40,13 +42,21 @@ up-to-most on t p (o ∷ xs) = go (ltZ t p) (isQuery (codeOf o)) refl (ltb (span
     go false true e false f ih = omega arith
     go false false e c f ih = omega arith
 
-clipped-most : (xs : List ℕ) → clippedBases xs ≤ sumOf queryLen xs
-unfolding clippedBases sumOf
+soft-query : (o : ℕ) → softLen o ≤ queryLen o
+unfolding lenIf queryLen isQuery
+soft-query o = go (isSoft (codeOf o)) refl
+  where
+    go : (b : Bool) → isSoft (codeOf o) ≡ b → cond b (lenOf o) 0 ≤ queryLen o
+    go true e = let q : queryLen o ≡ lenOf o = simp (eqb-true (codeOf o) 4 e) in omega arith
+    go false e = omega arith
+
+clipped-most : (xs : List ℕ) → leadingSoft xs ≤ sumOf queryLen xs
+unfolding leadingSoft leading sumOf
 clipped-most [] = omega arith
 clipped-most (o ∷ xs) = go (isClip (codeOf o)) (clipped-most xs)
   where
-    go : (b : Bool) → clippedBases xs ≤ sumOf queryLen xs → cond b (queryLen o + clippedBases xs) 0 ≤ queryLen o + sumOf queryLen xs
-    go true ih = omega arith
+    go : (b : Bool) → leadingSoft xs ≤ sumOf queryLen xs → sumOf softLen (cond b (o ∷ run isClip xs) []) ≤ queryLen o + sumOf queryLen xs
+    go true ih = let q = soft-query o in omega arith
     go false ih = omega arith
 
 soft-most : (b : Bool) (xs : List ℕ) → softClip b xs ≤ sumOf queryLen xs

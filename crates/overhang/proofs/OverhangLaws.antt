@@ -13,8 +13,7 @@ use borrow.Author.Tests.{ltb-true, ltb-false}
 use Rattle.lists.specs.Lists.{facing, sumOf}
 use Rattle.signed.specs.Whole.{raised}
 use Rattle.sam.specs.Op.{refLen}
-use Rattle.lookup.specs.Lookup.{upTo}
-use Rattle.overhang.specs.Reach.{softClip}
+use Rattle.overhang.specs.Reach.{softClip, upTo}
 use Rattle.overhang.specs.Overhang.{endOf, softStart, softEnd, laterOf, forwardOverhang, reverseOverhang, overhangOf}
 use Rattle.overhang.specs.Sides.{shortOf, clipGap, meetAt, pastOf, roomPast, Free}
 use Rattle.overhang.proofs.Places.{raised-lt}

@@ -11,7 +11,7 @@ use mir.Syntax.{w32}
 use mir.Val.{SFits}
 use borrow.Author.Tests.{lt-ltb, le-ltb, ltb-true, ltb-false}
 use Rattle.signed.specs.Whole.{raised, natural, clamp32}
-use Rattle.signed.proofs.Halves.{up, dn, plus, minus, is-lt, is-ge, one-half, raise-fact, top32, low32, sfits32}
+use Rattle.signed.proofs.Halves.{up, dn, plus, minus, is-lt, is-ge, one-half, raise-fact, low32, sfits32}
 use Rattle.signed.proofs.Ranges.{clamp-in, clamp-above, clamp-below}
 
 -- a held number is of an i32
@@ -25,9 +25,6 @@ clamp-fits z = go (ltb (up z) (dn z + 2147483648)) refl (ltb (up z + 2147483648)
         let h = ltb-true (up z) (dn z + 2147483648) e in
         let k = ltb-false (up z + 2147483648) (dn z) f in
         rw (clamp-in z h k) (sfits32 z h k)
-
-pub clamp-same : (z : ℤ) → SFits w32 z → clamp32 z ≡ z
-clamp-same z f = clamp-in z (omega (arith, top32 z f)) (omega (arith, low32 z f))
 
 -- n positions on
 pub raised-after : (p : ℤ) (n : ℕ) → SFits w32 p → raised (clamp32 (p +ℤ pos n)) ≡ min (raised p + n) 4294967295

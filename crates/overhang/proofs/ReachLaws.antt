@@ -12,8 +12,7 @@ use borrow.Author.Tests.{lt-ltb, le-ltb}
 use Rattle.lists.proofs.Walks.{step, done}
 use Rattle.signed.specs.Whole.{raised, clamp32}
 use Rattle.sam.specs.Op.{codeOf, isQuery, queryLen, refLen}
-use Rattle.ops.specs.Ops.{isClip}
-use Rattle.overhang.specs.Reach.{basesUpTo, clippedBases}
+use Rattle.overhang.specs.Reach.{basesUpTo}
 use Rattle.overhang.proofs.Places.{clamp-fits, raised-after, raised-lt, raised-span}
 
 -- `basesUpTo` over places
@@ -54,17 +53,3 @@ module _ (on t p : ℕ) (xs : List ℕ) (i : ℕ) where
         → upToPlace on t p (drop i xs) ≡ queryLen x + upToPlace on t (min (p + refLen x) 4294967295) (drop (i + 1) xs)
     unfolding upToPlace
     up-turn c = ap (upToPlace on t p) (step xs i x e h) ∙ simp (le-ltb t p k, c)
-
-module _ (xs : List ℕ) (i : ℕ) where
-  pub clips-done : length xs ≤ i → clippedBases (drop i xs) ≡ 0
-  unfolding clippedBases
-  clips-done h = ap clippedBases (done xs i h)
-
-  module _ (x : ℕ) (e : x ≡ getD xs i 0) (h : i < length xs) where
-    pub clips-out : isClip (codeOf x) ≡ false → clippedBases (drop i xs) ≡ 0
-    unfolding clippedBases
-    clips-out c = ap clippedBases (step xs i x e h) ∙ simp c
-
-    pub clips-turn : isClip (codeOf x) ≡ true → clippedBases (drop i xs) ≡ queryLen x + clippedBases (drop (i + 1) xs)
-    unfolding clippedBases
-    clips-turn c = ap clippedBases (step xs i x e h) ∙ simp c

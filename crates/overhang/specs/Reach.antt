@@ -1,5 +1,5 @@
 -- Document 01, module 10, the overhang's counts of query bases: as the Rust (overlap.rs), whose positions stay within an i32.
-use Prim.Native.Nat.{ℕ, _+_}
+use Prim.Native.Nat.{ℕ, _+_, _-_}
 use mathlib.Core.Bool.{Bool, cond, _&&_}
 use mathlib.Core.List.{List, [], _∷_}
 use lib.IntN.{ℤ, pos, _+ℤ_, _-ℤ_}
@@ -7,8 +7,9 @@ use lib.Dec.{ltb}
 use lib.Signed.{ltZ}
 use Rattle.lists.specs.Lists.{facing}
 use Rattle.signed.specs.Whole.{natural, clamp32}
+use Rattle.sam.specs.Columns.{Over, Base, Gap, Off}
 use Rattle.sam.specs.Op.{codeOf, isQuery, queryLen, refLen}
-use Rattle.ops.specs.Ops.{isClip}
+use Rattle.clip_runs.specs.Clips.{leadingSoft}
 
 -- the positions from p to before t, and t itself where on is 1
 abbrev pub spanTo : ℕ → ℤ → ℤ → ℕ
@@ -23,10 +24,18 @@ basesUpTo on t p (o ∷ xs) =
     (cond (isQuery (codeOf o) && ltb (spanTo on t p) (refLen o)) (spanTo on t p)
     (queryLen o + basesUpTo on t (clamp32 (p +ℤ pos (refLen o))) xs))
 
--- the soft clipped bases of a list as seen from one end: the query bases in its run of S and H
-unfoldable pub clippedBases : List ℕ → ℕ
-clippedBases [] = 0
-clippedBases (o ∷ xs) = cond (isClip (codeOf o)) (queryLen o + clippedBases xs) 0
-
+-- the soft clipped bases at one end
 abbrev pub softClip : Bool → List ℕ → ℕ
-softClip start xs = clippedBases (facing start xs)
+softClip start xs = leadingSoft (facing start xs)
+
+-- where no position is held: the query bases before reference base k, counted from 0, and with on = 1 the one over it
+unfoldable pub upTo : ℕ → List ℕ → ℕ → ℕ
+unfolding queryLen
+upTo on [] k = 0
+upTo on (o ∷ xs) k = cond (ltb k (refLen o)) (cond (isQuery (codeOf o)) (k + on) 0) (queryLen o + upTo on xs (k - refLen o))
+
+-- the query base over a reference base, if on is 1
+abbrev pub onBase : ℕ → Over → ℕ
+onBase on Base = on
+onBase on Gap = 0
+onBase on Off = 0

@@ -10,8 +10,7 @@ ghost use Rattle.lists.specs.Lists.{facing, sumOf};
 ghost use Rattle.signed.specs.Whole.{raised, clamp32};
 ghost use Rattle.sam.specs.Op.{codeOf, isQuery, refLen};
 ghost use Rattle.oplist.specs.Ops.{opsOf};
-ghost use Rattle.lookup.specs.Lookup.{upTo};
-ghost use Rattle.overhang.specs.Reach.{basesUpTo, clippedBases};
+ghost use Rattle.overhang.specs.Reach.{basesUpTo, softClip, upTo};
 ghost use Rattle.overhang.specs.Overhang.{endAt, endOf, gapTo, earlierOf, laterOf, overhangOf, basesExtending};
 ghost use Rattle.overhang.specs.Sides.{shortOf, meetAt, clipGap, pastOf, roomPast, Free};
 use answers::Count;
@@ -155,30 +154,7 @@ fn bases_up_to(words: &[u32], rec: &[u8], list: Ops, start: Pos1, target: Pos1, 
     bases
 }
 
-// The soft clipped bases at one end. Here and below a list's place is given as numbers, which the compiler sees through.
-fn clip_at(words: &[u32], rec: &[u8], inside: bool, at: usize, m: u32, start: bool) -> u64
-    ensures { λ r. ⌜ r ≡ clippedBases (facing start (opsOf (now (words .entry)) (now (rec .entry)) (record { inside = inside; at = at; n = m }))) ⌝ }
-{
-    let list = Ops {
-        inside: inside,
-        at: at,
-        n: m,
-    };
-    let n = oplist::count(words, rec, list);
-    let mut bases: u64 = 0;
-    let mut i: usize = 0;
-    while i < n {
-        let op = oplist::op_from(words, rec, list, start, i);
-        if !ops::is_clip(op) {
-            return bases;
-        }
-        bases += ops::query_len(op);
-        i += 1;
-    }
-    bases
-}
-
-// The query bases over the first `room` reference bases, as seen from one end.
+// The query bases over the first `room` reference bases, as seen from one end. Here and below a list's place is given as numbers, which the compiler sees through.
 fn within_at(
     words: &[u32],
     rec: &[u8],
@@ -230,11 +206,11 @@ fn extent_at(words: &[u32], rec: &[u8], inside: bool, at: usize, n: u32, start: 
     }
 }
 
-// The same of a list wherever it lies.
+// The same of a list wherever it lies, and its soft clipped bases at one end.
 fn soft_clip(words: &[u32], rec: &[u8], list: Ops, start: bool) -> u64
-    ensures { λ r. ⌜ r ≡ clippedBases (facing start (opsOf (now (words .entry)) (now (rec .entry)) list)) ⌝ }
+    ensures { λ r. ⌜ r ≡ softClip start (opsOf (now (words .entry)) (now (rec .entry)) list) ⌝ }
 {
-    clip_at(words, rec, list.inside, list.at, list.n, start)
+    clip_runs::leading_soft(words, rec, list.inside, list.at, list.n, start)
 }
 
 fn within(words: &[u32], rec: &[u8], list: Ops, start: bool, room: u64) -> u64
@@ -253,9 +229,9 @@ fn extent_of(words: &[u32], rec: &[u8], list: Ops, start: Pos1) -> Extent
 // The same of a lent list.
 fn lent_clip(words: &[u32], start: bool) -> u64
     requires { ⌜ length (now words) ≤ 4294967295 ⌝ }
-    ensures { λ r. ⌜ r ≡ clippedBases (facing start (now (words .entry))) ⌝ }
+    ensures { λ r. ⌜ r ≡ softClip start (now (words .entry)) ⌝ }
 {
-    clip_at(words, &[], false, 0, words.len() as u32, start)
+    clip_runs::leading_soft(words, &[], false, 0, words.len() as u32, start)
 }
 
 fn lent_within(words: &[u32], start: bool, room: u64) -> u64

@@ -9,7 +9,7 @@ use lib.ListN.{length, set, drop, getD, length-append}
 use lib.Seq.{sets, set-comm}
 use lib.Dec.{ltb}
 use borrow.Author.Tests.{lt-ltb, le-ltb, ltb-true, ltb-false}
-use Rattle.lists.proofs.Never.{never}
+use Rattle.lists.proofs.Absurd.{never}
 use Rattle.lists.proofs.Walks.{step, done}
 use Rattle.sam.specs.Op.{lenOf, codeOf}
 use Rattle.ops.specs.Ops.{letterOf}

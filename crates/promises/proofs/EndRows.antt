@@ -11,9 +11,10 @@ use Rattle.lists.specs.Lists.{sumOf}
 use Rattle.signed.specs.Whole.{natural}
 use Rattle.signed.specs.declared.Sum.{Sum}
 use Rattle.signed.specs.declared.Sum.the-variants as Sum
+use Rattle.sam.specs.Columns.{Over, Base, Gap, Off}
 use Rattle.sam.specs.Op.{refLen}
 use Rattle.sam.specs.Record.{posOf, flagsOf, isUnmapped, isReverse, recordOps}
-use Rattle.ops.specs.Clips.{leadingClips, trailingClips}
+use Rattle.clip_runs.specs.Clips.{leadingClips, trailingClips}
 use Rattle.lengths.specs.Lengths.{refLengthOrZero}
 use Rattle.oplist.specs.Ops.{mostOps}
 use Rattle.answers.specs.Answers.{Told}
@@ -29,8 +30,6 @@ use Rattle.ends.specs.declared.Found1.the-variants as Found1
 use Rattle.lookup.specs.Lookup.{look, readOver, lookup, tellFound}
 use Rattle.lookup.specs.declared.Found.{Found}
 use Rattle.lookup.specs.declared.Found.the-variants as Found
-use Rattle.answers.specs.declared.Over.{Over}
-use Rattle.answers.specs.declared.Over.the-variants.{Base, Gap, Off}
 use Rattle.promises.specs.Table.{Gives}
 use Rattle.promises.specs.Rows.{over, endSums, unclippedRows, unclippedFromRows, startRows, endRows, lookupRows}
 use Rattle.promises.proofs.RowLaws.{number-alone, answer, row, row-either, row-unless, row-sum}

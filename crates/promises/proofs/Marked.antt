@@ -1,10 +1,12 @@
 -- P1 to P10 as one tabled fact: antt computes both columns of the table.
 use mathlib.Core.Path.{_≡_, refl}
 use Rattle.lists.specs.Lists.{splice, sumOf}
+use Rattle.lists.specs.Runs.{leading, afterLeading}
 use Rattle.signed.specs.Whole.{checked, sideOf}
 use Rattle.sam.specs.Op.{isRef, isQuery, refLen, queryLen}
 use Rattle.ops.specs.Ops.{isRead, readLen, isClip}
-use Rattle.clip.specs.Clipping.{runLen, afterRun, goes, ends, taking, softOf, upgraded, cutInto, hardLen, softLen, inside, clipLen, clip}
+use Rattle.clip_runs.specs.Clips.{outerHard, nextSoft, inside, leadingClips}
+use Rattle.clip.specs.Clipping.{goes, ends, taking, softOf, upgraded, cutInto, clip}
 use Rattle.clip.specs.Answer.{clippedOps, clippedCount, clippedInto, clippedUpTo}
 use Rattle.strict_text.specs.Text.{place, letterCode, nextOf, rowFrom, opsFrom}
 use Rattle.strict_text.specs.Valid.{isEmpty, allHard, anyRef, each, validMapped}
@@ -15,5 +17,5 @@ use Rattle.bin.specs.Bin.{low16, firstAgreed, binTo, reg2bin}
 use Rattle.promises.specs.Marked.{marked, calls, sayings}
 
 pub p1-to-p10 : calls marked ≡ sayings marked
-unfolding splice sumOf isRef isQuery refLen queryLen isRead readLen isClip runLen afterRun goes ends taking softOf upgraded cutInto hardLen softLen inside clipLen clip clippedOps clippedCount clippedInto clippedUpTo place letterCode nextOf rowFrom opsFrom isEmpty allHard anyRef each validMapped strict parsed look lookup checked sideOf eqℤ low16 firstAgreed binTo reg2bin
+unfolding splice sumOf isRef isQuery refLen queryLen isRead readLen isClip leading afterLeading goes ends taking softOf upgraded cutInto outerHard nextSoft inside leadingClips clip clippedOps clippedCount clippedInto clippedUpTo place letterCode nextOf rowFrom opsFrom isEmpty allHard anyRef each validMapped strict parsed look lookup checked sideOf eqℤ low16 firstAgreed binTo reg2bin
 p1-to-p10 = refl

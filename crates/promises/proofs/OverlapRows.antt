@@ -7,7 +7,7 @@ use lib.IntN.{ℤ, pos, negsuc, _+ℤ_}
 use lib.ListN.{length}
 use lib.Dec.{ltb}
 use lib.Signed.{ltZ, leZ}
-use Rattle.lists.proofs.Never.{never}
+use Rattle.lists.proofs.Absurd.{never}
 use Rattle.signed.specs.Whole.{checked, sideOf, sumAt}
 use Rattle.signed.specs.declared.Side.the-variants.{Below, Within, Above}
 use Rattle.signed.specs.declared.Sum.{Sum}

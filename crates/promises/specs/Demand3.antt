@@ -7,7 +7,7 @@ use mathlib.Core.List.{List}
 use lib.ListN.{length}
 use Rattle.lists.specs.Lists.{facing, splice, sumOf}
 use Rattle.sam.specs.Op.{refLen}
-use Rattle.clip.specs.Clipping.{hardLen}
+use Rattle.clip_runs.specs.Clips.{outerHard}
 use Rattle.clip.specs.declared.Clipped.{Clipped}
 use Rattle.clip.specs.declared.Clipped.the-variants.{Done}
 use Rattle.clip_laws.specs.Demand3.{keptLen}
@@ -21,7 +21,7 @@ pub record Answered (d : List ℕ) (r : Clipped) (m ys : List ℕ) (count : ℕ)
 pub record Once (xs : List ℕ) (a : ℕ) (start : Bool) (d : List ℕ) (r : Clipped) (m ys : List ℕ) (count : ℕ) : Type 0 where
   pub answered : Answered d r m ys count
   -- clipping leaves at least that amount hard clipped there
-  pub floor : a ≤ hardLen (facing start ys)
+  pub floor : a ≤ outerHard (facing start ys)
   -- and conserves query plus hard bases;
   pub kept : sumOf keptLen ys ≡ sumOf keptLen xs
   -- at the start it returns exactly the reference length lost."

@@ -11,7 +11,7 @@ use lib.Signed.{ltZ}
 use borrow.Author.Tests.{ltb-true}
 use mir.Syntax.{w32}
 use mir.Val.{SFits}
-use Rattle.lists.proofs.Never.{never}
+use Rattle.lists.proofs.Absurd.{never}
 use Rattle.lists.proofs.Walks.{step, done}
 use Rattle.signed.specs.Whole.{raised}
 use Rattle.print.specs.Text.{decimal}

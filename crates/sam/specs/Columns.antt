@@ -1,5 +1,6 @@
 -- SAM specification 1.4.6: an alignment as columns, each with a query base, a reference base, or both.
-use Prim.Native.Nat.{ℕ, _+_}
+use Prim.Native.Nat.{ℕ, _+_, _≤_}
+use mathlib.Core.Path.{_≡_}
 use mathlib.Core.Bool.{Bool, true, false}
 use mathlib.Core.List.{List, [], _∷_, _++_}
 use lib.ListN.{replicate}
@@ -41,3 +42,24 @@ queries (c ∷ cs) = queryOf c + queries cs
 unfoldable pub refs : List Column → ℕ
 refs [] = 0
 refs (c ∷ cs) = refOf c + refs cs
+
+-- what stands over a reference base: a query base, or none; or the alignment has no such reference base
+pub data Over : Type 0 where
+  Base : Over
+  Gap : Over
+  Off : Over
+
+-- that, and how many query bases stand before it
+pub record Spot : Type 0 where
+  pub before : ℕ
+  pub over : Over
+
+-- THE MEANING of lookup: what is seen at reference base k, counted from 0
+pub data Seen (cs : List Column) (k : ℕ) (s : Spot) : Type 0 where
+  base : (left right : List Column) → cs ≡ left ++ (Both ∷ right) → refs left ≡ k → s ≡ record { before = queries left; over = Base } → Seen cs k s
+  gap : (left right : List Column) → cs ≡ left ++ (Reference ∷ right) → refs left ≡ k → s ≡ record { before = queries left; over = Gap } → Seen cs k s
+  off : refs cs ≤ k → s ≡ record { before = queries cs; over = Off } → Seen cs k s
+
+-- m query bases more stand before
+abbrev pub past : ℕ → Spot → Spot
+past m s = record { before = m + s .before; over = s .over }

@@ -7,7 +7,7 @@ use native.Mathlib.Omega.{arith}
 use lib.Dec.{ltb, eqb}
 use lib.ListN.{getD}
 use borrow.Author.Tests.{lt-ltb, le-ltb, ltb-true, ltb-false, eqb-true}
-use Rattle.lists.proofs.Never.{never}
+use Rattle.lists.proofs.Absurd.{never}
 use Rattle.lists.proofs.Tables.{below-same}
 use Rattle.sam.specs.Op.{lenOf, codeOf, isRef}
 use Rattle.strict_text.specs.Valid.{isEmpty, isSoft, isHard, allHard, anyRef, each, noZero, hardOutside, softOutside, known, validMapped}

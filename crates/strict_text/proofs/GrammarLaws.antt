@@ -7,8 +7,8 @@ use native.Mathlib.Omega.{arith}
 use lib.ListN.{length, getD}
 use lib.Dec.{ltb, eqb}
 use borrow.Author.Tests.{ltb-false, eqb-true, eqb-false, not-true}
-use Rattle.lists.proofs.Each.{each-map}
-use Rattle.lists.proofs.Never.{never}
+use Rattle.lists.proofs.EachLaws.{each-map}
+use Rattle.lists.proofs.Absurd.{never}
 use Rattle.lists.proofs.Tables.{below-at}
 use Rattle.sam.specs.Op.{lenOf, opOf, letters}
 use Rattle.sam.specs.Text.{Digit, Digits, value, Spells, Spells.end, Spells.op}

@@ -9,7 +9,7 @@ use lib.IntN.{ℤ, pos}
 use lib.ListN.{length, drop}
 use lib.Dec.{leb, ltb}
 use borrow.Author.Tests.{leb-true, leb-false, ltb-true, ltb-false}
-use Rattle.lists.proofs.Never.{never}
+use Rattle.lists.proofs.Absurd.{never}
 use Rattle.lists.specs.Lists.{sumOf}
 use Rattle.signed.specs.Whole.{clamp32}
 use Rattle.signed.proofs.Ranges.{clamp-in, clamp-above}

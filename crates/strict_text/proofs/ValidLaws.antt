@@ -6,7 +6,7 @@ use mathlib.Core.List.{List, [], _∷_, _++_, append-assoc, append-nil}
 use mathlib.Core.Logic.{_⊎_, inl, inr, ⊎-elim}
 use lib.Dec.{ltb}
 use borrow.Author.Tests.{lt-ltb, ltb-true, eq-eqb, eqb-true}
-use Rattle.lists.proofs.Never.{never}
+use Rattle.lists.proofs.Absurd.{never}
 use Rattle.sam.specs.Op.{lenOf, codeOf, isRef}
 use Rattle.sam.specs.Placement.{AllHard, WellPlaced}
 use Rattle.strict_text.specs.Valid.{isEmpty, isSoft, isHard, allHard, anyRef, each, noZero, hardOutside, softOutside, known, validMapped}

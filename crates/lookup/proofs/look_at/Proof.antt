@@ -1,8 +1,8 @@
 -- What the walk has passed stands before what it sees in the rest: each op holds the reference base, or is passed.
 use Rattle.oplist.specs.Ops.{opsOf}
-use Rattle.lookup.specs.Seen.{past}
+use Rattle.sam.specs.Columns.{past}
 use Rattle.lookup.specs.Lookup.{look}
-use Rattle.lookup.proofs.SeenLaws.{past-none, spot-eq}
+use Rattle.sam.proofs.ColumnLaws.{past-none, spot-eq}
 use Rattle.lookup.proofs.FindLaws.{look-turn, look-held, look-done}
 use lib.ListN.{drop}
 use mathlib.Core.Bool.{true, false}

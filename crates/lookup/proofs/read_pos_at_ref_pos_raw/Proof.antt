@@ -3,7 +3,7 @@ use Prim.Native.Nat.{ℕ, _-_}
 use mathlib.Core.Path.{ap, sym, _∙_}
 use mathlib.Core.List.{List}
 use borrow.Author.Tests.{lt-ltb, le-ltb}
-use Rattle.answers.specs.declared.Spot.{Spot}
+use Rattle.sam.specs.Columns.{Spot}
 use Rattle.lookup.specs.Lookup.{look, lookup, readOver}
 use Rattle.lookup.proofs.LookupLaws.{Taken, lookup-at}
 use borrow.Author.Needs.{needs}

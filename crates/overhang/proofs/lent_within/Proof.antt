@@ -4,8 +4,8 @@ use mathlib.Core.Path.{refl, ap, _∙_}
 use mathlib.Core.List.{List, []}
 use Rattle.lists.specs.Lists.{facing}
 use Rattle.oplist.proofs.OpsLaws.{whole}
-use Rattle.lookup.specs.Lookup.{upTo}
 use borrow.Author.Needs.{needs}
+use Rattle.overhang.specs.Reach.{upTo}
 use Rattle.overhang.proofs.lent_within.Statement.{statement}
 use Rattle.overhang.proofs.lent_within.Tie as tie
 

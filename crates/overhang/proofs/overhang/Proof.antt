@@ -5,7 +5,7 @@ use mir.Syntax.{w32}
 use mir.Val.{SFits}
 use Rattle.lists.specs.Lists.{facing}
 use Rattle.oplist.specs.Ops.{opsOf}
-use Rattle.lookup.specs.Lookup.{upTo}
+use Rattle.overhang.specs.Reach.{upTo}
 use Rattle.overhang.specs.Overhang.{overhangOf}
 use Rattle.overhang.specs.Sides.{clipGap}
 use Rattle.overhang.proofs.OverhangLaws.{differ, of-places, short, away, shared, free}

@@ -5,7 +5,7 @@ use lib.ListN.{drop}
 use Rattle.lists.specs.Lists.{facing}
 use Rattle.lists.proofs.ListLaws.{length-facing}
 use Rattle.oplist.specs.Ops.{opsOf}
-use Rattle.lookup.specs.Lookup.{upTo}
+use Rattle.overhang.specs.Reach.{upTo}
 use Rattle.overhang.proofs.Mirror.{room-done, room-out, room-turn}
 use borrow.Author.Needs.{needs}
 use native.Mathlib.Omega.{arith}

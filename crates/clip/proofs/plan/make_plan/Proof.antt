@@ -1,4 +1,4 @@
--- The three runs are E, h and s, and each way out is one case of the rule; the lengths fit, since all of them fit together.
+-- Each way out is one case of the rule; the lengths fit, since all of them fit together.
 use Prim.Native.Nat.{ℕ, _+_, _<_, _≤_}
 use mathlib.Core.Path.{_≡_, sym, _∙_}
 use mathlib.Core.List.{List}
@@ -10,7 +10,7 @@ use Rattle.lists.proofs.ListLaws.{length-facing}
 use Rattle.lists.proofs.Sums.{sum-facing}
 use Rattle.sam.specs.Op.{lenOf}
 use Rattle.oplist.specs.Ops.{opsOf}
-use Rattle.clip.proofs.RuleLaws.{taking-fits, clip-none, clip-empty, clips-fit, clip-upgrade, clip-cut}
+use Rattle.clip.proofs.RuleLaws.{taking-fits, clip-none, clip-empty, outer-fits, clip-upgrade, clip-cut}
 use Rattle.clip.proofs.plan.make_plan.Statement.{statement}
 use Rattle.clip.proofs.plan.make_plan.Tie as tie
 
@@ -21,26 +21,26 @@ Xs s = opsOf (s .args .words .now) (s .args .rec .now) (s .args .list)
 abbrev X : tie.Start → List ℕ
 X s = facing (s .args .start) (Xs s)
 
-abbrev start-of : tie.After-run-from3 → tie.Start
-start-of k = k .before .before .before .before .before .before .before .before
+abbrev start-of : tie.After-outer-runs → tie.Start
+start-of k = k .before .before .before .before .before .before .before
 
 long : (s : tie.Start) → length (X s) ≡ length (Xs s)
 long s = length-facing (s .args .start) (Xs s)
 
 -- once the runs are known: what they leave of the total
-fits : (k : tie.After-run-from3) → k .before .run-from2 .result .sum + k .run-from3 .result .sum + sumOf lenOf (drop (k .run-from3 .result .next) (X (start-of k))) < 268435456
+fits : (k : tie.After-outer-runs) → k .outer-runs .result .hard + k .outer-runs .result .soft + sumOf lenOf (drop (k .outer-runs .result .next) (X (start-of k))) < 268435456
 fits k =
     let s = start-of k in
-    let p = clips-fit (k .before .before .run-from .ensures) (k .before .run-from2 .ensures) (k .run-from3 .ensures) in
+    let p = outer-fits (k .before .leading-clips .ensures) (k .outer-runs .ensures) in
     let t = sum-facing lenOf (s .args .start) (Xs s) in
     omega (arith, s .pre)
 
 -- the bases taken are among those
-bases-fit : (t : tie.After-take-bases) → t .take-bases .result .bases ≤ sumOf lenOf (drop (t .before .before .before .before .run-from3 .result .next) (X (start-of (t .before .before .before .before))))
+bases-fit : (t : tie.After-take-bases) → t .take-bases .result .bases ≤ sumOf lenOf (drop (t .before .before .outer-runs .result .next) (X (start-of (t .before .before))))
 bases-fit t = taking-fits (t .take-bases .ensures)
 
-any : (k : tie.After-run-from3) → length (X (start-of k)) ≡ 0 → ⊥
-any k e = k .before .before .before .if2 .left (k .before .before .before .before .count .ensures .0 ∙ sym (long (start-of k)) ∙ e)
+any : (k : tie.After-outer-runs) → length (X (start-of k)) ≡ 0 → ⊥
+any k e = k .before .before .if2 .left (k .before .before .before .count .ensures .0 ∙ sym (long (start-of k)) ∙ e)
 
 unchanged-requires : tie.Need-unchanged-requires
 unchanged-requires c κs = search needs
@@ -65,23 +65,20 @@ returns-2 c = let s = c .before .before .before .before .before .before in
       heads-in = omega arith;
     }
 
-run-from-requires : tie.Need-run-from-requires
-run-from-requires c κs = search needs
+leading-clips-requires : tie.Need-leading-clips-requires
+leading-clips-requires c κs = search needs
 
-run-from-requires-2 : tie.Need-run-from-requires-2
-run-from-requires-2 c κs = search needs
-
-run-from-requires-3 : tie.Need-run-from-requires-3
-run-from-requires-3 c κs = let l = long (c .before .before .before .before .before .before .before) in omega arith
+outer-runs-requires : tie.Need-outer-runs-requires
+outer-runs-requires c κs = search needs
 
 upgrade-requires : tie.Need-upgrade-requires
-upgrade-requires c κs = let f = fits (c .before .before) in omega arith
+upgrade-requires c κs = let f = fits (c .before) in omega arith
 
 returns-3 : tie.Need-returns-3
-returns-3 c = let k = c .before .before .before in
+returns-3 c = let k = c .before .before in
     record {
       cut-is = c .upgrade .ensures .0 (X (start-of k))
-          ∙ clip-upgrade (k .before .before .run-from .ensures) (k .before .run-from2 .ensures) (k .run-from3 .ensures) (start-of k .args .amount) (k .before .before .before .before .before .if1 .left) (any k) (c .before .if3 .taken);
+          ∙ clip-upgrade (k .before .leading-clips .ensures) (k .outer-runs .ensures) (start-of k .args .amount) (k .before .before .before .before .if1 .left) (any k) (c .before .if3 .taken);
       skip-in = omega arith;
       heads-in = c .upgrade .ensures .1 .1;
     }
@@ -90,26 +87,26 @@ sub-take-bases : tie.Need-sub-take-bases
 sub-take-bases c = search needs
 
 take-bases-requires : tie.Need-take-bases-requires
-take-bases-requires c κs = let l = long (start-of (c .before .before .before)) in omega arith
+take-bases-requires c κs = let l = long (start-of (c .before)) in omega arith
 
-add-t11 : tie.Need-add-t11
-add-t11 c = search needs
+add-t10 : tie.Need-add-t10
+add-t10 c = search needs
 
 add-encode-op : tie.Need-add-encode-op
-add-encode-op c = let f = fits (c .before .before .before .before .before .before .before) in omega arith
+add-encode-op c = let f = fits (c .before .before .before .before) in omega arith
 
 add-encode-op-2 : tie.Need-add-encode-op-2
-add-encode-op-2 c = let t = c .before .before .before .before in let f = fits (t .before .before .before .before) in let g = bases-fit t in omega arith
+add-encode-op-2 c = let t = c .before .before .before in let f = fits (t .before .before) in let g = bases-fit t in omega arith
 
 encode-op-requires : tie.Need-encode-op-requires
-encode-op-requires c κs = let t = c .before .before .before .before in let f = fits (t .before .before .before .before) in let g = bases-fit t in omega arith
+encode-op-requires c κs = let t = c .before .before .before in let f = fits (t .before .before) in let g = bases-fit t in omega arith
 
 returns-4 : tie.Need-returns-4
-returns-4 c = let t = c .before .before .before .before .before in
-    let k = t .before .before .before .before in
+returns-4 c = let t = c .before .before .before .before in
+    let k = t .before .before in
     record {
-      cut-is = clip-cut (k .before .before .run-from .ensures) (k .before .run-from2 .ensures) (k .run-from3 .ensures) (start-of k .args .amount) (k .before .before .before .before .before .if1 .left) (any k)
-          (c .encode-op .result) (t .before .before .if3 .left) (t .take-bases .ensures) (c .encode-op .ensures);
+      cut-is = clip-cut (k .before .leading-clips .ensures) (k .outer-runs .ensures) (start-of k .args .amount) (k .before .before .before .before .if1 .left) (any k)
+          (c .encode-op .result) (t .before .if3 .left) (t .take-bases .ensures) (c .encode-op .ensures);
       skip-in = t .take-bases .ensures .next-in;
       heads-in = omega arith;
     }
@@ -123,14 +120,13 @@ make-plan-spec =
     count-requires
     unchanged-requires-2
     returns-2
-    run-from-requires
-    run-from-requires-2
-    run-from-requires-3
+    leading-clips-requires
+    outer-runs-requires
     upgrade-requires
     returns-3
     sub-take-bases
     take-bases-requires
-    add-t11
+    add-t10
     add-encode-op
     add-encode-op-2
     encode-op-requires

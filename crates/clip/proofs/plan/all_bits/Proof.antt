@@ -4,8 +4,8 @@ use native.Mathlib.Omega.{arith}
 use borrow.Author.Needs.{needs}
 use Rattle.oplist.specs.Ops.{opsOf}
 use Rattle.clip.proofs.BitLaws.{Bounded, bits-turn, bits-done}
-use Rattle.clip.proofs.all_bits.Statement.{statement}
-use Rattle.clip.proofs.all_bits.Tie as tie
+use Rattle.clip.proofs.plan.all_bits.Statement.{statement}
+use Rattle.clip.proofs.plan.all_bits.Tie as tie
 
 abbrev Inv-loop : tie.InvT-loop
 Inv-loop words rec list n bits₀ i₀ bits i = (i ≤ n) × Bounded bits i (opsOf words rec list)

@@ -7,8 +7,8 @@ use Rattle.sam.specs.Op.{lenOf}
 use Rattle.oplist.specs.Ops.{opsOf}
 use Rattle.clip.proofs.BitLaws.{sum-within, product-fits}
 use borrow.Author.Needs.{needs}
-use Rattle.clip.proofs.is_too_long.Statement.{statement}
-use Rattle.clip.proofs.is_too_long.Tie as tie
+use Rattle.clip.proofs.plan.is_too_long.Statement.{statement}
+use Rattle.clip.proofs.plan.is_too_long.Tie as tie
 
 count-requires : tie.Need-count-requires
 count-requires c κs = search needs

@@ -8,8 +8,8 @@ use Rattle.lists.specs.Lists.{sumOf}
 use Rattle.lists.proofs.Walks.{sum-step, sum-done}
 use Rattle.sam.specs.Op.{lenOf}
 use Rattle.oplist.specs.Ops.{opsOf}
-use Rattle.clip.proofs.total.Statement.{statement}
-use Rattle.clip.proofs.total.Tie as tie
+use Rattle.clip.proofs.plan.total.Statement.{statement}
+use Rattle.clip.proofs.plan.total.Tie as tie
 
 abbrev Inv-loop : tie.InvT-loop
 Inv-loop words rec list n sum₀ i₀ sum i = (i ≤ n) × (sum ≤ 268435456 * i) × (sum + sumOf lenOf (drop i (opsOf words rec list)) ≡ sumOf lenOf (opsOf words rec list))
