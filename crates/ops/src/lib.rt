@@ -26,7 +26,7 @@ pub enum KindFound {
 }
 
 // An op as a record holds it: its length times 16 plus its code.
-pub struct CigarOp(pub u32);
+pub struct CigarOp(u32);
 
 // An op, or refusal 10.
 pub enum NewOp {
