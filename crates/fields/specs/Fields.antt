@@ -6,7 +6,7 @@ use lib.IntN.{ℤ, pos}
 use lib.ListN.{length, take, drop}
 use lib.Dec.{ltb}
 use Rattle.sam.specs.Record.{opsStart, opCountOf, opsEnd}
-use Rattle.answers.specs.Answers.{Told, answered, refused}
+use Rattle.answers.specs.Answers.{Told, answered, refused, numberOf}
 use Rattle.answers.specs.declared.Refusal.the-variants.{ShortRecord}
 use Rattle.answers.specs.declared.Int.{Int}
 use Rattle.answers.specs.declared.Int.the-variants as Int
@@ -36,3 +36,7 @@ unfoldable pub cigarPart : List ℕ → List ℕ
 cigarPart b =
     cond (ltb (length b) 32) []
     (cond (ltb (length b) (opsEnd b)) [] (take (4 * opCountOf b) (drop (opsStart b) b)))
+
+-- and the number beside it
+unfoldable pub partRefusal : List ℕ → ℕ
+partRefusal b = cond (ltb (length b) 32) (numberOf ShortRecord) 0

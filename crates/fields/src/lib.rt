@@ -2,7 +2,7 @@
 ghost use mathlib.Core.Path.{_≡_};
 ghost use Prim.Native.Nat.{_≤_};
 ghost use Rattle.sam.specs.Record.{int32, refIdOf, posOf, nameLenOf, storedBinOf, opCountOf, flagsOf, seqLenOf, mateRefIdOf, matePosOf, templateLenOf, isPaired, isUnmapped, isMateUnmapped, isReverse, isMateReverse, le16};
-ghost use Rattle.fields.specs.Fields.{intField, natField, cigarPart, cigarArea};
+ghost use Rattle.fields.specs.Fields.{intField, natField, cigarPart, partRefusal, cigarArea};
 use answers::Int;
 use answers::Nat;
 use answers::Refusal;
@@ -22,6 +22,12 @@ pub const MATE_REVERSE: u32 = 32;
 pub enum Area {
     At(u64, u64),
     Refused(Refusal),
+}
+
+// A part of the record, and the refusal's number: 0, or the number that an empty part stands beside.
+pub struct Part<'a> {
+    pub refusal: u32,
+    pub part: &'a [u8],
 }
 
 fn int_field(bam: &[u8], at: usize) -> Int
@@ -140,7 +146,7 @@ pub fn is_mate_reverse(flags: u32) -> bool
     flags / MATE_REVERSE % 2 == 1
 }
 
-// Where the ops of a record lie. Refusal 1.
+// Where the ops of a record lie, as numbers: the static library's call, whose answer holds no reference. Refusal 1.
 pub fn cigar_area(bam: &[u8]) -> Area
     ensures { λ r. ⌜ r ≡ cigarArea (now (bam .entry)) ⌝ }
 {
@@ -154,8 +160,8 @@ pub fn cigar_area(bam: &[u8]) -> Area
     Area::At(list.at as u64, 4 * (list.n as u64))
 }
 
-// The part of the record that holds its ops: an empty part where the area overruns, and beside refusal 1, which `cigar_area` tells.
-pub fn cigar_raw_bytes(bam: &[u8]) -> &[u8]
+// The part of the record that holds its ops: empty where the area overruns, and under 32 bytes.
+fn op_bytes(bam: &[u8]) -> &[u8]
     ensures { λ r. ⌜ now r ≡ cigarPart (now (bam .entry)) ⌝ }
 {
     if bam.len() < 32 {
@@ -168,4 +174,23 @@ pub fn cigar_raw_bytes(bam: &[u8]) -> &[u8]
     let start = list.at;
     let end = start + 4 * (list.n as usize);
     &bam[start..end]
+}
+
+// The number that stands beside that part: 1 under 32 bytes.
+fn part_refusal(bam: &[u8]) -> u32
+    ensures { λ r. ⌜ r ≡ partRefusal (now (bam .entry)) ⌝ }
+{
+    if bam.len() < 32 {
+        return answers::number(Refusal::ShortRecord);
+    }
+    0
+}
+
+// The part of the record that holds its ops: an empty part where the area overruns, and beside refusal 1.
+pub fn cigar_raw_bytes<'a>(bam: &'a [u8]) -> Part<'a>
+    ensures { λ r. ⌜ (r .refusal ≡ partRefusal (now (bam .entry))) × (now (r .part) ≡ cigarPart (now (bam .entry))) ⌝ }
+{
+    let refusal = part_refusal(bam);
+    let part = op_bytes(bam);
+    Part { refusal, part }
 }

@@ -1,3 +1,3 @@
-pub mod Lender
-pub mod Maker
 pub mod Borrower
+pub mod Lender
+pub mod Parts

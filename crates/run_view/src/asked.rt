@@ -5,7 +5,7 @@ use answers::Nat;
 use clip::Clipped;
 use ends::Found1;
 use ends::Place1;
-use fields::Area;
+use fields::Part;
 use lengths::Lengths;
 use view::RawRecordView;
 
@@ -53,12 +53,16 @@ pub fn template_length(bam: &[u8]) -> Int {
     RawRecordView::new(bam).template_length()
 }
 
-pub fn cigar_raw_bytes(bam: &[u8]) -> &[u8] {
+pub fn cigar_raw_bytes<'a>(bam: &'a [u8]) -> Part<'a> {
     RawRecordView::new(bam).cigar_raw_bytes()
 }
 
-pub fn cigar_area(bam: &[u8]) -> Area {
-    RawRecordView::new(bam).cigar_area()
+pub fn part_refusal(bam: &[u8]) -> u32 {
+    cigar_raw_bytes(bam).refusal
+}
+
+pub fn part(bam: &[u8]) -> &[u8] {
+    cigar_raw_bytes(bam).part
 }
 
 pub fn reference_length(bam: &[u8]) -> i32 {

@@ -1,8 +1,7 @@
 // Runs each method of the view on document 01's record, in reverse, unmapped and at the ends of the range, and on short and damaged records. A record has five lines:
-// its fields; its op area and the bytes there; lengths and ends; its text, in 12 places; and its ops clipped at the start by 25, at the end by 5 and by 0, in 3 places.
+// its fields; the part that holds its ops, and the number beside it; lengths and ends; its text, in 12 places; and its ops clipped at the start by 25, at the end by 5 and by 0, in 3 places.
 mod asked;
 
-use fields::Area;
 use shown::record;
 
 // Document 01's record up to its ops, with other numbers in the fields that it does not name: 5S20M2D5M, name `r`, l_seq 30.
@@ -47,18 +46,14 @@ fn more_numbers(bam: &[u8]) {
     shown::end();
 }
 
-fn area(bam: &[u8]) {
-    shown::text(b"  area ");
-    match asked::cigar_area(bam) {
-        Area::At(at, n) => {
-            shown::natural(n);
-            shown::text(b" at ");
-            shown::natural(at);
-        }
-        Area::Refused(why) => shown::refused(why),
-    }
+fn part(bam: &[u8]) {
+    shown::text(b"  part, refusal ");
+    shown::natural(asked::part_refusal(bam) as u64);
+    let bytes = asked::part(bam);
+    shown::text(b", bytes ");
+    shown::natural(bytes.len() as u64);
     shown::text(b":");
-    shown::bytes(asked::cigar_raw_bytes(bam));
+    shown::bytes(bytes);
     shown::end();
 }
 
@@ -100,7 +95,7 @@ fn show(name: &[u8], bam: &[u8]) {
     shown::end();
     numbers(bam);
     more_numbers(bam);
-    area(bam);
+    part(bam);
     sums(bam);
     printed(bam);
     shown::text(b"  clipped ");

@@ -1,4 +1,3 @@
 pub mod Known
 pub mod Lent
-pub mod Thin
 pub mod Shared

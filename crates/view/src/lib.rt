@@ -2,7 +2,7 @@
 ghost use mathlib.Core.Path.{_≡_};
 ghost use Rattle.answers.specs.Settled.{Settled};
 ghost use Rattle.sam.specs.Record.{refIdOf, posOf, nameLenOf, storedBinOf, opCountOf, flagsOf, seqLenOf, mateRefIdOf, matePosOf, templateLenOf};
-ghost use Rattle.fields.specs.Fields.{intField, natField, cigarArea, cigarPart};
+ghost use Rattle.fields.specs.Fields.{intField, natField, partRefusal, cigarPart};
 ghost use Rattle.lengths.specs.Lengths.{refLengthOrZero, recordQueryLength, bothLengths};
 ghost use Rattle.ends.specs.Ends.{unclippedOf, asRust, alignmentStart, alignmentEnd};
 ghost use Rattle.print.specs.Text.{printed};
@@ -13,7 +13,7 @@ use answers::Nat;
 use clip::Clipped;
 use ends::Found1;
 use ends::Place1;
-use fields::Area;
+use fields::Part;
 use lengths::Lengths;
 
 pub struct RawRecordView<'a>(&'a [u8]);
@@ -25,8 +25,8 @@ impl<'a> RawRecordView<'a> {
         RawRecordView(bam)
     }
 
-    pub fn as_bytes(self) -> &'a [u8]
-        ensures { λ r. ⌜ r ≡ self .entry .0 ⌝ }
+    pub fn as_bytes(&self) -> &'a [u8]
+        ensures { λ r. ⌜ r ≡ now (self .entry) .0 ⌝ }
     {
         self.0
     }
@@ -91,18 +91,11 @@ impl<'a> RawRecordView<'a> {
         fields::template_length(self.0)
     }
 
-    // The part of the record that holds its ops: an empty part where they overrun it, and beside refusal 1, which `cigar_area` tells.
-    pub fn cigar_raw_bytes(self) -> &'a [u8]
-        ensures { λ r. ⌜ now r ≡ cigarPart (now (self .entry .0)) ⌝ }
+    // The part of the record that holds its ops: an empty part where they overrun it, and beside refusal 1.
+    pub fn cigar_raw_bytes(&self) -> Part<'a>
+        ensures { λ r. ⌜ (r .refusal ≡ partRefusal (now (now (self .entry) .0))) × (now (r .part) ≡ cigarPart (now (now (self .entry) .0))) ⌝ }
     {
         fields::cigar_raw_bytes(self.0)
-    }
-
-    // Where that part lies. Refusal 1.
-    pub fn cigar_area(&self) -> Area
-        ensures { λ r. ⌜ r ≡ cigarArea (now (now (self .entry) .0)) ⌝ }
-    {
-        fields::cigar_area(self.0)
     }
 
     pub fn reference_length(&self) -> i32
@@ -141,14 +134,14 @@ impl<'a> RawRecordView<'a> {
         ends::unclipped_5prime_from_raw_bam(self.0)
     }
 
-    pub fn cigar_to_string(self, out: &mut [u8]) -> Count
-        ensures { λ r. ⌜ Settled (printed (now (self .entry .0)) (now (out .entry))) r (now (out .exit)) ⌝ }
+    pub fn cigar_to_string(&self, out: &mut [u8]) -> Count
+        ensures { λ r. ⌜ Settled (printed (now (now (self .entry) .0)) (now (out .entry))) r (now (out .exit)) ⌝ }
     {
         print::cigar_to_bytes_into(self.0, out)
     }
 
-    pub fn clip_cigar_ops(self, amount: u64, from_start: bool, out: &mut [u32]) -> Clipped
-        ensures { λ r. ⌜ Settled (clippedRecord (now (self .entry .0)) amount «from_start» (now (out .entry))) r (now (out .exit)) ⌝ }
+    pub fn clip_cigar_ops(&self, amount: u64, from_start: bool, out: &mut [u32]) -> Clipped
+        ensures { λ r. ⌜ Settled (clippedRecord (now (now (self .entry) .0)) amount «from_start» (now (out .entry))) r (now (out .exit)) ⌝ }
     {
         clip::clip_cigar_ops(self.0, amount, from_start, out)
     }

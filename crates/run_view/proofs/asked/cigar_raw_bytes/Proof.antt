@@ -1,9 +1,9 @@
--- `Maker`'s law of `RawRecordView::cigar_raw_bytes`.
+-- `Borrower`'s law of `RawRecordView::cigar_raw_bytes`.
 use Rattle.view.proofs.RawRecordView.cigar_raw_bytes as method
 use Rattle.view.proofs.RawRecordView.cigar_raw_bytes.Met as theorem
 use Rattle.view.proofs.RawRecordView.cigar_raw_bytes.Symbol as symbol
-use Rattle.view.proofs.Thin.{part}
-use Rattle.run_view.proofs.Maker.{asked}
+use Rattle.view.proofs.Shared.{part}
+use Rattle.run_view.proofs.Borrower.{asked}
 use Rattle.run_view.proofs.asked.cigar_raw_bytes.Code as code
 use Rattle.run_view.proofs.asked.cigar_raw_bytes.Key.{name}
 use Rattle.run_view.proofs.asked.cigar_raw_bytes.Statement.{statement}

@@ -5,7 +5,7 @@ use Rattle.answers.proofs.Count.Laws as R′
 use Rattle.view.proofs.RawRecordView.cigar_to_string as method
 use Rattle.view.proofs.RawRecordView.cigar_to_string.Met as theorem
 use Rattle.view.proofs.RawRecordView.cigar_to_string.Symbol as symbol
-use Rattle.view.proofs.Thin.{enum}
+use Rattle.view.proofs.Shared.{enum}
 use Rattle.run_view.proofs.Lender.{prints-asked}
 use Rattle.run_view.proofs.asked.cigar_to_string.Code as code
 use Rattle.run_view.proofs.asked.cigar_to_string.Key.{name}

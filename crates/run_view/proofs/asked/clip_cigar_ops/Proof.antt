@@ -5,7 +5,7 @@ use Rattle.clip.proofs.Clipped.Laws as R′
 use Rattle.view.proofs.RawRecordView.clip_cigar_ops as method
 use Rattle.view.proofs.RawRecordView.clip_cigar_ops.Met as theorem
 use Rattle.view.proofs.RawRecordView.clip_cigar_ops.Symbol as symbol
-use Rattle.view.proofs.Thin.{enum}
+use Rattle.view.proofs.Shared.{enum}
 use Rattle.run_view.proofs.Lender.{clips-asked}
 use Rattle.run_view.proofs.asked.clip_cigar_ops.Code as code
 use Rattle.run_view.proofs.asked.clip_cigar_ops.Key.{name}

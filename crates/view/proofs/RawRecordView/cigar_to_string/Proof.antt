@@ -6,7 +6,7 @@ use Rattle.answers.proofs.Count.Laws as R′
 use Rattle.print.proofs.cigar_to_bytes_into as callee
 use Rattle.print.proofs.cigar_to_bytes_into.Met as theorem
 use Rattle.print.proofs.cigar_to_bytes_into.Symbol as symbol
-use Rattle.view.proofs.Thin.{enum}
+use Rattle.view.proofs.Shared.{enum}
 use Rattle.view.proofs.Lent.{prints}
 use Rattle.view.proofs.RawRecordView.cigar_to_string as method
 use Rattle.view.proofs.RawRecordView.cigar_to_string.Code as code

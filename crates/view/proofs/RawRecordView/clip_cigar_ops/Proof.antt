@@ -6,7 +6,7 @@ use Rattle.clip.proofs.Clipped.Laws as R′
 use Rattle.clip.proofs.clip_cigar_ops as callee
 use Rattle.clip.proofs.clip_cigar_ops.Met as theorem
 use Rattle.clip.proofs.clip_cigar_ops.Symbol as symbol
-use Rattle.view.proofs.Thin.{enum}
+use Rattle.view.proofs.Shared.{enum}
 use Rattle.view.proofs.Lent.{clips}
 use Rattle.view.proofs.RawRecordView.clip_cigar_ops as method
 use Rattle.view.proofs.RawRecordView.clip_cigar_ops.Code as code

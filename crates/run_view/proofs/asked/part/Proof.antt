@@ -1,0 +1,9 @@
+-- `Parts`' law.
+use Rattle.run_view.proofs.Parts.{reads-part}
+use Rattle.run_view.proofs.asked.part.Code as code
+use Rattle.run_view.proofs.asked.part.Key.{name}
+use Rattle.run_view.proofs.asked.part.Statement.{statement}
+
+pub part-spec : {M : Type 1} → statement M
+unfolding code.routine
+part-spec 𝓤 H 𝓜 𝓖 𝓡 = reads-part 𝓤 H 𝓜 𝓖 𝓡 code.env name code.calls-run-view·asked·cigar-raw-bytes (code.unfolded 𝓤 H 𝓜 𝓡)
