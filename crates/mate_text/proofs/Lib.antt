@@ -1,3 +1,4 @@
+pub mod Scanner
 pub mod Digits
 pub mod Steps
 pub mod Scans

@@ -12,7 +12,7 @@ use mir.Val.{Val, vptr, vint, vbool}
 use base.Logic.{id⊢}
 use prog.Model.{Model}
 use prog.Wp.{Heap}
-use contract.Lifetimes.{Lfts, Within}
+use contract.Lifetimes.{Lfts}
 use contract.Running.{Running, GhostRules, givenOf}
 use types.Kit.{raw, _$_, _∵_, !, qed, by, move}
 use types.Part.{agg, whole, sub, look-in}

@@ -36,16 +36,15 @@ use denote.Enum.Declared.{Declared as Variants, row, shape}
 use denote.Enum.Enum.{Few}
 use denote.Enum.Laws as EL
 use denote.Memory.{cellAt, partAt, lone, pointee}
-use denote.Ref.{RefT, NamedLft, ShrRef, ptr-vals, shr-tells}
+use denote.Ref.{RefT, NamedLft, ptr-vals, shr-tells}
 use denote.Signature.{Signature, Slot, plain, shrRefTo, shrSliceOf, namedLft, typeAt, typesAt}
 use denote.Signed.{sint-lawful}
 use denote.Slice.{ShrSlice, sliceVal, sliceTy, shr-slice-lawful}
-use denote.Steps.{looks, shuts, peeks, heard, said, nothing}
+use denote.Steps.{looks, shuts, peeks, heard, said}
 use denote.Struct.Declared.{Declared}
 use denote.Struct.Laws as LL
 use denote.Struct.Rest.{all-own, own-open}
 use denote.Struct.Steps.{spelt}
-use denote.Struct.Values.{Values}
 use denote.Triple.Call.{calls-at}
 use denote.Triple.Entry.{Args, Res, onEntry}
 use denote.Triple.Spec.{Spec, Back, Meets, tripleOf}
