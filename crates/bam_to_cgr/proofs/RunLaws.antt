@@ -1,66 +1,31 @@
--- Whatever sizes the reads have, what a run writes is what the whole stream converts to: turn by turn, whatever follows.
-use Prim.Native.Nat.{ℕ, zero, suc, _+_, _-_, _≤_, _<_}
-use mathlib.Core.Path.{_≡_, refl, sym, ap, _∙_}
-use mathlib.Core.Bool.{Bool, true, false, cond, not, _&&_}
-use mathlib.Core.List.{List, [], _∷_, _++_, append-nil, append-assoc}
+-- Whatever sizes the reads have, what a run has written at its end is what the whole stream converts to: turn by turn, whatever follows.
+use Prim.Native.Nat.{ℕ, _+_, _-_, _≤_, _<_}
+use mathlib.Core.Path.{_≡_, refl, sym, ap, _∙_, subst}
+use mathlib.Core.Bool.{Bool, true, false, cond, _&&_}
+use mathlib.Core.List.{List, [], _++_, append-nil, append-assoc}
 use native.Mathlib.Omega.{arith}
 use lib.Dec.{ltb, eqb}
-use lib.ListN.{length, take, drop, length-append, take-append-drop, List·getD-append}
-use lib.Seq.{take-take, drop-at, take-nil, drop-nil}
-use borrow.Author.Tests.{le-ltb, ltb-true, ltb-false}
+use lib.ListN.{length, take, drop, length-append, length-take, length-drop, List·getD-append}
+use lib.Seq.{drop-append-le, length-take-le}
+use borrow.Author.Tests.{le-ltb, ltb-false}
+use Rattle.lists.proofs.Walks.{done}
 use Rattle.sam.specs.Record.{byteAt}
-use Rattle.bam_header.specs.Header.{Head, Head.Records, Head.CutShort, isBam, number, texted, headOf}
+use Rattle.blocks.specs.Fill.{Gathers, First}
+use Rattle.blocks.specs.declared.Read.{Read}
+use Rattle.blocks.proofs.BlockLaws.{drop-take, fill-behind, fill-grows, gathered}
+use Rattle.bam_header.specs.Header.{Head, Head.Records, Head.CutShort, isBam, texted, headOf}
 use Rattle.bam_header.specs.Inner.{fromPlace, isBegun}
+use Rattle.bam_header.specs.declared.Place.{Place}
 use Rattle.bam_header.proofs.HeadLaws.{begun-records}
-use Rattle.bam_to_cgr.specs.Converted.{converted}
-use Rattle.bam_to_cgr.specs.Turns.{Turned}
-use Rattle.bam_to_cgr.specs.Run.{left, given, Ran, Ran.starts, Ran.turns}
+use Rattle.frames.specs.Stream.{Prints}
+use Rattle.bam_to_cgr.specs.Converted.{cgrMark, converted, Reported}
+use Rattle.bam_to_cgr.specs.Run.{left, Turned, given, behindOf, dueOf, relievedOf, begun, Ran, Ran.starts, Ran.turns, Came, Wrote, Wrote.ended, Wrote.refused}
 use Rattle.bam_to_cgr.specs.declared.State.{State}
+use Rattle.bam_to_cgr.proofs.ConvertedLaws.{reported}
 
--- ---- one turn
+-- ---- the magic
 
-pub drop-take : (u h : ℕ) (b : List ℕ) → drop u (take h b) ≡ take (h - u) (drop u b)
-drop-take zero h b = ap (λ (k : ℕ). take k b) {x = h} {y = h - 0} (omega arith)
-drop-take (suc u) zero b = sym (ap (λ (k : ℕ). take k (drop (suc u) b)) {x = 0 - suc u} {y = 0} (omega arith))
-drop-take (suc u) (suc h) [] = sym (take-nil (suc h - suc u))
-drop-take (suc u) (suc h) (x ∷ b) = drop-take u h b ∙ ap (λ (k : ℕ). take k (drop u b)) {x = h - u} {y = suc h - suc u} (omega arith)
-
--- what is left, and what is read behind it, is at hand
-left-first : {s r : State} {block block' : List ℕ} → Turned s block r block' → take (r .have) block' ≡ left s block ++ given s r block'
-left-first {s} {r} {block} {block'} t =
-    sym (take-append-drop (s .have - s .used) (take (r .have) block'))
-    ∙ ap (λ (l : List ℕ). l ++ given s r block') (take-take (s .have - s .used) (r .have) block' (t .grows) ∙ t .kept ∙ sym (drop-take (s .used) (s .have) block))
-
--- ---- turn after turn
-
--- whatever follows, what was read comes to what the bytes that are left come to from the place reached
-pub so-far : {read block : List ℕ} {s : State} → Ran read s block → (ys : List ℕ) → texted (read ++ ys) ≡ fromPlace (s .place) (left s block ++ ys)
-so-far {block = block} {s} (starts b) ys = sym (b .next ys) ∙ ap (λ (l : List ℕ). fromPlace (s .place) (l ++ ys)) (sym (ap (λ (k : ℕ). drop (s .used) (take k block)) (b .none) ∙ drop-nil (s .used)))
-so-far (turns {read} {block} {block'} {s} {r} ran t) ys =
-    ap texted (append-assoc read (given s r block') ys)
-    ∙ so-far ran (given s r block' ++ ys)
-    ∙ ap (fromPlace (s .place)) (sym (append-assoc (left s block) (given s r block') ys) ∙ ap (λ (l : List ℕ). l ++ ys) (sym (left-first t)))
-    ∙ t .went .gone .same ys
-
--- where the records begin: the bytes that are left, and what follows
-pub begins : {read block : List ℕ} {s : State} → Ran read s block → isBegun (s .place) ≡ true → (ys : List ℕ) → texted (read ++ ys) ≡ Records (left s block ++ ys)
-begins {block = block} {s} ran e ys = so-far ran ys ∙ begun-records (s .place) (left s block ++ ys) e
-
--- where they don't, and nothing follows
-pub cut : {read block : List ℕ} {s : State} → Ran read s block → isBegun (s .place) ≡ false → texted read ≡ Head.CutShort
-unfolding texted number
-cut (starts b) e = refl
-cut (turns {read} {block} {block'} {s} {r} ran t) e = so-far ran (given s r block') ∙ ap (fromPlace (s .place)) (sym (left-first t)) ∙ t .went .ends e
-
--- going on says that they don't
-pub not-yet : (a b : Bool) → cond a false (not b) ≡ true → b ≡ false
-not-yet true b e = let z : _≡_ {A = ℕ} 0 1 = cc in absurd (omega arith)
-not-yet false true e = let z : _≡_ {A = ℕ} 0 1 = cc in absurd (omega arith)
-not-yet false false e = refl
-
--- ---- a whole stream
-
--- the magic is told by the first four bytes
+-- it is told by the first four bytes
 same-magic : (first ys : List ℕ) → 4 ≤ length first → isBam (first ++ ys) ≡ isBam first
 unfolding isBam
 same-magic first ys h =
@@ -74,7 +39,7 @@ same-magic first ys h =
       List·getD-append first ys 0 3 (omega arith),
     )
 
-long : (first : List ℕ) → isBam first ≡ true → 4 ≤ length first
+pub long : (first : List ℕ) → isBam first ≡ true → 4 ≤ length first
 unfolding isBam
 long first e = go (ltb (length first) 4) refl e
   where
@@ -82,24 +47,203 @@ long first e = go (ltb (length first) 4) refl e
     go true p f = let z : _≡_ {A = ℕ} 0 1 = cc in absurd (omega arith)
     go false p f = ltb-false (length first) 4 p
 
-head-is : (first ys : List ℕ) → length first ≤ 4 → isBam first ≡ true → headOf (first ++ ys) ≡ texted ys
+head-is : (first ys : List ℕ) → isBam first ≡ true → headOf (first ++ ys) ≡ texted (drop 4 first ++ ys)
 unfolding headOf
-head-is first ys h m =
-    let k = long first m in
-    simp (same-magic first ys k, m, drop-at first ys 4 (omega arith))
+head-is first ys m = let k = long first m in simp (same-magic first ys k, m, drop-append-le 4 first ys k)
 
--- What is written of a stream: its first bytes are `first`, four of them unless it is shorter, the turns read on, and the rest is passed on.
-pub converts : {read block : List ℕ} {s : State} (first passed : List ℕ) → length first ≤ 4 → isBam first ≡ true → Ran read s block → isBegun (s .place) ≡ true
-    → converted (headOf (first ++ (read ++ passed))) ≡ 67 ∷ 71 ∷ 82 ∷ 1 ∷ 0 ∷ (left s block ++ passed)
-converts {read} first passed h m ran e = ap converted (head-is first (read ++ passed) h m ∙ begins ran e passed)
-
-pub cut-short : {read block : List ℕ} {s : State} (first : List ℕ) → length first ≤ 4 → isBam first ≡ true → Ran read s block → isBegun (s .place) ≡ false → converted (headOf (first ++ read)) ≡ []
-cut-short {read} first h m ran e = ap converted (head-is first read h m ∙ cut ran e)
-
-pub not-bam : (first ys : List ℕ) → (length first < 4 → ys ≡ []) → isBam first ≡ false → converted (headOf (first ++ ys)) ≡ []
+-- of another stream
+other : (first ys : List ℕ) → isBam (first ++ ys) ≡ false → converted (headOf (first ++ ys)) ≡ []
 unfolding headOf
-not-bam first ys none m = simp (go (ltb (length first) 4) refl, m)
+other first ys m = simp m
+
+-- ---- one turn
+
+module _ {s r : State} {block block' : List ℕ} (t : Turned s block r block') where
+  -- what was left, and what is read behind it, is at hand
+  left-first : take (r .have) block' ≡ left s block ++ given s r block'
+  left-first = fill-behind (t .filled) ∙ ap (λ (l : List ℕ). l ++ given s r block') (t .front ∙ sym (drop-take (s .used) (s .have) block))
+
+  -- in the head: whatever follows, the rest comes to the same from the place reached
+  head-on : (ys : List ℕ) → fromPlace (s .place) (left s block ++ (given s r block' ++ ys)) ≡ fromPlace (r .place) (left r block' ++ ys)
+  head-on ys =
+      ap (fromPlace (s .place)) (sym (append-assoc (left s block) (given s r block') ys) ∙ ap (λ (l : List ℕ). l ++ ys) (sym left-first))
+      ∙ t .went .gone .same ys
+
+  -- behind it all that is read is left
+  all-left : isBegun (s .place) ≡ true → left s block ≡ [] → (isBegun (r .place) ≡ true) × (left r block' ≡ given s r block')
+  all-left b none = go (isBegun (r .place)) refl
+    where
+      hand : take (r .have) block' ≡ given s r block'
+      hand = left-first ∙ ap (λ (l : List ℕ). l ++ given s r block') none
+
+      all : (c : Bool) → isBegun (r .place) ≡ c → c ≡ true → left r block' ≡ given s r block'
+      all c e f =
+          let p : Records (take (r .have) block' ++ []) ≡ Records (left r block' ++ []) = sym (begun-records (s .place) (take (r .have) block' ++ []) b) ∙ t .went .begins (e ∙ f) [] in
+          let q : take (r .have) block' ++ [] ≡ left r block' ++ [] = cc in
+          sym (append-nil (left r block')) ∙ sym q ∙ append-nil (take (r .have) block') ∙ hand
+
+      go : (c : Bool) → isBegun (r .place) ≡ c → (isBegun (r .place) ≡ true) × (left r block' ≡ given s r block')
+      go true e = (e, all true e refl)
+      go false e =
+          let p : Records (take (r .have) block') ≡ CutShort = sym (begun-records (s .place) (take (r .have) block') b) ∙ t .went .ends e in
+          let z : _≡_ {A = ℕ} 0 1 = cc in absurd (omega arith)
+
+-- the state behind the writes
+relieved-begun : (r : State) → isBegun (r .place) ≡ true → relievedOf r ≡ record { place = r .place; have = r .have; used = r .have; failed = r .failed; ended = r .ended; marked = true }
+relieved-begun r e = simp e
+
+-- by one write or two
+pub behind-mark : (s : State) → s .marked ≡ false → behindOf s ≡ record { place = s .place; have = s .have; used = s .used; failed = s .failed; ended = s .ended; marked = true }
+behind-mark s m = simp m
+
+pub behind-left : (s : State) → s .marked ≡ true → isBegun (s .place) ≡ true → behindOf s ≡ relievedOf s
+behind-left s m e = simp (m, e)
+
+pub behind-both : (s : State) → isBegun (s .place) ≡ true → behindOf (behindOf s) ≡ relievedOf s
+behind-both s e = simp e
+
+pub relieved-not : (r : State) → isBegun (r .place) ≡ false → relievedOf r ≡ r
+relieved-not r e = simp e
+
+-- ---- turn after turn
+
+-- In the head nothing is written, and whatever follows the stream comes to what the bytes that are left come to from the place reached; behind it all records so far are written.
+data Stands (read written : List ℕ) (s : State) (block : List ℕ) : Type 0 where
+  inside : written ≡ [] → s .marked ≡ false → ((ys : List ℕ) → headOf (read ++ ys) ≡ fromPlace (s .place) (left s block ++ ys)) → (s .ended ≡ true → headOf read ≡ CutShort) → Stands read written s block
+  behind : (records : List ℕ) → written ≡ cgrMark ++ records → s .marked ≡ true → isBegun (s .place) ≡ true → left s block ≡ [] → ((ys : List ℕ) → headOf (read ++ ys) ≡ Records (records ++ ys))
+      → Stands read written s block
+
+none-left : (h : ℕ) (block : List ℕ) → drop h (take h block) ≡ []
+none-left h block = done (take h block) h (simp length-take (omega arith))
+
+module _ (read : List ℕ) {written block block' : List ℕ} {s r : State} (t : Turned s block r block') where
+  -- a turn in the head
+  from-inside : written ≡ [] → s .marked ≡ false → ((ys : List ℕ) → headOf (read ++ ys) ≡ fromPlace (s .place) (left s block ++ ys)) → Stands (read ++ given s r block') (written ++ dueOf r block') (relievedOf r) block'
+  from-inside w m h = go (isBegun (r .place)) refl
+    where
+      on : (ys : List ℕ) → headOf (read ++ given s r block' ++ ys) ≡ fromPlace (r .place) (left r block' ++ ys)
+      on ys = ap headOf (append-assoc read (given s r block') ys) ∙ h (given s r block' ++ ys) ∙ head-on t ys
+
+      cut : isBegun (r .place) ≡ false → headOf (read ++ given s r block') ≡ CutShort
+      cut e = h (given s r block') ∙ ap (fromPlace (s .place)) (sym (left-first t)) ∙ t .went .ends e
+
+      due : isBegun (r .place) ≡ true → dueOf r block' ≡ cgrMark ++ left r block'
+      due e = simp (e, t .same ∙ m)
+
+      go : (b : Bool) → isBegun (r .place) ≡ b → Stands (read ++ given s r block') (written ++ dueOf r block') (relievedOf r) block'
+      go true e =
+          subst (λ (q : State). Stands (read ++ given s r block') (written ++ dueOf r block') q block') (sym (relieved-begun r e))
+          (behind (left r block') (ap (λ (l : List ℕ). l ++ dueOf r block') w ∙ due e) refl e (none-left (r .have) block') (λ ys. on ys ∙ begun-records (r .place) (left r block' ++ ys) e))
+      go false e =
+          subst (λ (q : State). Stands (read ++ given s r block') (written ++ dueOf r block') q block') (sym (relieved-not r e))
+          (inside (ap (λ (l : List ℕ). l ++ dueOf r block') w ∙ simp e) (t .same ∙ m) on (λ f. cut e))
+
+  -- a turn behind it
+  from-behind : (records : List ℕ) → written ≡ cgrMark ++ records → s .marked ≡ true → isBegun (s .place) ≡ true → left s block ≡ [] → ((ys : List ℕ) → headOf (read ++ ys) ≡ Records (records ++ ys))
+      → Stands (read ++ given s r block') (written ++ dueOf r block') (relievedOf r) block'
+  from-behind records w m b none h =
+      let a = all-left t b none in
+      let d : dueOf r block' ≡ given s r block' = simp (a .0, t .same ∙ m) (a .1) in
+      subst (λ (q : State). Stands (read ++ given s r block') (written ++ dueOf r block') q block') (sym (relieved-begun r (a .0)))
+      (behind (records ++ given s r block')
+      (ap (λ (l : List ℕ). l ++ dueOf r block') w ∙ ap (λ (l : List ℕ). cgrMark ++ records ++ l) d ∙ append-assoc cgrMark records (given s r block'))
+      refl (a .0) (none-left (r .have) block')
+      (λ ys. ap headOf (append-assoc read (given s r block') ys) ∙ h (given s r block' ++ ys) ∙ ap Records (sym (append-assoc records (given s r block') ys))))
+
+stands : {read written block : List ℕ} {s : State} → Ran read written s block → Stands read written s block
+stands (starts {read} {block} {r} {p} g m next) =
+    inside refl refl
+    (λ ys. ap (λ (l : List ℕ). headOf (l ++ ys)) (sym (gathered g)) ∙ head-is (take (r .have) block) ys m ∙ sym (next (drop 4 (take (r .have) block) ++ ys)))
+    (λ e. let z : _≡_ {A = ℕ} 0 1 = cc in absurd (omega arith))
+stands (turns {read} {written} {block} {block'} {s} {r} ran on t) = go (stands ran)
   where
-    go : (b : Bool) → ltb (length first) 4 ≡ b → isBam (first ++ ys) ≡ isBam first
-    go true p = ap isBam (ap (λ (l : List ℕ). first ++ l) (none (ltb-true (length first) 4 p)) ∙ append-nil first)
-    go false p = same-magic first ys (ltb-false (length first) 4 p)
+    go : Stands read written s block → Stands (read ++ given s r block') (written ++ dueOf r block') (relievedOf r) block'
+    go (inside w m h c) = from-inside read t w m h
+    go (behind records w m b none h) = from-behind read t records w m b none h
+
+-- ---- a whole stream
+
+ends : {read written block : List ℕ} {s : State} → Stands read written s block → s .ended ≡ true → converted (headOf read) ≡ written
+ends (inside w m h c) e = ap converted (c e) ∙ sym w
+ends {read} (behind records w m b none h) e = ap (λ (l : List ℕ). converted (headOf l)) (sym (append-nil read)) ∙ ap converted (h []) ∙ ap (λ (l : List ℕ). cgrMark ++ l) (append-nil records) ∙ sym w
+
+-- what is written of a stream is what it converts to
+pub converts : {stream written : List ℕ} → Wrote stream written → converted (headOf stream) ≡ written
+converts (ended ran e) = ends (stands ran) e
+converts (refused {block} {r} ys f m none) = other (f .read) ys (go (r .none) refl ∙ same)
+  where
+    same : isBam (f .read) ≡ false
+    same = ap isBam (sym (gathered (f .gathers))) ∙ m
+
+    size : length (f .read) ≡ r .have
+    size = ap length (sym (gathered (f .gathers))) ∙ length-take-le (r .have) block (f .within)
+
+    go : (b : Bool) → r .none ≡ b → isBam (f .read ++ ys) ≡ isBam (f .read)
+    go true e = ap isBam (ap (λ (l : List ℕ). f .read ++ l) (none e) ∙ append-nil (f .read))
+    go false e = same-magic (f .read) ys (omega (arith, size, f .enough e))
+
+-- and what `report` prints of that is what is printed of the stream's records
+pub together : {stream written : List ℕ} (t : List ℕ) → Wrote stream written → Prints written t → Reported (headOf stream) t
+together {stream} t w p = reported (headOf stream) t (subst (λ (l : List ℕ). Prints l t) (sym (converts w)) p)
+
+-- ---- the turns are counted
+
+-- the program is under way, after so many turns
+pub record Along (turns : ℕ) (s : State) (block : List ℕ) : Type 0 where
+  pub read : List ℕ
+  pub written : List ℕ
+  pub ran : Ran read written s block
+  pub on : s .ended ≡ false
+  pub paid : turns ≤ length read
+  pub within : s .used ≤ s .have
+  pub fits : s .have ≤ 65536
+  pub room : s .have < s .used + 65536
+
+pub along-start : {r : Read} {p : Place} {block : List ℕ} (f : First 4 r block) → r .have ≤ 65536 → isBam (take (r .have) block) ≡ true → ((ys : List ℕ) → fromPlace p ys ≡ texted ys)
+    → Along 0 (begun p (r .have)) block
+along-start {r} {block = block} f h m next =
+    let l = long (take (r .have) block) m in
+    let k = length-take-le (r .have) block (f .within) in
+    record { read = f .read; written = []; ran = starts (f .gathers) m next; on = refl; paid = omega arith; within = omega arith; fits = h; room = omega arith }
+
+-- the writes leave the rest of the state as it was, and room for a read
+record Relieved (r q : State) : Type 0 where
+  ended : q .ended ≡ r .ended
+  have : q .have ≡ r .have
+  within : q .used ≤ q .have
+  room : q .have < q .used + 65536
+
+relieved : (r : State) (block : List ℕ) → (isBegun (r .place) ≡ false → length (take (r .have) block) < r .used + 4) → r .used ≤ r .have → r .have ≤ length block → Relieved r (relievedOf r)
+relieved r block short low high = go (isBegun (r .place)) refl
+  where
+    go : (b : Bool) → isBegun (r .place) ≡ b → Relieved r (relievedOf r)
+    go true e = subst (λ (q : State). Relieved r q) (sym (relieved-begun r e)) (record { ended = refl; have = refl; within = omega arith; room = omega arith })
+    go false e = subst (λ (q : State). Relieved r q) (sym (relieved-not r e)) (record { ended = refl; have = refl; within = low; room = omega (arith, short e, length-take-le (r .have) block high) })
+
+module _ {s s₁ s₂ : State} {block block₁ : List ℕ} (n : ℕ) (a : Along n s block) (t : Turned s block s₁ block₁) (e : s₂ ≡ relievedOf s₁) (low : s₁ .used ≤ s₁ .have) (high : s₁ .have ≤ 65536) (within : s₁ .have ≤ length block₁) where
+  pub along-on : s₂ .ended ≡ false → Along (n + 1) s₂ block₁
+  along-on on =
+      let k : Relieved s₁ s₂ = subst (λ (q : State). Relieved s₁ q) (sym e) (relieved s₁ block₁ (t .went .short) low within) in
+      let g = fill-grows (t .filled) (sym (k .ended) ∙ on) in
+      let l : length (given s s₁ block₁) ≡ s₁ .have - (s .have - s .used) =
+      length-drop (s .have - s .used) (take (s₁ .have) block₁) ∙ ap (λ (i : ℕ). i - (s .have - s .used)) (length-take-le (s₁ .have) block₁ within) in record {
+        read = a .read ++ given s s₁ block₁;
+        written = a .written ++ dueOf s₁ block₁;
+        ran = subst (λ (q : State). Ran (a .read ++ given s s₁ block₁) (a .written ++ dueOf s₁ block₁) q block₁) (sym e) (turns (a .ran) (a .on) t);
+        on = on;
+        paid = simp length-append (omega (arith, a .paid));
+        within = k .within;
+        fits = omega (arith, k .have);
+        room = k .room;
+      }
+
+  pub along-off : s₂ .ended ≡ true → Came s₂ block₁
+  along-off off = record {
+    read = a .read ++ given s s₁ block₁;
+    written = a .written ++ dueOf s₁ block₁;
+    ran = subst (λ (q : State). Ran (a .read ++ given s s₁ block₁) (a .written ++ dueOf s₁ block₁) q block₁) (sym e) (turns (a .ran) (a .on) t);
+    last = λ h. let z : _≡_ {A = ℕ} 0 1 = cc in absurd (omega arith);
+  }
+
+pub along-last : {s : State} {block : List ℕ} (n : ℕ) → 140737488355328 ≤ n → Along n s block → Came s block
+along-last n h a = record { read = a .read; written = a .written; ran = a .ran; last = λ e. omega (arith, a .paid) }

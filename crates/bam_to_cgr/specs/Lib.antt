@@ -1,3 +1,2 @@
 pub mod Converted
-pub mod Turns
 pub mod Run

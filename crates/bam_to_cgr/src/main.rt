@@ -1,69 +1,64 @@
-// Standard input is an uncompressed BAM stream; its records are written as the stream that `report` takes, behind the mark CGR. Where the records begin is said by the
-// crate `bam_header`; this only reads and writes, in blocks. What is wrong is said in words on standard error, and a head that is damaged leaves standard output empty.
+// Standard input is an uncompressed BAM stream; its records are written as the stream that `report` takes, behind the mark CGR. Where the records begin is said by the crate `bam_header`, and
+// specs/Run.antt says what the turns come to: this reads and writes, in blocks. What is wrong is said in words on standard error, and a head that is damaged leaves standard output empty.
 ghost use mathlib.Core.Path.{_≡_};
-ghost use mathlib.Core.Bool.{true, false, cond, not};
-ghost use mathlib.Core.List.{List, _++_};
-ghost use Prim.Native.Nat.{ℕ, _+_, _≤_, _<_};
-ghost use lib.Dec.{eqb};
+ghost use mathlib.Core.Bool.{true, false};
+ghost use Prim.Native.Nat.{_+_, _≤_, _<_};
 ghost use lib.ListN.{length, take};
-ghost use Rattle.bam_header.specs.Header.{Head.Records};
-ghost use Rattle.bam_to_cgr.specs.Converted.{converted};
-ghost use Rattle.io.specs.Counts.{clamped};
-ghost use Rattle.bam_to_cgr.specs.Turns.{Turned};
-ghost use Rattle.bam_to_cgr.specs.Run.{left, Came};
+ghost use Rattle.blocks.specs.Fill.{First};
+ghost use Rattle.bam_header.specs.Header.{isBam};
 ghost use Rattle.bam_header.specs.Inner.{isBegun};
+ghost use Rattle.bam_to_cgr.specs.Converted.{cgrMark};
+ghost use Rattle.bam_to_cgr.specs.Run.{Turned, partOf, behindOf, relievedOf, Came, wordOf, lackOf};
+ghost use Rattle.bam_to_cgr.specs.declared.Word.the-variants.{NotBam};
 use bam_header::Place;
+use blocks::Read;
 
 // No stream takes so many turns; each reads at least a byte.
 const MOST_TURNS: u64 = 140737488355328;
 
-// Where a head was left: the place, the bytes at hand, how many of them are used, and whether to read on.
+// Where a stream was left: the place in its head, the bytes at hand and how many of them are used, whether a read failed or gave none, and whether the mark is written.
 struct State {
     place: Place,
     have: usize,
     used: usize,
-    going: bool,
+    failed: bool,
+    ended: bool,
+    marked: bool,
+}
+
+// The state behind a write, and whether it went well.
+struct Behind {
+    state: State,
+    ok: bool,
+}
+
+// What is said at the end on standard error.
+enum Word {
+    Nothing,
+    NotBam,
+    HeadCut,
+    Unread,
+    Unwritten,
 }
 
 // The mark and version that `report` looks for.
 fn mark() -> [u8; 5]
-    ensures { λ r. ⌜ ((s : List ℕ) → r ++ s ≡ converted (Records s)) ⌝ }
+    ensures { λ r. ⌜ r ≡ cgrMark ⌝ }
 {
     [b'C', b'G', b'R', 1, 0]
 }
 
-// Reads behind the bytes that are left; how many are at hand then.
-fn refill(block: &mut [u8], left: usize) -> usize
-    requires { ⌜ 65536 ≡ length (now block) ⌝ }
-    requires { ⌜ left ≤ 65536 ⌝ }
-    ensures { λ r. ⌜ (left ≤ r) × (r ≤ 65536) ⌝ }
-    ensures { λ _. ⌜ take left (now (block .exit)) ≡ take left (now (block .entry)) ⌝ }
-{
-    let part = &mut block[left..];
-    let got = libc::read(0, part);
-    left + io::count(got, part)
-}
-
-// Whether a head goes on: something was read, and the records don't begin yet.
-fn goes_on(place: Place, left: usize, have: usize) -> bool
-    ensures { λ r. ⌜ r ≡ cond (eqb left have) false (not (isBegun place)) ⌝ }
-{
-    if left == have {
-        return false;
-    }
-    !bam_header::begun(place)
-}
-
-// One block of a head: reads behind the bytes that are left, under four, and goes as far as they go.
+// Reads behind the bytes that are left, and goes as far in the head as they go; where the records begin none of them is used.
 fn turn(s: State, block: &mut [u8]) -> State
     requires { ⌜ 65536 ≡ length (now block) ⌝ }
-    requires { ⌜ (s .used ≤ s .have) × (s .have ≤ 65536) × (s .have < s .used + 4) ⌝ }
-    ensures { λ r. ⌜ (r .used ≤ r .have) × (r .have ≤ 65536) × (r .going ≡ true → r .have < r .used + 4) ⌝ }
+    requires { ⌜ (s .used ≤ s .have) × (s .have ≤ 65536) × (s .have < s .used + 65536) ⌝ }
+    ensures { λ r. ⌜ (r .used ≤ r .have) × (r .have ≤ 65536) ⌝ }
     ensures { λ r. ⌜ Turned s (now (block .entry)) r (now (block .exit)) ⌝ }
 {
     let left = s.have - s.used;
-    frames::shift(block, s.used, s.have);
-    let have = refill(block, left);
+    blocks::shift(block, s.used, s.have);
+    let read = blocks::fill(block, left);
+    let have = read.have;
     let place = s.place;
     let step = bam_header::read_on(&block[..have], place);
     let behind = step.place;
@@ -71,113 +66,168 @@ fn turn(s: State, block: &mut [u8]) -> State
         place: behind,
         have: have,
         used: step.used,
-        going: goes_on(behind, left, have),
+        failed: read.failed,
+        ended: read.none,
+        marked: s.marked,
     }
 }
 
-// Reads to the end of the head, or of the stream.
-fn head(block: &mut [u8]) -> State
+// The state behind the write of what is due first.
+fn behind_part(s: State) -> State
+    ensures { λ r. ⌜ r ≡ behindOf s ⌝ }
+{
+    let place = s.place;
+    let mut used = s.used;
+    if s.marked {
+        used = s.have;
+    }
+    State {
+        place: place,
+        have: s.have,
+        used: used,
+        failed: s.failed,
+        ended: s.ended,
+        marked: true,
+    }
+}
+
+// Hands over what is due first, the mark or what is left behind it; the state behind it comes from here alone.
+fn write(s: State, block: &[u8], part: &[u8]) -> Behind
+    requires { ⌜ isBegun (s .place) ≡ true ⌝ }
+    requires { ⌜ now part ≡ partOf s (now block) ⌝ }
+    ensures { λ r. ⌜ r .state ≡ behindOf s ⌝ }
+{
+    let ok = io::write_all(1, part);
+    let state = behind_part(s);
+    Behind {
+        state: state,
+        ok: ok,
+    }
+}
+
+// What is left, behind the mark.
+fn write_left(s: State, block: &[u8]) -> Behind
+    requires { ⌜ isBegun (s .place) ≡ true ⌝ }
+    requires { ⌜ s .marked ≡ true ⌝ }
+    requires { ⌜ (s .used ≤ s .have) × (s .have ≤ length (now block)) ⌝ }
+    ensures { λ r. ⌜ r .state ≡ behindOf s ⌝ }
+{
+    let used = s.used;
+    let have = s.have;
+    write(s, block, &block[used..have])
+}
+
+// All that is due: nothing in the head; the mark, once, and what is left.
+fn write_due(s: State, block: &[u8]) -> Behind
+    requires { ⌜ (s .used ≤ s .have) × (s .have ≤ length (now block)) ⌝ }
+    ensures { λ r. ⌜ (r .ok ≡ true → r .state ≡ relievedOf s) ⌝ }
+{
+    let place = s.place;
+    if !bam_header::begun(place) {
+        return Behind { state: s, ok: true };
+    }
+    if s.marked {
+        return write_left(s, block);
+    }
+    let first = write(s, block, &mark());
+    if !first.ok {
+        return first;
+    }
+    let marked = first.state;
+    write_left(marked, block)
+}
+
+// A stream that begins with the magic, of which the first bytes are at hand.
+fn convert(first: Read, block: &mut [u8]) -> Behind
     requires { ⌜ 65536 ≡ length (now block) ⌝ }
-    ensures { λ r. ⌜ (r .used ≤ r .have) × (r .have ≤ 65536) ⌝ }
-    ensures { λ r. ⌜ Came r (now (block .exit)) ⌝ }
+    requires { ⌜ First 4 first (now block) × (isBam (take (first .have) (now block)) ≡ true) ⌝ }
+    ensures { λ r. ⌜ (r .ok ≡ true → Came (r .state) (now (block .exit))) ⌝ }
 {
     let start = bam_header::start();
     let mut s = State {
         place: start,
-        have: 0,
-        used: 0,
-        going: true,
+        have: first.have,
+        used: 4,
+        failed: false,
+        ended: false,
+        marked: false,
     };
     let mut turns: u64 = 0;
     while turns < MOST_TURNS {
         s = turn(s, block);
-        if !s.going {
-            return s;
+        let behind = write_due(s, block);
+        if !behind.ok {
+            return behind;
+        }
+        s = behind.state;
+        if s.ended {
+            return behind;
         }
         turns += 1;
     }
-    s
+    Behind { state: s, ok: true }
 }
 
-// Hands over what the head left.
-fn write_left(s: State, block: &[u8], part: &[u8]) -> bool
-    requires { ⌜ isBegun (s .place) ≡ true ⌝ }
-    requires { ⌜ now part ≡ left s (now block) ⌝ }
+// The word for a write or a read that failed, or else for what the stream lacks.
+fn end_word(ok: bool, failed: bool, lack: Word) -> Word
+    ensures { λ r. ⌜ r ≡ wordOf ok failed lack ⌝ }
 {
-    io::write_all(1, part)
-}
-
-fn pass_left(s: State, block: &[u8]) -> bool
-    requires { ⌜ isBegun (s .place) ≡ true ⌝ }
-    requires { ⌜ (s .used ≤ s .have) × (s .have ≤ length (now block)) ⌝ }
-{
-    let used = s.used;
-    let have = s.have;
-    write_left(s, block, &block[used..have])
-}
-
-// Hands over what a read gave.
-fn write_given(got: isize, block: &[u8], part: &[u8]) -> bool
-    requires { ⌜ now part ≡ take (clamped got (length (now block))) (now block) ⌝ }
-{
-    io::write_all(1, part)
-}
-
-fn pass_given(got: isize, block: &[u8]) -> bool {
-    let n = io::count(got, block);
-    if n == 0 {
-        return false;
+    if !ok {
+        return Word::Unwritten;
     }
-    write_given(got, block, &block[..n])
-}
-
-// One block of records, as it is; whether more may follow.
-fn pass(block: &mut [u8]) -> bool {
-    let got = libc::read(0, block);
-    if got < 0 {
-        io::write_all(2, b"bam_to_cgr: the input can't be read to its end\n");
-        return false;
+    if failed {
+        return Word::Unread;
     }
-    pass_given(got, block)
+    lack
 }
 
-// The rest of the stream, as it is.
-fn pass_on(block: &mut [u8]) {
-    let mut turns: u64 = 0;
-    while turns < MOST_TURNS {
-        if !pass(block) {
-            return;
-        }
-        turns += 1;
-    }
-}
-
-// The stream behind its magic.
-fn convert(block: &mut [u8])
-    requires { ⌜ 65536 ≡ length (now block) ⌝ }
+// What a stream with the magic lacks at its end.
+fn lack(s: State) -> Word
+    ensures { λ r. ⌜ r ≡ lackOf s ⌝ }
 {
-    let s = head(block);
     let place = s.place;
-    if !bam_header::begun(place) {
-        io::write_all(2, b"bam_to_cgr: the head of the BAM stream is cut short\n");
-        return;
+    if bam_header::begun(place) {
+        return Word::Nothing;
     }
-    if !io::write_all(1, &mark()) {
-        return;
+    Word::HeadCut
+}
+
+fn say(w: Word) -> bool {
+    match w {
+        Word::Nothing => true,
+        Word::NotBam => io::write_all(2, b"bam_to_cgr: not a BAM stream\n"),
+        Word::HeadCut => io::write_all(2, b"bam_to_cgr: the head of the BAM stream is cut short\n"),
+        Word::Unread => io::write_all(2, b"bam_to_cgr: the input can't be read to its end\n"),
+        Word::Unwritten => io::write_all(2, b"bam_to_cgr: the output can't be written\n"),
     }
-    if !pass_left(s, block) {
-        return;
-    }
-    pass_on(block);
+}
+
+// Another stream: nothing is written of it.
+fn refuse(first: Read, part: &[u8], w: Word) -> bool
+    requires { ⌜ isBam (now part) ≡ false ⌝ }
+    requires { ⌜ w ≡ wordOf true (first .failed) NotBam ⌝ }
+{
+    say(w)
+}
+
+// The end of a stream with the magic.
+fn finish(end: Behind, w: Word) -> bool
+    requires { ⌜ w ≡ wordOf (end .ok) (end .state .failed) (lackOf (end .state)) ⌝ }
+{
+    say(w)
 }
 
 fn main() {
-    let mut first = [0u8; 4];
-    let got = io::read_full(0, &mut first);
-    if !bam_header::magic(&first[..got]) {
-        io::write_all(2, b"bam_to_cgr: not a BAM stream\n");
+    let mut block = io::large_buffer();
+    let first = blocks::first(&mut block, 4);
+    let have = first.have;
+    if !bam_header::magic(&block[..have]) {
+        let w = end_word(true, first.failed, Word::NotBam);
+        refuse(first, &block[..have], w);
         return;
     }
-    let mut block = io::large_buffer();
-    convert(&mut block);
+    let end = convert(first, &mut block);
+    let s = end.state;
+    let w = end_word(end.ok, s.failed, lack(s));
+    finish(end, w);
 }

@@ -3,18 +3,18 @@ use Prim.Native.Nat.{ℕ, zero, suc, _+_, _-_, _≤_, _<_}
 use mathlib.Core.Path.{_≡_, refl, sym, ap, _∙_, subst}
 use mathlib.Core.Bool.{Bool, true, false, cond}
 use mathlib.Core.Logic.{_⊎_, inl, inr}
-use mathlib.Core.List.{List, [], _∷_, _++_, append-assoc, append-nil}
+use mathlib.Core.List.{List, [], _++_, append-assoc, append-nil}
 use native.Mathlib.Omega.{arith}
 use lib.Dec.{ltb, eqb}
-use lib.ListN.{length, take, drop, getD, set, length-append, length-take, length-drop, length-set}
-use lib.Seq.{drop-append-le, take-append-le, drop-drop, take-take, length-take-le, getD-drop, take-suc, take-suc-set, drop-set-lt}
+use lib.ListN.{length, take, drop, length-append, length-take, length-drop}
+use lib.Seq.{drop-append-le, take-append-le, drop-drop, take-take, length-take-le}
 use borrow.Author.Tests.{lt-ltb, le-ltb, ne-eqb, eqb-true, ltb-true, ltb-false}
 use Rattle.lists.proofs.Walks.{done}
 use Rattle.sam.specs.Record.{le32}
 use Rattle.little.proofs.FrontLaws.{front-number}
 use Rattle.lines.specs.Line.{lineOf}
 use Rattle.puts.specs.Puts.{Put}
-use Rattle.frames.specs.Stream.{nextIn, soFar, closing, Reports, Reports.line, Reports.over, Reports.short, Reports.none}
+use Rattle.frames.specs.Stream.{nextIn, soFar, closing, lastWord, Reports, Reports.line, Reports.over, Reports.short, Reports.none}
 use Rattle.frames.specs.Inner.{Gone, Went, goesOn}
 use Rattle.frames.specs.declared.Next.{Next}
 use Rattle.frames.specs.declared.Next.the-variants.{Record, TooLong, CutShort, End, More}
@@ -83,17 +83,18 @@ over-more s ys e = go (eqb (length s) 0) (ltb (length s) 4) refl (ltb 32768 (le3
     go false false p false q false f = let z : _≡_ {A = ℕ} 0 1 = cc in absurd (omega arith)
 
 -- the last lines are those of the stream, whatever follows the bytes at hand
-pub ends-there : (whole : Bool) (n : ℕ) (s ys : List ℕ) → (whole ≡ true → ys ≡ []) → goesOn (soFar whole (nextIn s)) ≡ false → Reports n (s ++ ys) (closing (soFar whole (nextIn s)) n)
-ends-there whole n s ys f h = go whole f (nextIn s) refl h
+pub ends-there : (failed whole : Bool) (n : ℕ) (s ys : List ℕ) → (whole ≡ true → ys ≡ []) → goesOn (soFar whole (nextIn s)) ≡ false
+    → Reports failed n (s ++ ys) (closing (lastWord failed (soFar whole (nextIn s))) n)
+ends-there failed whole n s ys f h = go whole f (nextIn s) refl h
   where
     all : ys ≡ [] → s ≡ s ++ ys
     all e = sym (ap (λ (l : List ℕ). s ++ l) e ∙ append-nil s)
 
-    go : (b : Bool) → (b ≡ true → ys ≡ []) → (w : Next) → nextIn s ≡ w → goesOn (soFar b w) ≡ false → Reports n (s ++ ys) (closing (soFar b w) n)
+    go : (b : Bool) → (b ≡ true → ys ≡ []) → (w : Next) → nextIn s ≡ w → goesOn (soFar b w) ≡ false → Reports failed n (s ++ ys) (closing (lastWord failed (soFar b w)) n)
     go true f (Record k) e h = let z : _≡_ {A = ℕ} 0 1 = cc in absurd (omega arith)
     go true f TooLong e h = Reports.over (over-more s ys e)
-    go true f CutShort e h = subst (λ (l : List ℕ). Reports n l (closing CutShort n)) (all (f refl)) (Reports.short e)
-    go true f End e h = subst (λ (l : List ℕ). Reports n l (closing End n)) (all (f refl)) (Reports.none e)
+    go true f CutShort e h = subst (λ (l : List ℕ). Reports failed n l (closing CutShort n)) (all (f refl)) (Reports.short e)
+    go true f End e h = subst (λ (l : List ℕ). Reports failed n l (closing (lastWord failed End) n)) (all (f refl)) (Reports.none e)
     go true f More e h = let z : _≡_ {A = ℕ} 0 1 = cc in absurd (omega arith)
     go false f (Record k) e h = let z : _≡_ {A = ℕ} 0 1 = cc in absurd (omega arith)
     go false f TooLong e h = Reports.over (over-more s ys e)
@@ -131,7 +132,7 @@ gone-start s records d at h = record {
   same = refl;
   kept = refl;
   earned = λ l. omega arith;
-  lines = λ ys t p. subst (λ (l : List ℕ). Reports records (s ++ ys) (l ++ t)) (sym (done (take at d) at (simp length-take (omega arith)))) p;
+  lines = λ b ys t p. subst (λ (l : List ℕ). Reports b records (s ++ ys) (l ++ t)) (sym (done (take at d) at (simp length-take (omega arith)))) p;
 }
 
 -- the record at place used of s
@@ -139,8 +140,8 @@ module _ (s : List ℕ) (used size : ℕ) (e : nextIn (drop used s) ≡ Record s
   pub record-in : used + 4 + size ≤ length s
   record-in = let f = record-fits (drop used s) size e .whole in let l = length-drop used s in omega arith
 
-  line-first : (n : ℕ) (ys t : List ℕ) → Reports (n + 1) (drop (used + 4 + size) s ++ ys) t → Reports n (drop used s ++ ys) (lineOf (n + 1) (take size (drop (used + 4) s)) ++ t)
-  line-first n ys t p =
+  line-first : (failed : Bool) (n : ℕ) (ys t : List ℕ) → Reports failed (n + 1) (drop (used + 4 + size) s ++ ys) t → Reports failed n (drop used s ++ ys) (lineOf (n + 1) (take size (drop (used + 4) s)) ++ t)
+  line-first failed n ys t p =
       let f = record-fits (drop used s) size e .whole in
       let l = length-drop 4 (drop used s) in
       let g : drop (4 + size) (drop used s ++ ys) ≡ drop (used + 4 + size) s ++ ys =
@@ -150,8 +151,8 @@ module _ (s : List ℕ) (used size : ℕ) (e : nextIn (drop used s) ≡ Record s
       ap (take size) (drop-append-le 4 (drop used s) ys (omega arith))
       ∙ take-append-le size (drop 4 (drop used s)) ys (omega arith)
       ∙ ap (take size) (drop-drop 4 used s) in
-      subst (λ (l : List ℕ). Reports n (drop used s ++ ys) (lineOf (n + 1) l ++ t)) h
-      (Reports.line (next-more (drop used s) ys size e) (subst (λ (l : List ℕ). Reports (n + 1) l t) (sym g) p))
+      subst (λ (l : List ℕ). Reports failed n (drop used s ++ ys) (lineOf (n + 1) l ++ t)) h
+      (Reports.line (next-more (drop used s) ys size e) (subst (λ (l : List ℕ). Reports failed (n + 1) l t) (sym g) p))
 
   pub gone-turn : {records at n put put' : ℕ} {d d₁ d₂ : List ℕ} → Gone s records d at used n put d₁ → Put d₁ put (lineOf (n + 1) (take size (drop (used + 4) s))) put' d₂ → 131072 ≤ length d → put' ≤ 131072
       → Gone s records d at (used + 4 + size) (n + 1) put' d₂
@@ -172,10 +173,10 @@ module _ (s : List ℕ) (used size : ℕ) (e : nextIn (drop used s) ≡ Record s
             ∙ take-take at put d₁ b
             ∙ g .kept;
         earned = λ l. omega arith;
-        lines = λ ys t q.
-            subst (λ (l : List ℕ). Reports records (s ++ ys) l)
+        lines = λ b ys t q.
+            subst (λ (l : List ℕ). Reports b records (s ++ ys) l)
             (sym (append-assoc (drop at (take put d₁)) L t) ∙ ap (λ (l : List ℕ). l ++ t) (sym (drop-append-le at (take put d₁) L (omega arith)) ∙ ap (drop at) (sym m)))
-            (g .lines ys (L ++ t) (line-first n ys t q));
+            (g .lines b ys (L ++ t) (line-first b n ys t q));
       }
 
 -- reading goes on behind a record, unless more has to be read
@@ -189,44 +190,3 @@ went-on {s} {whole = whole} {at = at} {r} w h e k = go (r .next) refl e (r .used
     go CutShort p q zero u = let z : _≡_ {A = ℕ} 0 1 = cc in absurd (omega arith)
     go End p q zero u = let z : _≡_ {A = ℕ} 0 1 = cc in absurd (omega arith)
     go More p q zero u = absurd (no-more whole s k (ap (λ (n : ℕ). soFar whole (nextIn (drop n s))) (sym u) ∙ sym (w .next) ∙ p))
-
--- ---- bytes that are moved to the front
-
--- up to i so far
-pub record Moved (b₀ : List ℕ) (used : ℕ) (b : List ℕ) (i : ℕ) : Type 0 where
-  pub same : length b ≡ length b₀
-  pub front : take (i - used) b ≡ take (i - used) (drop used b₀)
-  pub rest : drop i b ≡ drop i b₀
-
-pub moved-none : (b : List ℕ) (used : ℕ) → Moved b used b used
-moved-none b used = record { same = refl; front = ap (λ (k : ℕ). take k b) z ∙ sym (ap (λ (k : ℕ). take k (drop used b)) z); rest = refl }
-  where
-    z : used - used ≡ 0
-    z = omega arith
-
-pub moved-one : (b₀ b : List ℕ) (used i : ℕ) → Moved b₀ used b i → used ≤ i → i < length b → Moved b₀ used (set b (i - used) (getD b i 0)) (i + 1)
-moved-one b₀ b used i m h k =
-    let j : ℕ = i - used in
-    let n : i + 1 - used ≡ suc j = omega arith in
-    let l = length-drop used b₀ in
-    let v : getD b i 0 ≡ getD (drop used b₀) j 0 =
-    ap (λ (a : ℕ). getD b a 0) {x = i} {y = i + 0} (omega arith)
-    ∙ sym (getD-drop i b 0 0)
-    ∙ ap (λ (l : List ℕ). getD l 0 0) (m .rest)
-    ∙ getD-drop i b₀ 0 0
-    ∙ ap (λ (a : ℕ). getD b₀ a 0) {x = i + 0} {y = used + j} (omega arith)
-    ∙ sym (getD-drop used b₀ j 0) in record {
-      same = length-set b j (getD b i 0) ∙ m .same;
-      front =
-          ap (λ (a : ℕ). take a (set b j (getD b i 0))) n
-          ∙ take-suc-set b j (getD b i 0) (omega arith)
-          ∙ ap (λ (l : List ℕ). l ++ (getD b i 0 ∷ [])) (m .front)
-          ∙ ap (λ (a : ℕ). take j (drop used b₀) ++ (a ∷ [])) v
-          ∙ sym (take-suc (drop used b₀) j 0 (omega (arith, m .same)))
-          ∙ ap (λ (a : ℕ). take a (drop used b₀)) (sym n);
-      rest =
-          drop-set-lt (i + 1) b j (getD b i 0) (omega arith)
-          ∙ sym (drop-drop 1 i b)
-          ∙ ap (drop 1) (m .rest)
-          ∙ drop-drop 1 i b₀;
-    }

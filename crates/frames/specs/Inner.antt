@@ -19,7 +19,7 @@ pub record Gone (s : List ℕ) (records : ℕ) (d : List ℕ) (at used n put : �
   pub same : length d' ≡ length d
   pub kept : take at d' ≡ take at d
   pub earned : at < put → 0 < used
-  pub lines : (ys t : List ℕ) → Reports n (drop used s ++ ys) t → Reports records (s ++ ys) (drop at (take put d') ++ t)
+  pub lines : (failed : Bool) (ys t : List ℕ) → Reports failed n (drop used s ++ ys) t → Reports failed records (s ++ ys) (drop at (take put d') ++ t)
 
 -- As far as the records at hand and the room go: what comes next is told, and a record that is at hand is left only where there is no room for a line more.
 pub record Went (s : List ℕ) (whole : Bool) (records : ℕ) (d : List ℕ) (at : ℕ) (r : Block) (d' : List ℕ) : Type 0 where

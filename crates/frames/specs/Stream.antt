@@ -49,15 +49,28 @@ closingWord More = []
 unfoldable pub closing : Next → ℕ → List ℕ
 closing w n = closingWord w ++ recordsLine n
 
--- t is what is printed of s, the rest of a stream of which n records are printed
-pub data Reports : ℕ → List ℕ → List ℕ → Type 0 where
+-- the end of what was read is not the stream's where a read failed: the stream is cut there
+abbrev pub lastWord : Bool → Next → Next
+lastWord failed (Record size) = Record size
+lastWord failed TooLong = TooLong
+lastWord failed CutShort = CutShort
+lastWord false End = End
+lastWord true End = CutShort
+lastWord failed More = More
+
+-- t is what is printed of s, the rest of a stream of which n records are printed, or of so much of it as was read before a read failed
+pub data Reports (failed : Bool) : ℕ → List ℕ → List ℕ → Type 0 where
   -- a record: its line, and what is printed of the rest
-  line : {n size : ℕ} {s t : List ℕ} → nextIn s ≡ Record size → Reports (n + 1) (drop (4 + size) s) t → Reports n s (lineOf (n + 1) (take size (drop 4 s)) ++ t)
+  line : {n size : ℕ} {s t : List ℕ} → nextIn s ≡ Record size → Reports failed (n + 1) (drop (4 + size) s) t → Reports failed n s (lineOf (n + 1) (take size (drop 4 s)) ++ t)
   -- "reading ends there"
-  over : {n : ℕ} {s : List ℕ} → nextIn s ≡ TooLong → Reports n s (closing TooLong n)
-  short : {n : ℕ} {s : List ℕ} → nextIn s ≡ CutShort → Reports n s (closing CutShort n)
-  none : {n : ℕ} {s : List ℕ} → nextIn s ≡ End → Reports n s (closing End n)
+  over : {n : ℕ} {s : List ℕ} → nextIn s ≡ TooLong → Reports failed n s (closing TooLong n)
+  short : {n : ℕ} {s : List ℕ} → nextIn s ≡ CutShort → Reports failed n s (closing CutShort n)
+  none : {n : ℕ} {s : List ℕ} → nextIn s ≡ End → Reports failed n s (closing (lastWord failed End) n)
+
+-- "bad input"
+abbrev pub badInput : List ℕ
+badInput = 98 ∷ 97 ∷ 100 ∷ 32 ∷ 105 ∷ 110 ∷ 112 ∷ 117 ∷ 116 ∷ 10 ∷ []
 
 -- what the program prints of a stream
 abbrev pub Prints : List ℕ → List ℕ → Type 0
-Prints s t = cond (isMarked s) (Reports 0 (drop 5 s) t) (t ≡ 98 ∷ 97 ∷ 100 ∷ 32 ∷ 105 ∷ 110 ∷ 112 ∷ 117 ∷ 116 ∷ 10 ∷ [])
+Prints s t = cond (isMarked s) (Reports false 0 (drop 5 s) t) (t ≡ badInput)

@@ -1,7 +1,7 @@
 // Document 01, section Program: the frames of a stream, and the lines of the records that are at hand. An inner crate of the program.
 ghost use mathlib.Core.Path.{_≡_};
-ghost use Prim.Native.Nat.{_+_, _-_, _≤_};
-ghost use lib.ListN.{length, take, drop};
+ghost use Prim.Native.Nat.{_+_, _≤_};
+ghost use lib.ListN.{length};
 ghost use Rattle.puts.specs.Puts.{Put};
 ghost use Rattle.frames.specs.Stream.{isMarked, nextIn, soFar, closing, closingWord};
 ghost use Rattle.frames.specs.Inner.{Went, goesOn};
@@ -122,18 +122,6 @@ pub fn lines_at_hand(s: &[u8], whole: bool, records: u64, out: &mut [u8], at: us
         records: n,
         put: put,
         next: comes_next(&s[used..], whole),
-    }
-}
-
-// Moves the bytes from `used` to before `have` to the front.
-pub fn shift(s: &mut [u8], used: usize, have: usize)
-    requires { ⌜ (used ≤ have) × (have ≤ length (now s)) ⌝ }
-    ensures { λ _. ⌜ take (have - used) (now (s .exit)) ≡ take (have - used) (drop used (now (s .entry))) ⌝ }
-{
-    let mut i = used;
-    while i < have {
-        s[i - used] = s[i];
-        i += 1;
     }
 }
 

@@ -7,11 +7,14 @@ use mathlib.Core.List.{List, [], _++_, append-nil, append-assoc}
 use native.Mathlib.Omega.{arith}
 use lib.Dec.{ltb, leb, eqb}
 use lib.ListN.{length, take, drop, length-append, length-drop, take-append-drop, List·getD-append}
-use lib.Seq.{take-take, length-take-le, drop-at}
-use borrow.Author.Tests.{le-ltb, ltb-true, ltb-false, leb-true}
+use lib.Seq.{take-take, length-take-le, drop-append-le}
+use borrow.Author.Tests.{le-ltb, ltb-false, leb-true}
 use Rattle.sam.specs.Record.{byteAt, le16}
-use Rattle.frames.specs.Stream.{isMarked, closing, Reports, Prints}
-use Rattle.report.specs.Run.{badInput, lastWord, Told, atHand, waiting, begun, Refilled, given, Turned, added, dueOf, relievedOf, Ran, Ran.starts, Ran.turns, Came}
+use Rattle.blocks.specs.Fill.{Gathers, First}
+use Rattle.blocks.specs.declared.Read.{Read}
+use Rattle.blocks.proofs.BlockLaws.{drop-take, gathered}
+use Rattle.frames.specs.Stream.{isMarked, Reports, badInput, Prints}
+use Rattle.report.specs.Run.{atHand, waiting, begun, Refilled, given, Turned, added, dueOf, relievedOf, Ran, Ran.starts, Ran.turns, Came}
 use Rattle.report.specs.declared.State.{State}
 use Rattle.report.proofs.TurnLaws.{grown}
 
@@ -56,10 +59,10 @@ module _ {s s₁ s₂ : State} {block block₁ block₂ out out₁ : List ℕ} (
   waited = added-behind w ∙ ap (λ (k : ℕ). take k out ++ added s₁ s₂ out₁) (grown f .put)
 
   -- what is printed of the bytes at hand behind the read is printed of those before it, with the read behind them
-  before-read : (ys t : List ℕ) → Reports (s₁ .records) (atHand s₁ block₁ ++ ys) t → Reports (s .records) (atHand s block ++ (given s s₁ block₁ ++ ys)) t
-  before-read ys t p =
-      subst (λ (n : ℕ). Reports n (atHand s block ++ (given s s₁ block₁ ++ ys)) t) (grown f .records)
-      (subst (λ (l : List ℕ). Reports (s₁ .records) l t) (ap (λ (l : List ℕ). l ++ ys) (given-behind f) ∙ append-assoc (atHand s block) (given s s₁ block₁) ys) p)
+  before-read : (failed : Bool) (ys t : List ℕ) → Reports failed (s₁ .records) (atHand s₁ block₁ ++ ys) t → Reports failed (s .records) (atHand s block ++ (given s s₁ block₁ ++ ys)) t
+  before-read failed ys t p =
+      subst (λ (n : ℕ). Reports failed n (atHand s block ++ (given s s₁ block₁ ++ ys)) t) (grown f .records)
+      (subst (λ (l : List ℕ). Reports failed (s₁ .records) l t) (ap (λ (l : List ℕ). l ++ ys) (given-behind f) ∙ append-assoc (atHand s block) (given s s₁ block₁) ys) p)
 
   regroup : (written t : List ℕ) → written ++ (waiting s out ++ (added s₁ s₂ out₁ ++ t)) ≡ written ++ take (dueOf s₂) out₁ ++ (waiting (relievedOf s₂) out₁ ++ t)
   regroup written t =
@@ -69,37 +72,66 @@ module _ {s s₁ s₂ : State} {block block₁ block₂ out out₁ : List ℕ} (
       ∙ append-assoc (take (dueOf s₂) out₁) (waiting (relievedOf s₂) out₁) t)
       ∙ sym (append-assoc written (take (dueOf s₂) out₁) (waiting (relievedOf s₂) out₁ ++ t))
 
+-- ---- the mark
+
+-- it is told by the first five bytes
+same-mark : (head ys : List ℕ) → 5 ≤ length head → isMarked (head ++ ys) ≡ isMarked head
+unfolding isMarked
+same-mark head ys h =
+    let l = length-append head ys in
+    simp (
+      le-ltb (length (head ++ ys)) 5 (omega arith),
+      le-ltb (length head) 5 h,
+      List·getD-append head ys 0 0 (omega arith),
+      List·getD-append head ys 0 1 (omega arith),
+      List·getD-append head ys 0 2 (omega arith),
+      List·getD-append head ys 0 3 (omega arith),
+      List·getD-append head ys 0 (3 + 1) (omega arith),
+    )
+
+pub long : (head : List ℕ) → isMarked head ≡ true → 5 ≤ length head
+unfolding isMarked
+long head e = go (ltb (length head) 5) refl e
+  where
+    go : (b : Bool) → ltb (length head) 5 ≡ b → cond b false (eqb (byteAt head 0) 67 && (eqb (byteAt head 1) 71 && (eqb (byteAt head 2) 82 && eqb (le16 head 3) 1))) ≡ true → 5 ≤ length head
+    go true p f = let z : _≡_ {A = ℕ} 0 1 = cc in absurd (omega arith)
+    go false p f = ltb-false (length head) 5 p
+
+module _ {read block : List ℕ} {r : Read} (g : Gathers read r block) (m : isMarked (take (r .have) block) ≡ true) where
+  mark-first : 5 ≤ length read
+  mark-first = long read (ap isMarked (sym (gathered g)) ∙ m)
+
+  -- what stands behind it is at hand
+  behind-mark : (block₁ ys : List ℕ) → take (r .have - 5) block₁ ≡ take (r .have - 5) (drop 5 block) → take (r .have - 5) block₁ ++ ys ≡ drop 5 (read ++ ys)
+  behind-mark block₁ ys moved =
+      ap (λ (l : List ℕ). l ++ ys) (moved ∙ sym (drop-take 5 (r .have) block) ∙ ap (drop 5) (gathered g))
+      ∙ sym (drop-append-le 5 read ys mark-first)
+
 -- ---- turn after turn
 
+-- a run goes on from a marked stream
+marked : {read written block out : List ℕ} {s : State} → Ran read written s block out → (ys : List ℕ) → isMarked (read ++ ys) ≡ true
+marked (starts {read} g m moved) ys = same-mark read ys (mark-first g m) ∙ ap isMarked (sym (gathered g)) ∙ m
+marked (turns {read} {block₁ = block₁} {s = s} {s₁} ran on f w) ys = ap isMarked (append-assoc read (given s s₁ block₁) ys) ∙ marked ran (given s s₁ block₁ ++ ys)
+
 -- whatever follows, and whatever t is printed of the rest: what was written, what waits and t are printed of all
-pub so-far : {read written block out : List ℕ} {s : State} → Ran read written s block out → s .going ≡ true → (ys t : List ℕ) → Reports (s .records) (atHand s block ++ ys) t
-    → Reports 0 (read ++ ys) (written ++ (waiting s out ++ t))
-so-far starts e ys t p = p
-so-far (turns {read = read} {written} {block₁ = block₁} {out₁ = out₁} {s = s} {s₁} {s₂} ran on f w) e ys t p =
-    subst (λ (l : List ℕ). Reports 0 l (written ++ take (dueOf s₂) out₁ ++ (waiting (relievedOf s₂) out₁ ++ t))) (sym (append-assoc read (given s s₁ block₁) ys))
-    (subst (λ (l : List ℕ). Reports 0 (read ++ (given s s₁ block₁ ++ ys)) l) (regroup f w written t)
-    (so-far ran on (given s s₁ block₁ ++ ys) (added s₁ s₂ out₁ ++ t) (before-read f w ys (added s₁ s₂ out₁ ++ t) (w .goes e ys t p))))
+pub so-far : {read written block out : List ℕ} {s : State} → Ran read written s block out → s .going ≡ true → (failed : Bool) (ys t : List ℕ) → Reports failed (s .records) (atHand s block ++ ys) t
+    → Reports failed 0 (drop 5 (read ++ ys)) (written ++ (waiting s out ++ t))
+so-far (starts {block₁ = block₁} g m moved) e failed ys t p = subst (λ (l : List ℕ). Reports failed 0 l t) (behind-mark g m block₁ ys moved) p
+so-far (turns {read} {written} {block₁ = block₁} {out₁ = out₁} {s = s} {s₁} {s₂} ran on f w) e failed ys t p =
+    subst (λ (l : List ℕ). Reports failed 0 (drop 5 l) (written ++ take (dueOf s₂) out₁ ++ (waiting (relievedOf s₂) out₁ ++ t))) (sym (append-assoc read (given s s₁ block₁) ys))
+    (subst (λ (l : List ℕ). Reports failed 0 (drop 5 (read ++ (given s s₁ block₁ ++ ys))) l) (regroup f w written t)
+    (so-far ran on failed (given s s₁ block₁ ++ ys) (added s₁ s₂ out₁ ++ t) (before-read f w failed ys (added s₁ s₂ out₁ ++ t) (w .goes e failed ys t p))))
 
 -- at the end: where a read gave nothing, nothing follows
 pub printed : {read written block out : List ℕ} {s : State} → Ran read written s block out → s .going ≡ false → (ys : List ℕ) → (s .whole ≡ true → ys ≡ [])
-    → Told (s .failed) 0 (read ++ ys) written
-printed starts e ys none = let z : _≡_ {A = ℕ} 0 1 = cc in absurd (omega arith)
-printed (turns {read = read} {written} {block₁ = block₁} {out = out} {out₁} {s} {s₁} {s₂} ran on f w) e ys none =
-    let q = w .ends e ys (λ h. none (w .same .0 ∙ h)) in
-    let c = closing (q .word) (q .count) in
-    let d = closing (lastWord (q .word) (s₂ .failed)) (q .count) in record {
-      lines = written ++ (waiting s out ++ q .lines);
-      count = q .count;
-      word = q .word;
-      reports =
-          subst (λ (l : List ℕ). Reports 0 l (written ++ (waiting s out ++ q .lines) ++ c)) (sym (append-assoc read (given s s₁ block₁) ys))
-          (subst (λ (l : List ℕ). Reports 0 (read ++ (given s s₁ block₁ ++ ys)) l) (sym (simp append-assoc))
-          (so-far ran on (given s s₁ block₁ ++ ys) (q .lines ++ c) (before-read f w ys (q .lines ++ c) (q .reports))));
-      is =
-          ap (λ (k : ℕ). written ++ take k out₁) (due-last s₂ e)
-          ∙ ap (λ (l : List ℕ). written ++ l) (waited f w ∙ ap (λ (l : List ℕ). waiting s out ++ l) (q .is ∙ ap (λ (b : Bool). q .lines ++ closing (lastWord (q .word) b) (q .count)) (sym (w .same .1))))
-          ∙ sym (simp append-assoc);
-    }
+    → Reports (s .failed) 0 (drop 5 (read ++ ys)) written
+printed (starts g m moved) e ys none = let z : _≡_ {A = ℕ} 0 1 = cc in absurd (omega arith)
+printed (turns {read} {written} {block₁ = block₁} {out = out} {out₁} {s} {s₁} {s₂} ran on f w) e ys none =
+    subst (λ (b : Bool). Reports b 0 (drop 5 (read ++ given s s₁ block₁ ++ ys)) (written ++ take (dueOf s₂) out₁)) (sym (w .same .1))
+    (subst (λ (l : List ℕ). Reports (s₁ .failed) 0 (drop 5 l) (written ++ take (dueOf s₂) out₁)) (sym (append-assoc read (given s s₁ block₁) ys))
+    (subst (λ (l : List ℕ). Reports (s₁ .failed) 0 (drop 5 (read ++ (given s s₁ block₁ ++ ys))) (written ++ l)) (sym (ap (λ (k : ℕ). take k out₁) (due-last s₂ e) ∙ waited f w))
+    (so-far ran on (s₁ .failed) (given s s₁ block₁ ++ ys) (added s₁ s₂ out₁) (before-read f w (s₁ .failed) ys (added s₁ s₂ out₁) (w .ends e ys (λ h. none (w .same .0 ∙ h)))))))
 
 -- each turn reads a byte, or uses one
 pub turn-paid : {s s₁ s₂ : State} {block block₁ block₂ out out₁ : List ℕ} (k n : ℕ) → Refilled s block s₁ block₁ → Turned s₁ block₁ out s₂ block₂ out₁ → s₂ .going ≡ true → s₂ .have ≤ s₁ .have
@@ -121,8 +153,11 @@ pub record Along (turns : ℕ) (s : State) (block out : List ℕ) : Type 0 where
   pub on : s .going ≡ true
   pub paid : turns + s .have ≤ 2 * length read
 
-pub along-start : {s : State} (block out : List ℕ) → s ≡ begun → Along 0 s block out
-along-start block out e = subst (λ (r : State). Along 0 r block out) (sym e) (record { read = []; written = []; ran = starts; on = refl; paid = omega arith })
+pub along-start : {s : State} {r : Read} {block block₁ : List ℕ} (out : List ℕ) (f : First 5 r block) → isMarked (take (r .have) block) ≡ true → take (r .have - 5) block₁ ≡ take (r .have - 5) (drop 5 block)
+    → s ≡ begun (r .have - 5) → Along 0 s block₁ out
+along-start {r = r} {block} {block₁} out f m moved e =
+    let l : length (f .read) ≡ r .have = ap length (sym (gathered (f .gathers))) ∙ length-take-le (r .have) block (f .within) in
+    subst (λ (q : State). Along 0 q block₁ out) (sym e) (record { read = f .read; written = []; ran = starts (f .gathers) m moved; on = refl; paid = omega arith })
 
 module _ {s s₁ s₂ r : State} {block block₁ block₂ out out₁ : List ℕ} (n : ℕ) (a : Along n s block out) (f : Refilled s block s₁ block₁) (w : Turned s₁ block₁ out s₂ block₂ out₁) (e : r ≡ relievedOf s₂) where
   pub along-on : r .going ≡ true → s₂ .have ≤ s₁ .have → s₁ .have ≤ length block₁ → Along (n + 1) r block₂ out₁
@@ -150,45 +185,25 @@ along-last n h a = record { read = a .read; written = a .written; ran = a .ran; 
 
 -- ---- a whole stream
 
--- the mark is told by the first five bytes
-same-mark : (head ys : List ℕ) → 5 ≤ length head → isMarked (head ++ ys) ≡ isMarked head
-unfolding isMarked
-same-mark head ys h =
-    let l = length-append head ys in
-    simp (
-      le-ltb (length (head ++ ys)) 5 (omega arith),
-      le-ltb (length head) 5 h,
-      List·getD-append head ys 0 0 (omega arith),
-      List·getD-append head ys 0 1 (omega arith),
-      List·getD-append head ys 0 2 (omega arith),
-      List·getD-append head ys 0 3 (omega arith),
-      List·getD-append head ys 0 (3 + 1) (omega arith),
-    )
+-- What the program prints of a stream that begins with its mark: of the bytes that were read, and of what follows them, which is nothing where a read gave nothing.
+pub prints : {read written block out : List ℕ} {s : State} (ys : List ℕ) → Ran read written s block out → s .going ≡ false → s .failed ≡ false → (s .whole ≡ true → ys ≡ []) → Prints (read ++ ys) written
+prints {read} {written} ys ran e ok none =
+    let p : Reports false 0 (drop 5 (read ++ ys)) written = subst (λ (b : Bool). Reports b 0 (drop 5 (read ++ ys)) written) ok (printed ran e ys none) in
+    rw (marked ran ys) p
 
-long : (head : List ℕ) → isMarked head ≡ true → 5 ≤ length head
-unfolding isMarked
-long head e = go (ltb (length head) 5) refl e
+-- And of another stream.
+pub refuses : {r : Read} {block : List ℕ} (ys : List ℕ) (f : First 5 r block) → isMarked (take (r .have) block) ≡ false → (r .none ≡ true → ys ≡ []) → Prints (f .read ++ ys) badInput
+refuses {r} {block} ys f m none = rw is refl
   where
-    go : (b : Bool) → ltb (length head) 5 ≡ b → cond b false (eqb (byteAt head 0) 67 && (eqb (byteAt head 1) 71 && (eqb (byteAt head 2) 82 && eqb (le16 head 3) 1))) ≡ true → 5 ≤ length head
-    go true p f = let z : _≡_ {A = ℕ} 0 1 = cc in absurd (omega arith)
-    go false p f = ltb-false (length head) 5 p
+    same : isMarked (f .read) ≡ false
+    same = ap isMarked (sym (gathered (f .gathers))) ∙ m
 
--- What the program prints of a stream: its first bytes are `head`, five of them unless it is shorter, the turns read on, and where a read gave nothing, nothing follows.
-pub prints : {read written block out : List ℕ} {s : State} (head ys : List ℕ) → length head ≤ 5 → isMarked head ≡ true
-    → Ran read written s block out → s .going ≡ false → s .failed ≡ false → (s .whole ≡ true → ys ≡ []) → Prints (head ++ (read ++ ys)) written
-prints {read} {written} head ys h m ran e ok none =
-    let q = subst (λ (b : Bool). Told b 0 (read ++ ys) written) ok (printed ran e ys none) in
-    let k = long head m in
-    let p : Reports 0 (read ++ ys) written = subst (λ (l : List ℕ). Reports 0 (read ++ ys) l) (sym (q .is)) (q .reports) in
-    let p' : Reports 0 (drop 5 (head ++ (read ++ ys))) written = subst (λ (l : List ℕ). Reports 0 l written) (sym (drop-at head (read ++ ys) 5 (omega arith))) p in
-    rw (same-mark head (read ++ ys) k ∙ m) p'
+    size : length (f .read) ≡ r .have
+    size = ap length (sym (gathered (f .gathers))) ∙ length-take-le (r .have) block (f .within)
 
-pub refuses : (head ys : List ℕ) → (length head < 5 → ys ≡ []) → isMarked head ≡ false → Prints (head ++ ys) badInput
-refuses head ys none m = rw is refl
-  where
-    go : (b : Bool) → ltb (length head) 5 ≡ b → isMarked (head ++ ys) ≡ isMarked head
-    go true p = ap isMarked (ap (λ (l : List ℕ). head ++ l) (none (ltb-true (length head) 5 p)) ∙ append-nil head)
-    go false p = same-mark head ys (ltb-false (length head) 5 p)
+    go : (b : Bool) → r .none ≡ b → isMarked (f .read ++ ys) ≡ isMarked (f .read)
+    go true e = ap isMarked (ap (λ (l : List ℕ). f .read ++ l) (none e) ∙ append-nil (f .read))
+    go false e = same-mark (f .read) ys (omega (arith, size, f .enough e))
 
-    is : isMarked (head ++ ys) ≡ false
-    is = go (ltb (length head) 5) refl ∙ m
+    is : isMarked (f .read ++ ys) ≡ false
+    is = go (r .none) refl ∙ same

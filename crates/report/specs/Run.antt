@@ -1,36 +1,16 @@
 -- A run of the program, turn by turn, over the bytes that its reads gave and the bytes that it handed to be written. The kit's contracts say nothing of a file's bytes. So it is assumed, and not proved,
--- that a read puts the next bytes of standard input behind those at hand and gives none only at its end, and that what is handed to be written is written.
+-- what `blocks` says of a read, and that what is handed to `write_all` is written where it answers true.
 use Prim.Native.Nat.{ℕ, _+_, _-_, _≤_, _<_}
 use mathlib.Core.Path.{_≡_}
 use mathlib.Core.Bool.{Bool, true, false, cond}
 use mathlib.Core.Logic.{_⊎_}
-use mathlib.Core.List.{List, [], _∷_, _++_}
-use lib.Dec.{eqb, leb}
-use lib.IntN.{ℤ, pos}
+use mathlib.Core.List.{List, [], _++_}
+use lib.Dec.{leb}
 use lib.ListN.{length, take, drop}
-use lib.Signed.{ltZ}
-use Rattle.io.specs.Counts.{clamped}
-use Rattle.frames.specs.Stream.{Reports, closing}
-use Rattle.frames.specs.declared.Next.{Next}
-use Rattle.frames.specs.declared.Next.the-variants.{CutShort}
+use Rattle.blocks.specs.Fill.{Filled, Gathers}
+use Rattle.blocks.specs.declared.Read.{Read}
+use Rattle.frames.specs.Stream.{isMarked, Reports}
 use Rattle.report.specs.declared.State.{State}
-
--- what is printed of a stream with another mark
-abbrev pub badInput : List ℕ
-badInput = 98 ∷ 97 ∷ 100 ∷ 32 ∷ 105 ∷ 110 ∷ 112 ∷ 117 ∷ 116 ∷ 10 ∷ []
-
--- the word for a stream whose end could not be read is that of one that is cut short
-abbrev pub lastWord : Next → Bool → Next
-lastWord w true = CutShort
-lastWord w false = w
-
--- t is what is printed of s, the rest of a stream of which n records are printed; where a read failed, with that word
-pub record Told (failed : Bool) (n : ℕ) (s t : List ℕ) : Type 0 where
-  pub lines : List ℕ
-  pub count : ℕ
-  pub word : Next
-  pub reports : Reports n s (lines ++ closing word count)
-  pub is : t ≡ lines ++ closing (lastWord word failed) count
 
 -- the bytes at hand stand in front of the block, and those that wait to be written in front of the output
 abbrev pub atHand : State → List ℕ → List ℕ
@@ -39,23 +19,21 @@ atHand s block = take (s .have) block
 abbrev pub waiting : State → List ℕ → List ℕ
 waiting s out = take (s .put) out
 
--- the state before the first turn
-abbrev pub begun : State
-begun = record { have = 0; whole = false; failed = false; records = 0; put = 0; going = true }
+-- the state before the first turn, with so many bytes at hand behind the mark
+abbrev pub begun : ℕ → State
+begun have = record { have = have; whole = false; failed = false; records = 0; put = 0; going = true }
 
 -- nothing has to be read: all that is left is at hand, or as much as the longest record takes
 abbrev pub Enough : State → Type 0
 Enough s = (s .whole ≡ true) ⊎ (32772 ≤ s .have)
 
 -- A read, unless nothing has to be read: what it gave stands behind the bytes at hand, and where it gave nothing these are all that is left.
-abbrev pub readOf : State → ℤ → State
-readOf s got =
-    let n = clamped got (65536 - s .have) in
-    record { have = s .have + n; whole = eqb n 0; failed = ltZ got (pos 0); records = s .records; put = s .put; going = s .going }
+abbrev pub behindRead : State → Read → State
+behindRead s r = record { have = r .have; whole = r .none; failed = r .failed; records = s .records; put = s .put; going = s .going }
 
 pub data Refilled (s : State) (block : List ℕ) : State → List ℕ → Type 0 where
   enough : Enough s → Refilled s block s block
-  answered : s .have < 32772 → (got : ℤ) (block' : List ℕ) → take (s .have) block' ≡ atHand s block → Refilled s block (readOf s got) block'
+  reads : {r : Read} {block' : List ℕ} → s .have < 32772 → Filled block (s .have) r block' → Refilled s block (behindRead s r) block'
 
 abbrev pub given : State → State → List ℕ → List ℕ
 given s r block' = drop (s .have) (atHand r block')
@@ -69,8 +47,8 @@ pub record Turned (s : State) (block out : List ℕ) (r : State) (block' out' : 
   pub kept : take (s .put) (waiting r out') ≡ waiting s out
   pub same : (r .whole ≡ s .whole) × (r .failed ≡ s .failed)
   pub uses : r .going ≡ true → Enough s → r .have < s .have
-  pub goes : r .going ≡ true → (ys t : List ℕ) → Reports (r .records) (atHand r block' ++ ys) t → Reports (s .records) (atHand s block ++ ys) (added s r out' ++ t)
-  pub ends : r .going ≡ false → (ys : List ℕ) → (s .whole ≡ true → ys ≡ []) → Told (s .failed) (s .records) (atHand s block ++ ys) (added s r out')
+  pub goes : r .going ≡ true → (failed : Bool) (ys t : List ℕ) → Reports failed (r .records) (atHand r block' ++ ys) t → Reports failed (s .records) (atHand s block ++ ys) (added s r out' ++ t)
+  pub ends : r .going ≡ false → (ys : List ℕ) → (s .whole ≡ true → ys ≡ []) → Reports (s .failed) (s .records) (atHand s block ++ ys) (added s r out')
 
 -- A write: all that waits, at the end or where there is no room for a line more; else nothing.
 abbrev pub dueOf : State → ℕ
@@ -79,9 +57,14 @@ dueOf s = cond (s .going) (cond (leb (s .put) 65280) 0 (s .put)) (s .put)
 abbrev pub relievedOf : State → State
 relievedOf s = record { have = s .have; whole = s .whole; failed = s .failed; records = s .records; put = s .put - dueOf s; going = s .going }
 
--- Turn after turn, each a read, lines that are put and a write: the bytes that were read so far, and those that were written.
+-- The first reads brought the mark, and what stands behind it moved to the front. Then turn after turn, each a read, lines that are put and a write: all bytes that were read so far, and all that
+-- were written.
 pub data Ran : List ℕ → List ℕ → State → List ℕ → List ℕ → Type 0 where
-  starts : {block out : List ℕ} → Ran [] [] begun block out
+  starts : {read block block₁ out : List ℕ} {r : Read}
+      → Gathers read r block
+      → isMarked (take (r .have) block) ≡ true
+      → take (r .have - 5) block₁ ≡ take (r .have - 5) (drop 5 block)
+      → Ran read [] (begun (r .have - 5)) block₁ out
   turns : {read written block block₁ block₂ out out₁ : List ℕ} {s s₁ s₂ : State}
       → Ran read written s block out
       → s .going ≡ true

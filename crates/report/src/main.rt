@@ -1,13 +1,13 @@
 // Document 01's program: standard input is a stream of records, and a line is written for each. What is written is said by the crates `frames` and `lines`, and specs/Run.antt says what the turns
-// come to: this reads and writes, in blocks. A write that fails ends the program, and a read that fails leaves the stream cut short.
+// come to: this reads and writes, in blocks. A write that fails ends the program, and a read that fails leaves the stream cut short; both are said on standard error.
 ghost use mathlib.Core.Path.{_≡_};
 ghost use mathlib.Core.Bool.{true, false};
 ghost use Prim.Native.Nat.{_+_, _≤_, _<_};
-ghost use lib.IntN.{pos};
 ghost use lib.ListN.{length, take};
-ghost use lib.Signed.{ltZ};
-ghost use Rattle.frames.specs.Stream.{isMarked};
-ghost use Rattle.report.specs.Run.{badInput, lastWord, begun, Refilled, Turned, dueOf, relievedOf, Came};
+ghost use Rattle.blocks.specs.Fill.{First};
+ghost use Rattle.frames.specs.Stream.{isMarked, lastWord, badInput};
+ghost use Rattle.report.specs.Run.{begun, Refilled, Turned, dueOf, relievedOf, Came};
+use blocks::Read;
 use frames::Next;
 
 // The most bytes that a record and its size take: with so many at hand none has to be read.
@@ -45,24 +45,18 @@ fn bad_input() -> [u8; 10]
     [b'b', b'a', b'd', b' ', b'i', b'n', b'p', b'u', b't', b'\n']
 }
 
-fn start() -> State
-    ensures { λ r. ⌜ r ≡ begun ⌝ }
+// The state before the first turn, with so many bytes at hand behind the mark.
+fn start(have: usize) -> State
+    ensures { λ r. ⌜ r ≡ begun have ⌝ }
 {
     State {
-        have: 0,
+        have: have,
         whole: false,
         failed: false,
         records: 0,
         put: 0,
         going: true,
     }
-}
-
-// Whether a call failed, by what it answered.
-fn failed(got: isize) -> bool
-    ensures { λ r. ⌜ r ≡ ltZ got (pos 0) ⌝ }
-{
-    got < 0
 }
 
 // Reads behind the bytes at hand, unless a whole record is there or nothing is left.
@@ -79,27 +73,33 @@ fn refill(s: State, block: &mut [u8]) -> State
     if s.whole {
         return s;
     }
-    let part = &mut block[have..];
-    let got = libc::read(0, part);
-    let n = io::count(got, part);
+    let r = blocks::fill(block, have);
     State {
-        have: have + n,
-        whole: n == 0,
-        failed: failed(got),
+        have: r.have,
+        whole: r.none,
+        failed: r.failed,
         records: s.records,
         put: s.put,
         going: s.going,
     }
 }
 
-// What a stream ends with whose end could not be read.
-fn last_word(next: Next, failed: bool) -> Next
-    ensures { λ r. ⌜ r ≡ lastWord next failed ⌝ }
+// What a stream ends with: the end of what was read is a cut where a read failed.
+fn last_word(failed: bool, next: Next) -> Next
+    ensures { λ r. ⌜ r ≡ lastWord failed next ⌝ }
 {
-    if failed {
-        return Next::CutShort;
+    match next {
+        Next::Record(size) => Next::Record(size),
+        Next::TooLong => Next::TooLong,
+        Next::CutShort => Next::CutShort,
+        Next::End => {
+            if failed {
+                return Next::CutShort;
+            }
+            Next::End
+        }
+        Next::More => Next::More,
     }
-    next
 }
 
 // Puts the lines of the records at hand, and the last lines where reading ends; else what is left moves to the front of the block.
@@ -114,7 +114,7 @@ fn turn(s: State, block: &mut [u8], out: &mut [u8]) -> State
     let b = frames::lines_at_hand(&block[..have], s.whole, s.records, out, s.put);
     let next = b.next;
     if !frames::goes_on(next) {
-        let word = last_word(next, s.failed);
+        let word = last_word(s.failed, next);
         let end = frames::close(word, b.records, out, b.put);
         return State {
             have: have,
@@ -126,7 +126,7 @@ fn turn(s: State, block: &mut [u8], out: &mut [u8]) -> State
         };
     }
     let used = b.used;
-    frames::shift(block, used, have);
+    blocks::shift(block, used, have);
     State {
         have: have - used,
         whole: s.whole,
@@ -187,13 +187,16 @@ fn relieved(s: State) -> State
     }
 }
 
-// The records of a stream whose mark is read.
-fn report(block: &mut [u8], out: &mut [u8]) -> Behind
+// A stream that begins with its mark, of which the first bytes are at hand.
+fn report(first: Read, block: &mut [u8], out: &mut [u8]) -> Behind
     requires { ⌜ 65536 ≡ length (now block) ⌝ }
     requires { ⌜ 131328 ≡ length (now out) ⌝ }
+    requires { ⌜ First 5 first (now block) × (isMarked (take (first .have) (now block)) ≡ true) ⌝ }
     ensures { λ r. ⌜ (r .ok ≡ true → Came (r .state) (now (block .exit)) (now (out .exit))) ⌝ }
 {
-    let mut s = start();
+    let have = first.have;
+    blocks::shift(block, 5, have);
+    let mut s = start(have - 5);
     let mut turns: u64 = 0;
     while turns < MOST_TURNS {
         s = refill(s, block);
@@ -211,31 +214,35 @@ fn report(block: &mut [u8], out: &mut [u8]) -> Behind
     Behind { state: s, ok: true }
 }
 
-// A stream with another mark.
-fn refuse(first: &[u8])
+// A stream with another mark; whether the write went well.
+fn refuse(first: &[u8]) -> bool
     requires { ⌜ isMarked (now first) ≡ false ⌝ }
 {
-    io::write_all(1, &bad_input());
+    io::write_all(1, &bad_input())
 }
 
-// A stream that begins with its mark.
-fn accept(first: &[u8], block: &mut [u8], out: &mut [u8])
-    requires { ⌜ isMarked (now first) ≡ true ⌝ }
-    requires { ⌜ 65536 ≡ length (now block) ⌝ }
-    requires { ⌜ 131328 ≡ length (now out) ⌝ }
-{
-    report(block, out);
+// Says what went wrong: a write, or a read.
+fn tell(ok: bool, failed: bool) {
+    if !ok {
+        io::write_all(2, b"report: the output can't be written\n");
+        return;
+    }
+    if failed {
+        io::write_all(2, b"report: the input can't be read to its end\n");
+    }
 }
 
 fn main() {
-    let mut head = [0u8; 5];
-    let got = io::read_full(0, &mut head);
-    let first = &head[..got];
-    if !frames::marked(first) {
-        refuse(first);
+    let mut block = io::large_buffer();
+    let first = blocks::first(&mut block, 5);
+    let have = first.have;
+    if !frames::marked(&block[..have]) {
+        let ok = refuse(&block[..have]);
+        tell(ok, first.failed);
         return;
     }
-    let mut block = io::large_buffer();
     let mut out = output();
-    accept(first, &mut block, &mut out);
+    let end = report(first, &mut block, &mut out);
+    let s = end.state;
+    tell(end.ok, s.failed);
 }

@@ -1,79 +1,85 @@
--- What the head is left with is written where its records begin.
-use mathlib.Core.Path.{sym, _∙_}
-use borrow.Author.Tests.{not-false}
-use borrow.Author.Needs.{needs}
+-- The lent memory stays as long as it was, and the program ran so far.
+use Prim.Native.Nat.{ℕ, _-_, _≤_}
+use mathlib.Core.Path.{_≡_}
+use native.Mathlib.Omega.{arith}
+use lib.ListN.{length}
+use borrow.Author.Tests.{not-true, not-false}
+use Rattle.bam_to_cgr.proofs.RunLaws.{Along, along-start, along-on, along-off, along-last}
 use Rattle.bam_to_cgr.proofs.convert.Statement.{statement}
 use Rattle.bam_to_cgr.proofs.convert.Tie as tie
 
-head-requires : tie.Need-head-requires
-head-requires c κs = search needs
+abbrev Inv-loop : tie.InvT-loop
+Inv-loop block₀ s₀ turns₀ block s turns = (65536 ≡ length block) × (turns ≤ 140737488355328) × Along turns s block
 
-begun-requires : tie.Need-begun-requires
-begun-requires c κs = search needs
+abbrev μ-loop : tie.MeasureT-loop
+μ-loop block₀ s₀ turns₀ block s turns = 140737488355328 - turns
 
-slice-aggregate-write-all : tie.Need-slice-aggregate-write-all
-slice-aggregate-write-all c = search needs
+start-requires : tie.Need-start-requires Inv-loop μ-loop
+start-requires c κs = tt
 
-write-all-requires : tie.Need-write-all-requires
-write-all-requires c κs = search needs
+loop-holds : tie.Need-loop-holds Inv-loop μ-loop
+loop-holds c = let a = c .before .before in (a .pre .0, omega arith, along-start (a .pre .1 .0) (omega (arith, a .pre .0, a .pre .1 .0 .within)) (a .pre .1 .1) (c .start .ensures))
 
-same-length : tie.Need-same-length
-same-length c = search needs
+turn-requires : tie.Need-turn-requires Inv-loop μ-loop
+turn-requires c κs = let l = c .before .before .loop .inv in (l .0, (l .2 .within, l .2 .fits, l .2 .room))
 
-returns : tie.Need-returns
-returns c = search needs
+write-due-requires : tie.Need-write-due-requires Inv-loop μ-loop
+write-due-requires c κs = let t = c .before .before .before in (t .turn .ensures .0 .0, omega (arith, t .turn .ensures .0))
 
-mark-requires : tie.Need-mark-requires
-mark-requires c κs = search needs
+same-length : tie.Need-same-length Inv-loop μ-loop
+same-length c = let t = c .before .before .before .before .before .before in omega (arith, t)
 
-slice-aggregate-write-all-2 : tie.Need-slice-aggregate-write-all-2
-slice-aggregate-write-all-2 c = search needs
+returns : tie.Need-returns Inv-loop μ-loop
+returns c = λ e. let h = not-true (c .before .before .write-due .result .ok) (c .if1 .taken) in let z : _≡_ {A = ℕ} 0 1 = cc in absurd (omega arith)
 
-write-all-requires-2 : tie.Need-write-all-requires-2
-write-all-requires-2 c κs = search needs
+same-length-2 : tie.Need-same-length-2 Inv-loop μ-loop
+same-length-2 c = let t = c .before .before .before .before .before .before .before .before in omega (arith, t)
 
-same-length-2 : tie.Need-same-length-2
-same-length-2 c = search needs
+returns-2 : tie.Need-returns-2 Inv-loop μ-loop
+returns-2 c =
+    let v = c .before .before .before .before in
+    let t = v .before .before .before .before in
+    let k = t .before .before .before in
+    λ ok. along-off (k .loop .turns) (k .loop .inv .2) (t .turn .ensures .1) (v .write-due .ensures (not-false _ (c .before .before .if1 .left))) (t .turn .ensures .0 .0) (t .turn .ensures .0 .1) (omega (arith, t .turn .ensures .0)) (c .if2 .taken)
 
-returns-2 : tie.Need-returns-2
-returns-2 c = search needs
+add-turns : tie.Need-add-turns Inv-loop μ-loop
+add-turns c = omega arith
 
-pass-left-requires : tie.Need-pass-left-requires
-pass-left-requires c κs = (sym (c .before .before .before .before .before .before .begun .ensures) ∙ not-false _ (c .before .before .before .before .before .if1 .left), search needs)
+loop-less : tie.Need-loop-less Inv-loop μ-loop
+loop-less c = omega arith
 
-same-length-3 : tie.Need-same-length-3
-same-length-3 c = search needs
+loop-again : tie.Need-loop-again Inv-loop μ-loop
+loop-again c =
+    let v = c .before .before .before .before in
+    let t = v .before .before .before .before in
+    let k = t .before .before .before in (
+      omega (arith, t),
+      omega arith,
+      along-on (k .loop .turns) (k .loop .inv .2) (t .turn .ensures .1) (v .write-due .ensures (not-false _ (c .before .before .if1 .left))) (t .turn .ensures .0 .0) (t .turn .ensures .0 .1) (omega (arith, t .turn .ensures .0)) (c .if2 .left),
+    )
 
-returns-3 : tie.Need-returns-3
-returns-3 c = search needs
+same-length-3 : tie.Need-same-length-3 Inv-loop μ-loop
+same-length-3 c = omega arith
 
-pass-on-requires : tie.Need-pass-on-requires
-pass-on-requires c κs = search needs
-
-same-length-4 : tie.Need-same-length-4
-same-length-4 c = search needs
-
-returns-4 : tie.Need-returns-4
-returns-4 c = search needs
+returns-3 : tie.Need-returns-3 Inv-loop μ-loop
+returns-3 c = λ ok. along-last (c .before .loop .turns) (omega arith) (c .before .loop .inv .2)
 
 pub convert-spec : {M : Type 1} → statement M
 convert-spec =
     tie.close
     (tie.spec
-    head-requires
-    begun-requires
-    slice-aggregate-write-all
-    write-all-requires
+    Inv-loop
+    μ-loop
+    start-requires
+    loop-holds
+    turn-requires
+    write-due-requires
     same-length
     returns
-    mark-requires
-    slice-aggregate-write-all-2
-    write-all-requires-2
     same-length-2
     returns-2
-    pass-left-requires
+    add-turns
+    loop-less
+    loop-again
     same-length-3
-    returns-3
-    pass-on-requires
-    same-length-4
-    returns-4)
+    returns-3)

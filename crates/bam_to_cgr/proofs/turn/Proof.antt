@@ -1,12 +1,8 @@
--- The bytes used are among those at hand, and where a head goes on under four are left.
-use Prim.Native.Nat.{_-_}
-use mathlib.Core.Path.{sym, _∙_}
+-- The bytes that are left are in front of what is read, and the bytes used are among those at hand.
+use mathlib.Core.Path.{refl}
 use native.Mathlib.Omega.{arith}
-use lib.Dec.{eqb}
 use lib.ListN.{length-take}
 use borrow.Author.Needs.{needs}
-use Rattle.bam_header.specs.Inner.{isBegun}
-use Rattle.bam_to_cgr.proofs.RunLaws.{not-yet}
 use Rattle.bam_to_cgr.proofs.turn.Statement.{statement}
 use Rattle.bam_to_cgr.proofs.turn.Tie as tie
 
@@ -16,33 +12,31 @@ sub-left c = search needs
 shift-requires : tie.Need-shift-requires
 shift-requires c κs = search needs
 
-refill-requires : tie.Need-refill-requires
-refill-requires c κs = search needs
+fill-requires : tie.Need-fill-requires
+fill-requires c κs = search needs
 
 slice-reshare-prefix-read-on : tie.Need-slice-reshare-prefix-read-on
 slice-reshare-prefix-read-on c = search needs
 
 slice-aggregate-read-on : tie.Need-slice-aggregate-read-on
-slice-aggregate-read-on c = simp length-take (omega arith)
+slice-aggregate-read-on c = let f = c .before .before .before .before in simp length-take (omega (arith, f .fill .ensures .1, f .fill .ensures .0 .same))
 
 read-on-requires : tie.Need-read-on-requires
 read-on-requires c κs = search needs
-
-goes-on-requires : tie.Need-goes-on-requires
-goes-on-requires c κs = search needs
 
 same-length : tie.Need-same-length
 same-length c = search needs
 
 returns : tie.Need-returns
 returns c =
-    let k = c .before .before in
+    let k = c .before in
     let l = slice-aggregate-read-on (k .before) in
     let w = k .read-on .ensures in
     let f = k .before .before .before .before .before in
-    let a = f .before .before .before .before .before .before .before .before .args .s in (
-      (omega (arith, w .gone .within), f .refill .ensures .0 .1, λ e. omega (arith, w .short (not-yet (eqb (a .have - a .used) (f .refill .result)) (isBegun (k .read-on .result .place)) (sym (c .goes-on .ensures) ∙ e)))),
-      record { kept = f .refill .ensures .1 ∙ f .before .before .before .before .shift .ensures; grows = f .refill .ensures .0 .0; goes = c .goes-on .ensures; went = w },
+    let sh = f .before .before .before .before in
+    let a = sh .before .before .before .before in (
+      (omega (arith, w .gone .within), omega (arith, f .fill .ensures .1)),
+      record { moved = sh .shift .last .0; front = sh .shift .ensures; room = a .pre .1 .2; filled = f .fill .ensures .0; went = w; same = refl },
     )
 
 pub turn-spec : {M : Type 1} → statement M
@@ -51,10 +45,9 @@ turn-spec =
     (tie.spec
     sub-left
     shift-requires
-    refill-requires
+    fill-requires
     slice-reshare-prefix-read-on
     slice-aggregate-read-on
     read-on-requires
-    goes-on-requires
     same-length
     returns)

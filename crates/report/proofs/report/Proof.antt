@@ -2,16 +2,17 @@
 use Prim.Native.Nat.{ℕ, _*_, _-_, _≤_}
 use mathlib.Core.Path.{_≡_, ap}
 use native.Mathlib.Omega.{arith}
-use lib.ListN.{length}
+use lib.ListN.{length, take}
+use lib.Seq.{length-take-le}
 use borrow.Author.Tests.{not-true, not-false}
 use Rattle.report.specs.declared.State.{State}
 use Rattle.report.proofs.TurnLaws.{grown}
-use Rattle.report.proofs.RunLaws.{Along, along-start, along-on, along-off, along-last}
+use Rattle.report.proofs.RunLaws.{long, Along, along-start, along-on, along-off, along-last}
 use Rattle.report.proofs.report.Statement.{statement}
 use Rattle.report.proofs.report.Tie as tie
 
 abbrev Inv-loop : tie.InvT-loop
-Inv-loop block₀ out₀ s₀ turns₀ block out s turns =
+Inv-loop block₀ out₀ have s₀ turns₀ block out s turns =
     (65536 ≡ length block)
     × (131328 ≡ length out)
     × (s .have ≤ 65536)
@@ -21,7 +22,20 @@ Inv-loop block₀ out₀ s₀ turns₀ block out s turns =
     × Along turns s block out
 
 abbrev μ-loop : tie.MeasureT-loop
-μ-loop block₀ out₀ s₀ turns₀ block out s turns = 140737488355328 - turns
+μ-loop block₀ out₀ have s₀ turns₀ block out s turns = 140737488355328 - turns
+
+-- the mark takes five bytes
+enough : (c : tie.After-slice-known2 Inv-loop μ-loop) → 5 ≤ c .before .before .args .first .have
+enough c =
+    let a = c .before .before in
+    let f = a .pre .1 .1 in
+    omega (arith, long (take (a .args .first .have) (a .args .block .now)) (f .1), length-take-le (a .args .first .have) (a .args .block .now) (f .0 .within))
+
+shift-requires : tie.Need-shift-requires Inv-loop μ-loop
+shift-requires c κs = (enough (c .before), c .before .before .before .pre .1 .1 .0 .within)
+
+sub-start : tie.Need-sub-start Inv-loop μ-loop
+sub-start c = enough (c .before .before .before .before)
 
 start-requires : tie.Need-start-requires Inv-loop μ-loop
 start-requires c κs = tt
@@ -29,14 +43,16 @@ start-requires c κs = tt
 loop-holds : tie.Need-loop-holds Inv-loop μ-loop
 loop-holds c =
     let e = c .start .ensures in
-    let a = c .before .before .before .args in (
+    let sh = c .before .before .before in
+    let a = sh .before .before .before .before in
+    let f = a .pre .1 .1 in (
       omega arith,
-      omega arith,
-      omega (arith, ap (λ (q : State). q .have) e),
+      omega (arith, a .pre .1 .0),
+      omega (arith, ap (λ (q : State). q .have) e, f .0 .within, a .pre .0),
       omega (arith, ap (λ (q : State). q .put) e),
       omega (arith, ap (λ (q : State). q .records) e),
       omega arith,
-      along-start (a .block .now) (a .out .now) e,
+      along-start (a .args .out .now) (f .0) (f .1) (sh .shift .ensures) e,
     )
 
 refill-requires : tie.Need-refill-requires Inv-loop μ-loop
@@ -109,6 +125,8 @@ report-spec =
     (tie.spec
     Inv-loop
     μ-loop
+    shift-requires
+    sub-start
     start-requires
     loop-holds
     refill-requires

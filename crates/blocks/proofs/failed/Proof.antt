@@ -1,7 +1,7 @@
 -- A number that fits its width is what the machine reads back.
 use mir.Facts.{toZ-ofZ}
-use Rattle.report.proofs.failed.Statement.{statement}
-use Rattle.report.proofs.failed.Tie as tie
+use Rattle.blocks.proofs.failed.Statement.{statement}
+use Rattle.blocks.proofs.failed.Tie as tie
 
 returns : tie.Need-returns
 returns c = simp (toZ-ofZ (c .fits .got))
