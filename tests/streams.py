@@ -1,6 +1,7 @@
 """Records, streams and BAM files for the tests of the report, and an independent rendering of its lines from document 01's rules."""
 import gzip
 import os
+import socket
 import struct
 import subprocess
 
@@ -150,6 +151,8 @@ def bam(records, text=b'@HD\tVN:1.6\n', references=((b'chr1\0', 1000),)):
 
 
 NOT_BAM, HEAD_CUT = b'bam_to_cgr: not a BAM stream\n', b'bam_to_cgr: the head of the BAM stream is cut short\n'
+UNREAD, UNWRITTEN = b": the input can't be read to its end\n", b": the output can't be written\n"
+BROKEN_PIPE = (-13, 141)
 
 
 def converted(data):
@@ -201,3 +204,35 @@ def build(*programs):
 
 def run(program, data):
     return subprocess.run(command(program), input=data, capture_output=True, timeout=120)
+
+
+def run_failing(program, data):
+    """The program on a socket that gives the data, and whose next read fails: the other end is closed with a byte unread."""
+    ours, its = socket.socketpair()
+    with its:
+        its.send(b'x')
+        with ours:
+            ours.sendall(data)
+        return subprocess.run(command(program), stdin=its, capture_output=True, timeout=60)
+
+
+def run_directory(program):
+    """The program where no read goes well."""
+    at = os.open('/', os.O_RDONLY)
+    try:
+        return subprocess.run(command(program), stdin=at, capture_output=True, timeout=60)
+    finally:
+        os.close(at)
+
+
+def said_of_full(program, data):
+    """What the program says where its output takes nothing: a full device, and a pipe that nobody reads, with its signal ignored; and how it ends where the signal is not."""
+    with open('/dev/full', 'wb') as full:
+        of_full = subprocess.run(command(program), input=data, stdout=full, stderr=subprocess.PIPE, timeout=60).stderr
+    ends = []
+    for restored in (False, True):
+        end, pipe = os.pipe()
+        os.close(end)
+        with os.fdopen(pipe, 'wb') as closed:
+            ends.append(subprocess.run(command(program), input=data, stdout=closed, stderr=subprocess.PIPE, timeout=60, restore_signals=restored))
+    return of_full, ends[0].stderr, ends[1].returncode

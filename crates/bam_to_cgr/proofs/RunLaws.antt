@@ -10,10 +10,10 @@ use lib.Seq.{drop-append-le, length-take-le}
 use borrow.Author.Tests.{le-ltb, ltb-false}
 use Rattle.lists.proofs.Walks.{done}
 use Rattle.sam.specs.Record.{byteAt}
-use Rattle.blocks.specs.Fill.{Gathers, First}
+use Rattle.blocks.specs.Fill.{First}
 use Rattle.blocks.specs.declared.Read.{Read}
 use Rattle.blocks.proofs.BlockLaws.{drop-take, fill-behind, fill-grows, gathered}
-use Rattle.bam_header.specs.Header.{Head, Head.Records, Head.CutShort, isBam, texted, headOf}
+use Rattle.bam_header.specs.Header.{Head.Records, Head.CutShort, isBam, texted, headOf}
 use Rattle.bam_header.specs.Inner.{fromPlace, isBegun}
 use Rattle.bam_header.specs.declared.Place.{Place}
 use Rattle.bam_header.proofs.HeadLaws.{begun-records}

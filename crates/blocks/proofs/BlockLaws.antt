@@ -1,6 +1,6 @@
 -- Bytes that are moved to the front, one by one; and what a read did.
 use Prim.Native.Nat.{ℕ, zero, suc, _+_, _-_, _≤_, _<_}
-use mathlib.Core.Path.{_≡_, refl, sym, ap, _∙_, subst}
+use mathlib.Core.Path.{_≡_, refl, sym, ap, _∙_}
 use mathlib.Core.Bool.{Bool, true, false}
 use mathlib.Core.Logic.{_⊎_, inl, inr}
 use mathlib.Core.List.{List, [], _∷_, _++_}
@@ -11,7 +11,7 @@ use lib.Signed.{ltZ}
 use lib.ListN.{length, take, drop, getD, set, length-drop, length-set, take-append-drop}
 use lib.Seq.{take-take, drop-drop, getD-drop, take-suc, take-suc-set, drop-set-lt, take-nil}
 use Rattle.io.specs.Counts.{clamped}
-use Rattle.blocks.specs.Fill.{readOf, Filled, given, Gathers, Gathers.starts, Gathers.reads}
+use Rattle.blocks.specs.Fill.{Filled, given, Gathers, Gathers.starts, Gathers.reads}
 use Rattle.blocks.specs.declared.Read.{Read}
 
 -- ---- bytes that are moved to the front
