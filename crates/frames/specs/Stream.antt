@@ -7,7 +7,7 @@ use mathlib.Core.List.{List, [], _∷_, _++_}
 use lib.Dec.{ltb, eqb}
 use lib.ListN.{length, take, drop}
 use Rattle.sam.specs.Record.{byteAt, le16, le32}
-use Rattle.print.specs.Text.{decimal}
+use Rattle.decimal.specs.Decimal.{decimal}
 use Rattle.lines.specs.Line.{lineOf}
 use Rattle.frames.specs.declared.Next.{Next}
 use Rattle.frames.specs.declared.Next.the-variants.{Record, TooLong, CutShort, End, More}

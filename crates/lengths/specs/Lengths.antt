@@ -8,7 +8,7 @@ use lib.IntN.{ℤ, pos}
 use Rattle.lists.specs.Lists.{sumOf}
 use Rattle.signed.specs.Whole.{clamp32}
 use Rattle.sam.specs.Op.{refLen, queryLen}
-use Rattle.sam.specs.Record.{opsEnd, recordOps}
+use Rattle.sam.specs.Record.{opsEnd, recordOps, isShort}
 use Rattle.answers.specs.Answers.{Told, answered, refused}
 use Rattle.answers.specs.declared.Refusal.the-variants.{ShortRecord, AreaOverrun, TooManyOps, Overflow}
 use Rattle.answers.specs.declared.Int.{Int}
@@ -37,7 +37,7 @@ saturatedLength xs = cond (ltb mostOps (length xs)) (Int.Refused TooManyOps) (In
 -- of a record, checked: 1, 2, 4
 unfoldable pub checkedRefLength : List ℕ → Int
 checkedRefLength b =
-    cond (ltb (length b) 32) (Int.Refused ShortRecord)
+    cond (isShort b) (Int.Refused ShortRecord)
     (cond (ltb (length b) (opsEnd b)) (Int.Refused AreaOverrun)
     (asInt (sumOf refLen (recordOps b))))
 
@@ -56,7 +56,7 @@ askedLength b = Int.Number (refLengthOrZero b)
 
 -- of a record: 1
 unfoldable pub recordQueryLength : List ℕ → Count
-recordQueryLength b = cond (ltb (length b) 32) (Count.Refused ShortRecord) (Count.Number (sumOf queryLen (recordOps b)))
+recordQueryLength b = cond (isShort b) (Count.Refused ShortRecord) (Count.Number (sumOf queryLen (recordOps b)))
 
 -- both of a record: 1, 4
 abbrev pub withQuery : Int → ℕ → Lengths
@@ -66,7 +66,7 @@ withQuery (Int.Refused r) q = Lengths.Refused r
 unfoldable pub bothLengths : List ℕ → Lengths
 unfolding asInt
 bothLengths b =
-    cond (ltb (length b) 32) (Lengths.Refused ShortRecord)
+    cond (isShort b) (Lengths.Refused ShortRecord)
     (withQuery (asInt (sumOf refLen (recordOps b))) (sumOf queryLen (recordOps b)))
 
 abbrev pub tellLengths : Lengths → Told

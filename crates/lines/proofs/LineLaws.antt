@@ -4,7 +4,7 @@ use mathlib.Core.Path.{_≡_, refl, sym, ap, _∙_}
 use mathlib.Core.Bool.{Bool, true, false}
 use mathlib.Core.List.{List, [], _∷_, _++_, append-assoc}
 use native.Mathlib.Omega.{arith}
-use lib.Dec.{ltb, eqb}
+use lib.Dec.{eqb}
 use lib.IntN.{pos}
 use lib.ListN.{length, take, drop, length-append, length-take, length-drop}
 use lib.Seq.{take-at, length-take-le}
@@ -14,7 +14,7 @@ use Rattle.lists.proofs.Absurd.{never}
 use Rattle.lists.specs.Lists.{sumOf, splice}
 use Rattle.lists.proofs.ListLaws.{length-splice}
 use Rattle.sam.specs.Op.{refLen, queryLen}
-use Rattle.sam.specs.Record.{recordOps, opsEnd, seqLenOf}
+use Rattle.sam.specs.Record.{recordOps, opsEnd, seqLenOf, isShort}
 use Rattle.answers.specs.Answers.{numberOf, tellCount, tellInt, tellNat}
 use Rattle.answers.specs.Settled.{Settled}
 use Rattle.answers.specs.declared.Refusal.{Refusal}
@@ -25,7 +25,8 @@ use Rattle.answers.specs.declared.Nat.{Nat}
 use Rattle.answers.specs.declared.Nat.the-variants as Nat
 use Rattle.answers.specs.declared.Count.{Count}
 use Rattle.answers.specs.declared.Count.the-variants as Count
-use Rattle.print.specs.Text.{decimal, textOf, printed}
+use Rattle.decimal.specs.Decimal.{decimal}
+use Rattle.print.specs.Text.{textOf, printed}
 use Rattle.lengths.specs.Lengths.{asInt, checkedRefLength}
 use Rattle.ends.specs.Ends.{asRust, unclippedOf, tellPlace1}
 use Rattle.ends.specs.declared.Place1.{Place1}
@@ -114,12 +115,12 @@ refused-line n b w e = rw (e, not-zero w)
 
 text-refusal : (b : List ℕ) (w : Refusal) → printed b textRoom .answer ≡ Count.Refused w → refusalOf b ≡ numberOf w
 unfolding textTold printed
-text-refusal b w e = go (ltb (length b) 32) refl
+text-refusal b w e = go (isShort b) refl
   where
     t : textTold b .number ≡ numberOf w
     t = ap (λ (x : Count). tellCount x .number) e
 
-    go : (s : Bool) → ltb (length b) 32 ≡ s → refusalOf b ≡ numberOf w
+    go : (s : Bool) → isShort b ≡ s → refusalOf b ≡ numberOf w
     go true q =
         let f : Count.Refused ShortRecord ≡ Count.Refused w = rw q at e in
         let g : ShortRecord ≡ w = cc in

@@ -16,7 +16,7 @@ use Rattle.signed.specs.Whole.{checked}
 use Rattle.signed.specs.declared.Sum.{Sum}
 use Rattle.signed.specs.declared.Sum.the-variants as Sum
 use Rattle.sam.specs.Op.{refLen, queryLen}
-use Rattle.sam.specs.Record.{recordOps, opsEnd, posOf, flagsOf, isUnmapped, isReverse}
+use Rattle.sam.specs.Record.{recordOps, opsEnd, posOf, flagsOf, isUnmapped, isReverse, isShort}
 use Rattle.answers.specs.Answers.{tellCount, tellInt, tellNat}
 use Rattle.answers.specs.Settled.{Outcome, keeps}
 use Rattle.answers.specs.declared.Refusal.{Refusal}
@@ -91,13 +91,13 @@ unfolding printed
 any-room b d h =
     let n : ℕ = length (textOf (recordOps b)) in
     let l : List ℕ = splice textRoom 0 (textOf (recordOps b)) in
-    same-answer (ltb (length b) 32) (anyBad (recordOps b)) (ltb (length d) n) d _ textRoom l (Count.Number n)
-    ∙ ap (λ (k : ℕ). printing (ltb (length b) 32) (anyBad (recordOps b)) (ltb k n) textRoom l (Count.Number n) .answer) (h ∙ sym room-length)
+    same-answer (isShort b) (anyBad (recordOps b)) (ltb (length d) n) d _ textRoom l (Count.Number n)
+    ∙ ap (λ (k : ℕ). printing (isShort b) (anyBad (recordOps b)) (ltb k n) textRoom l (Count.Number n) .answer) (h ∙ sym room-length)
 
 -- an answer of the printing, by what it says
 pub text-refused : (b d : List ℕ) (w : Refusal) → printed b d .answer ≡ Count.Refused w → printed b d .left ≡ d
 unfolding printed
-text-refused b d w = go (ltb (length b) 32) (anyBad (recordOps b)) (ltb (length d) (length (textOf (recordOps b)))) _ _
+text-refused b d w = go (isShort b) (anyBad (recordOps b)) (ltb (length d) (length (textOf (recordOps b)))) _ _
   where
     go : (s t u : Bool) (l : List ℕ) (n : ℕ) → printing s t u d l (Count.Number n) .answer ≡ Count.Refused w → printing s t u d l (Count.Number n) .left ≡ d
     go true t u l n e = refl
@@ -113,9 +113,9 @@ pub record Shown (b d : List ℕ) (n : ℕ) : Type 0 where
 
 pub text-shown : (b d : List ℕ) (n : ℕ) → printed b d .answer ≡ Count.Number n → Shown b d n
 unfolding printed
-text-shown b d n e = go (ltb (length b) 32) refl (anyBad (recordOps b)) refl (ltb (length d) (length (textOf (recordOps b)))) refl
+text-shown b d n e = go (isShort b) refl (anyBad (recordOps b)) refl (ltb (length d) (length (textOf (recordOps b)))) refl
   where
-    go : (s : Bool) → ltb (length b) 32 ≡ s → (t : Bool) → anyBad (recordOps b) ≡ t → (u : Bool) → ltb (length d) (length (textOf (recordOps b))) ≡ u → Shown b d n
+    go : (s : Bool) → isShort b ≡ s → (t : Bool) → anyBad (recordOps b) ≡ t → (u : Bool) → ltb (length d) (length (textOf (recordOps b))) ≡ u → Shown b d n
     go true p t q u r = let f : Count.Refused ShortRecord ≡ Count.Number n = rw p at e in never (cc)
     go false p true q u r = let f : Count.Refused BadCode ≡ Count.Number n = rw (p, q) at e in never (cc)
     go false p false q true r = let f : Count.Refused NoRoom ≡ Count.Number n = rw (p, q, r) at e in never (cc)

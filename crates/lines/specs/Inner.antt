@@ -18,7 +18,8 @@ use Rattle.ends.specs.declared.Place1.the-variants as Place1
 use Rattle.lengths.specs.Lengths.{checkedRefLength}
 use Rattle.ends.specs.Ends.{asRust, unclippedOf}
 use Rattle.bin.specs.Bin.{recordBin}
-use Rattle.print.specs.Text.{decimal, textOf, printed}
+use Rattle.decimal.specs.Decimal.{decimal}
+use Rattle.print.specs.Text.{textOf, printed}
 use Rattle.puts.specs.Puts.{Put, signedDecimal}
 use Rattle.lines.specs.Line.{textRoom, orStar, oneIf}
 use Rattle.lines.specs.declared.Row.{Row}

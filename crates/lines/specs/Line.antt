@@ -10,7 +10,8 @@ use Rattle.lists.specs.Runs.{holds}
 use Rattle.signed.specs.Whole.{natural}
 use Rattle.sam.specs.Record.{recordOps, seqLenOf}
 use Rattle.answers.specs.Answers.{Told, tellInt, tellCount, tellNat}
-use Rattle.print.specs.Text.{decimal, textOf, printed}
+use Rattle.decimal.specs.Decimal.{decimal}
+use Rattle.print.specs.Text.{textOf, printed}
 use Rattle.lengths.specs.Lengths.{checkedRefLength, recordQueryLength}
 use Rattle.ends.specs.Ends.{asRust, unclippedOf, tellPlace1}
 use Rattle.bin.specs.Bin.{recordBin}

@@ -1,2 +1,2 @@
-pub mod DigitLaws
+pub mod PrintLaws
 pub mod GrammarLaws

@@ -1,29 +1,21 @@
 -- Document 01, module 4: "Decimal without leading zeros, then the letter; length 0 prints as 0. No ops, or an overrun area, gives empty text."
-use Prim.Native.Nat.{ℕ, zero, suc, _+_, _/_, _%_}
+use Prim.Native.Nat.{ℕ}
 use mathlib.Core.Bool.{Bool, false, cond, _||_}
 use mathlib.Core.List.{List, [], _∷_, _++_}
 use lib.ListN.{length}
 use lib.Dec.{ltb}
 use Rattle.lists.specs.Lists.{splice}
 use Rattle.sam.specs.Op.{lenOf, codeOf}
-use Rattle.sam.specs.Record.{recordOps}
+use Rattle.sam.specs.Record.{isShort, recordOps}
 use Rattle.answers.specs.Settled.{Outcome, keeps}
 use Rattle.answers.specs.declared.Refusal.the-variants.{ShortRecord, BadCode, NoRoom}
 use Rattle.answers.specs.declared.Count.{Count}
 use Rattle.answers.specs.declared.Count.the-variants as Count
 use Rattle.ops.specs.Ops.{letterOf}
-
--- n in decimal, its last digit last; the first argument only bounds the recursion
-unfoldable pub dec : ℕ → ℕ → List ℕ
-dec zero n = []
-dec (suc bound) n = cond (ltb n 10) ((48 + n) ∷ []) (dec bound (n / 10) ++ ((48 + n % 10) ∷ []))
-
-unfoldable pub decimal : ℕ → List ℕ
-unfolding dec
-decimal n = dec (suc n) n
+use Rattle.decimal.specs.Decimal.{decimal}
 
 unfoldable pub opText : ℕ → List ℕ
-unfolding decimal letterOf
+unfolding letterOf
 opText o = decimal (lenOf o) ++ (letterOf (codeOf o) ∷ [])
 
 unfoldable pub textOf : List ℕ → List ℕ
@@ -38,7 +30,7 @@ anyBad (o ∷ xs) = ltb 8 (codeOf o) || anyBad xs
 -- `cigar_to_bytes_into` of a record into lent memory d: 1, 7, 6
 unfoldable pub printed : List ℕ → List ℕ → Outcome Count
 printed b d =
-    cond (ltb (length b) 32) (keeps (Count.Refused ShortRecord) d)
+    cond (isShort b) (keeps (Count.Refused ShortRecord) d)
     (cond (anyBad (recordOps b)) (keeps (Count.Refused BadCode) d)
     (cond (ltb (length d) (length (textOf (recordOps b)))) (keeps (Count.Refused NoRoom) d)
     (record { answer = Count.Number (length (textOf (recordOps b))); left = splice d 0 (textOf (recordOps b)) })))

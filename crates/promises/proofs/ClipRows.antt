@@ -7,7 +7,7 @@ use lib.ListN.{length}
 use lib.Dec.{ltb}
 use Rattle.lists.specs.Lists.{sumOf}
 use Rattle.sam.specs.Op.{lenOf}
-use Rattle.sam.specs.Record.{recordOps}
+use Rattle.sam.specs.Record.{recordOps, isShort}
 use Rattle.oplist.specs.Ops.{mostOps}
 use Rattle.answers.specs.declared.Refusal.the-variants.{ShortRecord, TooManyOps, TooLong, NoRoom}
 use Rattle.clip.specs.Answer.{clippedOps, clippedCount, clippedInto, clippedUpTo, clipped, clippedRecord, tellClipped}
@@ -35,4 +35,4 @@ module _ (amount : ℕ) (start : Bool) (d : List ℕ) where
   pub clip-cigar-ops : (b : List ℕ)
       → GivesFilled tellClipped (clippedRecord b amount start d) d (clipRecordRows b amount start d) (done (recordOps b)) (clippedOps (recordOps b) amount start)
   unfolding clippedRecord
-  clip-cigar-ops b = kept-row tellClipped (ltb (length b) 32) (Refused ShortRecord) 1 refl refl (into-rows (recordOps b))
+  clip-cigar-ops b = kept-row tellClipped (isShort b) (Refused ShortRecord) 1 refl refl (into-rows (recordOps b))

@@ -13,7 +13,7 @@ use Rattle.signed.specs.declared.Sum.{Sum}
 use Rattle.signed.specs.declared.Sum.the-variants as Sum
 use Rattle.sam.specs.Columns.{Over, Base, Gap, Off}
 use Rattle.sam.specs.Op.{refLen}
-use Rattle.sam.specs.Record.{posOf, flagsOf, isUnmapped, isReverse, recordOps}
+use Rattle.sam.specs.Record.{posOf, flagsOf, isUnmapped, isReverse, recordOps, isShort}
 use Rattle.clip_runs.specs.Clips.{leadingClips, trailingClips}
 use Rattle.lengths.specs.Lengths.{refLengthOrZero}
 use Rattle.oplist.specs.Ops.{mostOps}
@@ -72,7 +72,7 @@ module _ {A : Type 0} (tell : A → Told) (to : Sum → A) (stops : tell (to Sum
 pub unclipped-5prime-from-raw-bam : (b : List ℕ) → Gives (tellPlace1 (asRust (unclippedOf b))) (unclippedRows b)
 unfolding unclippedOf oneBased both
 unclipped-5prime-from-raw-bam b =
-    row tell (ltb (length b) 32) (Unclipped.Refused ShortRecord) _ 1 refl
+    row tell (isShort b) (Unclipped.Refused ShortRecord) _ 1 refl
     (row-unless tell (isUnmapped (flagsOf b)) Unclipped.Unmapped _ refl
     (row-unless tell (noOps b) Unclipped.NoOps _ refl
     (row-sum tell (λ s. unclippedAt (toPlace1 s) reverse xs) at (endSums reverse at xs) refl
@@ -93,21 +93,21 @@ unclipped-5prime-from-raw-bam b =
 pub unclipped-5prime-raw : (b : List ℕ) (p : Pos0) (reverse : Bool) → Gives (tellPlace0 (unclippedFrom b p reverse)) (unclippedFromRows b (p .0) reverse)
 unfolding unclippedFrom
 unclipped-5prime-raw b p reverse =
-    row tellPlace0 (ltb (length b) 32) (Place0.Refused ShortRecord) _ 1 refl
+    row tellPlace0 (isShort b) (Place0.Refused ShortRecord) _ 1 refl
     (row-unless tellPlace0 (noOps b) (Place0.At p) _ refl
     (end-sums tellPlace0 toPlace0 refl (λ z. refl) reverse (p .0) (recordOps b)))
 
 pub alignment-start-from-raw : (b : List ℕ) → Gives (tellFound1 (alignmentStart b)) (startRows b)
 unfolding alignmentStart oneBased both
 alignment-start-from-raw b =
-    row tellFound1 (ltb (length b) 32) (Found1.Refused ShortRecord) _ 1 refl
+    row tellFound1 (isShort b) (Found1.Refused ShortRecord) _ 1 refl
     (row-unless tellFound1 (ltZ (posOf b) (pos 0)) Found1.Nothing _ refl
     (row-sum tellFound1 (λ s. toFound1 (toPlace1 s)) (posOf b +ℤ pos 1) [] refl (answer refl refl)))
 
 pub alignment-end-from-raw : (b : List ℕ) → Gives (tellFound1 (alignmentEnd b)) (endRows b)
 unfolding alignmentEnd both
 alignment-end-from-raw b =
-    row tellFound1 (ltb (length b) 32) (Found1.Refused ShortRecord) _ 1 refl
+    row tellFound1 (isShort b) (Found1.Refused ShortRecord) _ 1 refl
     (row-unless tellFound1 (ltZ (posOf b) (pos 0)) Found1.Nothing _ refl
     (row-unless tellFound1 (eqb (natural (refLengthOrZero b)) 0) Found1.Nothing _ refl
     (row-sum tellFound1 (λ s. toFound1 (toPlace1 s)) (posOf b +ℤ refLengthOrZero b) [] refl (answer refl refl))))

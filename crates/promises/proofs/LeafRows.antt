@@ -9,7 +9,7 @@ use lib.Dec.{T, ltb, eqb}
 use lib.Signed.{ltZ}
 use Rattle.lists.specs.Lists.{sumOf}
 use Rattle.sam.specs.Op.{refLen, queryLen}
-use Rattle.sam.specs.Record.{opsStart, opCountOf, opsEnd, posOf, recordOps}
+use Rattle.sam.specs.Record.{opsStart, opCountOf, opsEnd, posOf, recordOps, isShort}
 use Rattle.oplist.specs.Ops.{mostOps}
 use Rattle.answers.specs.Answers.{Told, answered, tellInt, tellNat, tellCount}
 use Rattle.answers.specs.declared.Refusal.the-variants.{ShortRecord, AreaOverrun, TooManyOps, Overflow, NoRoom, BadLength}
@@ -38,21 +38,21 @@ use Rattle.promises.proofs.RowLaws.{number-alone, answer, row, row-eith
 
 -- each signed field: `ref_id`, `pos`, `mate_ref_id`, `mate_pos`, `template_length`; and each unsigned one: `l_read_name`, `bin`, `n_cigar_op`, `flags`, `l_seq`
 pub int-field : (f : List ℕ → ℤ) (b : List ℕ) → Gives (tellInt (intField f b)) (recordRows b)
-int-field f b = row tellInt (ltb (length b) 32) (Int.Refused ShortRecord) (Int.Number (f b)) 1 refl (answer refl refl)
+int-field f b = row tellInt (isShort b) (Int.Refused ShortRecord) (Int.Number (f b)) 1 refl (answer refl refl)
 
 pub nat-field : (f : List ℕ → ℕ) (b : List ℕ) → Gives (tellNat (natField f b)) (recordRows b)
-nat-field f b = row tellNat (ltb (length b) 32) (Nat.Refused ShortRecord) (Nat.Number (f b)) 1 refl (answer refl refl)
+nat-field f b = row tellNat (isShort b) (Nat.Refused ShortRecord) (Nat.Number (f b)) 1 refl (answer refl refl)
 
 pub cigar-raw-bytes : (b : List ℕ) → Gives (tellArea (cigarArea b)) (recordRows b)
 unfolding cigarArea
-cigar-raw-bytes b = row tellArea (ltb (length b) 32) (Area.Refused ShortRecord) _ 1 refl (area (ltb (length b) (opsEnd b)))
+cigar-raw-bytes b = row tellArea (isShort b) (Area.Refused ShortRecord) _ 1 refl (area (ltb (length b) (opsEnd b)))
   where
     area : (t : Bool) → Gives (tellArea (cond t (Area.At 0 0) (Area.At (opsStart b) (4 * opCountOf b)))) []
     area true = answer refl refl
     area false = answer refl refl
 
 -- "where the answer would be a part of the record, an empty part stands beside the number"
-pub no-part : (b : List ℕ) → ltb (length b) 32 ≡ true → cigarPart b ≡ []
+pub no-part : (b : List ℕ) → isShort b ≡ true → cigarPart b ≡ []
 unfolding cigarPart
 no-part b t = rw (t) refl
 
@@ -79,7 +79,7 @@ op-new k n = row-either tellOp (eqb n 0) (ltb 268435455 n) (NewOp.Refused BadLen
 pub get-cigar-ops : (b d : List ℕ) → GivesFilled tellCount (getOps b d) d (opsRows b d) (Count.Number (length (recordOps b))) (recordOps b)
 unfolding getOps
 get-cigar-ops b d =
-    kept-row tellCount (ltb (length b) 32) (Count.Refused ShortRecord) 1 refl refl
+    kept-row tellCount (isShort b) (Count.Refused ShortRecord) 1 refl refl
     (last-row tellCount (recordOps b) (Count.Refused NoRoom) _ refl refl)
 
 -- ---- lengths
@@ -115,17 +115,17 @@ saturating-reference-length xs = row tellInt (ltb mostOps (length xs)) (Int.Refu
 pub reference-length-from-raw-bam-checked : (b : List ℕ) → Gives (tellInt (checkedRefLength b)) (checkedRows b)
 unfolding checkedRefLength
 reference-length-from-raw-bam-checked b =
-    row tellInt (ltb (length b) 32) (Int.Refused ShortRecord) _ 1 refl
+    row tellInt (isShort b) (Int.Refused ShortRecord) _ 1 refl
     (row tellInt (ltb (length b) (opsEnd b)) (Int.Refused AreaOverrun) _ 2 refl (total-rows tellInt (λ x. x) (sumOf refLen (recordOps b)) refl refl))
 
 pub query-length : (b : List ℕ) → Gives (tellCount (recordQueryLength b)) (recordRows b)
 unfolding recordQueryLength
-query-length b = row tellCount (ltb (length b) 32) (Count.Refused ShortRecord) _ 1 refl (answer refl refl)
+query-length b = row tellCount (isShort b) (Count.Refused ShortRecord) _ 1 refl (answer refl refl)
 
 pub cigar-lengths : (b : List ℕ) → Gives (tellLengths (bothLengths b)) (bothRows b)
 unfolding bothLengths
 cigar-lengths b =
-    row tellLengths (ltb (length b) 32) (Lengths.Refused ShortRecord) _ 1 refl
+    row tellLengths (isShort b) (Lengths.Refused ShortRecord) _ 1 refl
     (total-rows tellLengths (λ x. withQuery x (sumOf queryLen (recordOps b))) (sumOf refLen (recordOps b)) refl refl)
 
 -- ---- bins
@@ -140,7 +140,7 @@ reg2bin-rows beg end = region beg end
 pub bin-from-raw-bam : (b : List ℕ) → Gives (tellNat (recordBin b)) (binRows b)
 unfolding recordBin binFrom askedLength binUpTo
 bin-from-raw-bam b =
-    row tellNat (ltb (length b) 32) (Nat.Refused ShortRecord) _ 1 refl
+    row tellNat (isShort b) (Nat.Refused ShortRecord) _ 1 refl
     (row-unless tellNat (ltZ (posOf b) (pos 0)) (Nat.Number 4680) _ refl
     (row-sum tellNat (binUpTo (posOf b)) end ((end -ℤ pos 1) ∷ []) refl (region (posOf b) end)))
   where

@@ -6,5 +6,6 @@ pub mod ClipRows
 pub mod OverlapRows
 pub mod Settles
 pub mod Demand3
+pub mod RoundTrip
 pub mod SamLaws
 pub mod Marked

@@ -5,12 +5,12 @@ use mathlib.Core.Path.{_≡_, refl}
 use mathlib.Core.Bool.{Bool, true, false}
 use mathlib.Core.List.{List}
 use lib.IntN.{pos}
-use lib.ListN.{getD}
-use Rattle.lists.specs.Lists.{facing, sumOf}
+use lib.ListN.{length, getD}
+use Rattle.lists.specs.Lists.{facing, Each, sumOf}
 use Rattle.sam.specs.Op.{lenOf, letters, refLen, queryLen}
 use Rattle.sam.specs.Columns.{columns, queries, refs}
 use Rattle.sam.specs.Placement.{WellPlaced}
-use Rattle.sam.specs.Text.{Spells}
+use Rattle.sam.specs.Text.{Cigar}
 use Rattle.sam.specs.Bins.{SmallestBin}
 use Rattle.sam.proofs.LengthLaws as Length
 use Rattle.ops.specs.Ops.{letterOf}
@@ -20,11 +20,11 @@ use Rattle.print.proofs.GrammarLaws as Printed
 use Rattle.strict_text.specs.Text.{textOps}
 use Rattle.strict_text.specs.Valid.{validMapped}
 use Rattle.strict_text.specs.Parsed.{strict}
-use Rattle.strict_text.specs.Meaning.{Mapped, MappedText, withoutZeros}
-use Rattle.lists.specs.Lists.{Each}
+use Rattle.strict_text.specs.Meaning.{Mapped, MappedText}
 use Rattle.strict_text.proofs.GrammarLaws as Strict
 use Rattle.strict_text.proofs.ValidLaws as Valid
-use Rattle.strict_text.proofs.RoundTrip as Round
+use Rattle.promises.specs.RoundTrip.{withoutZeros}
+use Rattle.promises.proofs.RoundTrip as Round
 use Rattle.mate_text.specs.Readers.{Agree}
 use Rattle.mate_text.proofs.Agree as Mate
 use Rattle.lookup.specs.Lookup.{lookup}
@@ -61,9 +61,9 @@ lookup-only xs start at asked t r s = Looked.lookup-only xs start at asked t r s
 
 -- ---- text
 
--- what is printed is in the grammar, and means the list
-pub printed-means : (xs : List ℕ) → anyBad xs ≡ false → Spells (textOf xs) xs
-printed-means xs e = Printed.print-spells xs e
+-- what is printed of one op or more is in the grammar, and means the list
+pub printed-means : (xs : List ℕ) → anyBad xs ≡ false → 0 < length xs → Cigar (textOf xs) xs
+printed-means xs e h = Printed.print-cigar xs e h
 
 -- the strict reader takes only texts of the grammar, with lengths 1 to 268,435,455, well placed, with a reference op, and answers the list that the text means
 pub strict-only : (s : List ℕ) → strict s ≡ true → MappedText s (textOps s)

@@ -5,7 +5,7 @@ use mathlib.Core.Bool.{not}
 use mathlib.Core.List.{List}
 use lib.ListN.{length}
 use lib.Dec.{ltb}
-use Rattle.sam.specs.Record.{recordOps}
+use Rattle.sam.specs.Record.{recordOps, isShort}
 use Rattle.oplist.specs.Ops.{mostOps}
 use Rattle.answers.specs.Answers.{tellCount, tellFlag}
 use Rattle.answers.specs.declared.Refusal.the-variants.{ShortRecord, TooManyOps, NotACigar, NoRoom, BadCode}
@@ -22,7 +22,7 @@ use Rattle.promises.proofs.RowLaws.{answer, row, kept-row, last-row}
 pub cigar-to-bytes-into : (b d : List ℕ) → GivesFilled tellCount (printed b d) d (printRows b d) (Count.Number (length (textOf (recordOps b)))) (textOf (recordOps b))
 unfolding printed
 cigar-to-bytes-into b d =
-    kept-row tellCount (ltb (length b) 32) (Count.Refused ShortRecord) 1 refl refl
+    kept-row tellCount (isShort b) (Count.Refused ShortRecord) 1 refl refl
     (kept-row tellCount (anyBad (recordOps b)) (Count.Refused BadCode) 7 refl refl
     (last-row tellCount (textOf (recordOps b)) (Count.Refused NoRoom) _ refl refl))
 

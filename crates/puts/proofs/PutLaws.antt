@@ -1,5 +1,5 @@
 -- What is put behind what was put is put with it; a run of stores is put; decimal is as many digits as there are.
-use Prim.Native.Nat.{ℕ, zero, suc, _+_, _-_, _^_, _≤_, _<_}
+use Prim.Native.Nat.{ℕ, suc, _+_, _-_, _≤_, _<_}
 use mathlib.Core.Path.{_≡_, refl, sym, ap, _∙_, subst}
 use mathlib.Core.Bool.{true, false}
 use mathlib.Core.List.{List, [], _∷_, _++_, append-assoc, append-nil}
@@ -14,10 +14,10 @@ use mir.Val.{SFits}
 use Rattle.lists.proofs.Absurd.{never}
 use Rattle.lists.proofs.Walks.{step, done}
 use Rattle.signed.specs.Whole.{raised}
-use Rattle.print.specs.Text.{decimal}
-use Rattle.print.specs.Digits.{digits}
-use Rattle.print.proofs.DigitLaws.{decimal-is, length-digits}
-use Rattle.puts.specs.Puts.{Put, Places, signOf, signedDecimal}
+use Rattle.decimal.specs.Decimal.{decimal}
+use Rattle.decimal.specs.Inner.{Width, digits}
+use Rattle.decimal.proofs.DigitLaws.{decimal-digits, length-digits}
+use Rattle.puts.specs.Puts.{Put, signOf, signedDecimal}
 
 pub put-then : {a b c : List ℕ} {at m r : ℕ} (vs ws : List ℕ) → Put a at vs m b → Put b m ws r c → Put a at (vs ++ ws) r c
 put-then {a} {b} {c} {at} {m} {r} vs ws p q =
@@ -63,16 +63,10 @@ put-as {d} {d'} {e'} {at} {r} {s} vs {ws} p q m h =
     let h₂ : Put d at ws s d' = subst (λ (k : ℕ). Put d at ws k d') q h₁ in
     subst (λ (l : List ℕ). Put d at ws s l) m h₂
 
--- as many digits as a number has
-pub places-digits : (n r : ℕ) → Places n r → decimal n ≡ digits r n
-places-digits n zero w = absurd (omega (arith, w .some))
-places-digits n (suc k) w =
-    decimal-is n k (w .below) (λ h. subst (λ (x : ℕ). 10 ^ x ≤ n) {x = suc k - 1} {y = k} (omega arith) (w .least (omega arith)))
-
-pub put-decimal : (n r : ℕ) → Places n r → (d d' : List ℕ) (at : ℕ) → at + r ≤ length d → d' ≡ sets d at (digits r n) → Put d at (decimal n) (at + r) d'
+pub put-decimal : (n r : ℕ) → Width n r → (d d' : List ℕ) (at : ℕ) → at + r ≤ length d → d' ≡ sets d at (digits r n) → Put d at (decimal n) (at + r) d'
 put-decimal n r w d d' at h e =
     let l = length-digits r n in
-    put-as (digits r n) (sym (places-digits n r w)) (ap (λ (k : ℕ). at + k) l) (sym e) (put-sets d at (digits r n) (omega arith))
+    put-as (digits r n) (sym (decimal-digits n r w)) (ap (λ (k : ℕ). at + k) l) (sym e) (put-sets d at (digits r n) (omega arith))
 
 -- a sign and the number without it
 pub signed-is : (z : ℤ) → signOf z ++ decimal (natAbs z) ≡ signedDecimal z

@@ -4,55 +4,8 @@ ghost use Prim.Native.Nat.{_+_, _≤_};
 ghost use lib.ListN.{length};
 ghost use lib.IntN.{natAbs};
 ghost use mathlib.Core.List.{[], _∷_};
-ghost use Rattle.print.specs.Text.{decimal};
-ghost use Rattle.puts.specs.Puts.{Put, Places, signOf, signedDecimal};
-
-// How many decimal digits n has.
-fn width(n: u64) -> usize
-    ensures { λ r. ⌜ Places n r ⌝ }
-{
-    if n < 10 {
-        1
-    } else if n < 100 {
-        2
-    } else if n < 1000 {
-        3
-    } else if n < 10000 {
-        4
-    } else if n < 100000 {
-        5
-    } else if n < 1000000 {
-        6
-    } else if n < 10000000 {
-        7
-    } else if n < 100000000 {
-        8
-    } else if n < 1000000000 {
-        9
-    } else if n < 10000000000 {
-        10
-    } else if n < 100000000000 {
-        11
-    } else if n < 1000000000000 {
-        12
-    } else if n < 10000000000000 {
-        13
-    } else if n < 100000000000000 {
-        14
-    } else if n < 1000000000000000 {
-        15
-    } else if n < 10000000000000000 {
-        16
-    } else if n < 100000000000000000 {
-        17
-    } else if n < 1000000000000000000 {
-        18
-    } else if n < 10000000000000000000 {
-        19
-    } else {
-        20
-    }
-}
+ghost use Rattle.decimal.specs.Decimal.{decimal};
+ghost use Rattle.puts.specs.Puts.{Put, signOf, signedDecimal};
 
 // n in decimal.
 pub fn put_number(n: u64, out: &mut [u8], at: usize) -> usize
@@ -60,8 +13,8 @@ pub fn put_number(n: u64, out: &mut [u8], at: usize) -> usize
     ensures { λ r. ⌜ Put (now (out .entry)) at (decimal n) r (now (out .exit)) ⌝ }
     ensures { λ r. ⌜ r ≤ at + 20 ⌝ }
 {
-    let k = width(n);
-    print::put_digits(n, k, out, at);
+    let k = decimal::width(n);
+    decimal::put_digits(n, k, out, at);
     at + k
 }
 

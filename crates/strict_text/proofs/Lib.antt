@@ -6,4 +6,3 @@ pub mod PassLaws
 pub mod PutLaws
 pub mod ValidLaws
 pub mod GrammarLaws
-pub mod RoundTrip

@@ -2,13 +2,12 @@
 -- H and S (`WellPlaced`), lengths from 1, the ops of the table, a reference op; for a text its grammar (`Spells`), with lengths to 268,435,455.
 use Prim.Native.Nat.{ℕ, _≤_, _<_}
 use mathlib.Core.Path.{_≡_}
-use mathlib.Core.Bool.{Bool, true, false, cond, not, _&&_}
-use mathlib.Core.List.{List, [], _∷_, _++_}
-use lib.Dec.{eqb}
+use mathlib.Core.Bool.{true}
+use mathlib.Core.List.{List, _∷_, _++_}
 use Rattle.lists.specs.Lists.{Each}
 use Rattle.sam.specs.Op.{lenOf, codeOf, isRef}
 use Rattle.sam.specs.Placement.{WellPlaced}
-use Rattle.sam.specs.Text.{isDigit, Spells}
+use Rattle.sam.specs.Text.{Spells}
 
 pub record HasReference (xs : List ℕ) : Type 0 where
   pub left : List ℕ
@@ -27,11 +26,3 @@ pub record MappedText (s xs : List ℕ) : Type 0 where
   pub spells : Spells s xs
   pub fits : Each (λ o. lenOf o ≤ 268435455) xs
   pub mapped : Mapped xs
-
--- a text without its leading zeros: a 0 goes where no kept digit of its number stands before it
-unfoldable pub withoutZeros : Bool → List ℕ → List ℕ
-withoutZeros kept [] = []
-withoutZeros kept (b ∷ s) =
-    cond (isDigit b)
-    (cond (not kept && eqb b 48) (withoutZeros false s) (b ∷ withoutZeros true s))
-    (b ∷ withoutZeros false s)

@@ -5,7 +5,8 @@ use mathlib.Core.List.{List, [], _∷_, _++_}
 use native.Mathlib.Omega.{arith}
 use Rattle.answers.specs.Answers.{numberOf}
 use Rattle.sam.specs.Record.{recordOps}
-use Rattle.print.specs.Text.{decimal, textOf}
+use Rattle.decimal.specs.Decimal.{decimal}
+use Rattle.print.specs.Text.{textOf}
 use Rattle.lines.specs.Line.{tabbed, refusedFields, orStar}
 use Rattle.lines.specs.Inner.{TextPut, rowFields}
 use Rattle.lines.specs.declared.Text.{Text}

@@ -6,7 +6,7 @@ use native.Mathlib.Omega.{arith}
 use lib.IntN.{ℤ}
 use mir.Syntax.{w32}
 use mir.Val.{toZ, ofZ}
-use Rattle.print.specs.Text.{decimal}
+use Rattle.decimal.specs.Decimal.{decimal}
 use Rattle.puts.specs.Puts.{signedDecimal}
 use Rattle.lines.specs.Line.{tabbed}
 use Rattle.puts.proofs.PutLaws.{put-then, put-as}

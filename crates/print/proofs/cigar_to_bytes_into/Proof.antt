@@ -13,8 +13,8 @@ use Rattle.answers.proofs.Unique.{settled, outcome}
 use Rattle.answers.specs.declared.Count.the-variants as Count
 use Rattle.sam.specs.Record.{recordOps}
 use Rattle.print.specs.Text.{textOf, anyBad, printed}
-use Rattle.print.specs.Digits.{roomOf}
-use Rattle.print.proofs.DigitLaws.{room-bad, room-some}
+use Rattle.print.specs.Inner.{roomOf}
+use Rattle.print.proofs.PrintLaws.{room-bad, room-some}
 use Rattle.print.proofs.cigar_to_bytes_into.Statement.{statement}
 use Rattle.print.proofs.cigar_to_bytes_into.Tie as tie
 

@@ -1,15 +1,15 @@
 -- The digits are stored, then the letter behind them.
 use native.Mathlib.Omega.{arith}
 use borrow.Author.Needs.{needs}
-use Rattle.print.proofs.DigitLaws.{opText-length, op-stores}
+use Rattle.print.proofs.PrintLaws.{opText-length, op-stores}
 use Rattle.print.proofs.put_op.Statement.{statement}
 use Rattle.print.proofs.put_op.Tie as tie
 
+cast-n : tie.Need-cast-n
+cast-n c = search needs
+
 width-requires : tie.Need-width-requires
 width-requires c κs = search needs
-
-cast-put-digits : tie.Need-cast-put-digits
-cast-put-digits c = search needs
 
 put-digits-requires : tie.Need-put-digits-requires
 put-digits-requires c κs = let w = c .before .width in let n = opText-length (c .before .before .before .args .op) (w .result) (w .ensures) in omega arith
@@ -46,8 +46,8 @@ pub put-op-spec : {M : Type 1} → statement M
 put-op-spec =
     tie.close
     (tie.spec
+    cast-n
     width-requires
-    cast-put-digits
     put-digits-requires
     add-e
     named-requires

@@ -6,7 +6,7 @@ use lib.ListN.{length, drop}
 use lib.Seq.{sets}
 use Rattle.oplist.specs.Ops.{opsOf}
 use Rattle.print.specs.Text.{textOf}
-use Rattle.print.proofs.DigitLaws.{length-step, text-turn, text-done}
+use Rattle.print.proofs.PrintLaws.{length-step, text-turn, text-done}
 use Rattle.print.proofs.put_text.Statement.{statement}
 use Rattle.print.proofs.put_text.Tie as tie
 

@@ -7,16 +7,16 @@ use lib.ListN.{length, drop}
 use borrow.Author.Tests.{lt-ltb, le-ltb}
 use Rattle.oplist.specs.Ops.{opsOf}
 use Rattle.print.specs.Text.{textOf, anyBad}
-use Rattle.print.specs.Digits.{roomOf}
+use Rattle.print.specs.Inner.{roomOf}
 use Rattle.print.specs.declared.Room.the-variants as Room
-use Rattle.print.proofs.DigitLaws.{opText-length, length-step, bad-step, text-done, bad-done}
+use Rattle.print.proofs.PrintLaws.{opText-length, length-step, bad-step, text-done, bad-done}
 use Rattle.print.proofs.room_for.Statement.{statement}
 use Rattle.print.proofs.room_for.Tie as tie
 
 abbrev Inv-loop : tie.InvT-loop
 Inv-loop words rec list count n₀ i₀ n i =
     (i ≤ count)
-    × (n ≤ 11 * i)
+    × (n ≤ 21 * i)
     × (n + length (textOf (drop i (opsOf words rec list))) ≡ length (textOf (opsOf words rec list)))
     × (anyBad (drop i (opsOf words rec list)) ≡ anyBad (opsOf words rec list))
 
@@ -42,6 +42,9 @@ returns c =
     let e = bad-step xs (l .loop .i) (o .result) (o .ensures) (omega (arith, l .before .count .ensures)) in
     let b : anyBad xs ≡ true = sym (l .loop .inv .3) ∙ e ∙ rw (lt-ltb 8 (o .result % 16) (c .if1 .taken)) in
     rw b
+
+cast-width : tie.Need-cast-width Inv-loop μ-loop
+cast-width c = omega arith
 
 width-requires : tie.Need-width-requires Inv-loop μ-loop
 width-requires c κs = tt
@@ -94,6 +97,7 @@ room-for-spec =
     loop-holds
     op-at-requires
     returns
+    cast-width
     width-requires
     add-n
     add-n-2

@@ -1,7 +1,7 @@
 -- The tab, then the number behind it.
 use mathlib.Core.List.{[], _∷_}
 use native.Mathlib.Omega.{arith}
-use Rattle.print.specs.Text.{decimal}
+use Rattle.decimal.specs.Decimal.{decimal}
 use Rattle.puts.proofs.PutLaws.{put-then}
 use borrow.Author.Needs.{needs}
 use Rattle.puts.proofs.put_field.Statement.{statement}

@@ -5,7 +5,7 @@ use mathlib.Core.List.{List, [], _∷_, _++_}
 use native.Mathlib.Omega.{arith}
 use lib.IntN.{natAbs}
 use mir.Facts.{toZ-ofZ}
-use Rattle.print.specs.Text.{decimal}
+use Rattle.decimal.specs.Decimal.{decimal}
 use Rattle.puts.specs.Puts.{signOf}
 use Rattle.puts.proofs.PutLaws.{put-then, put-as, signed-is}
 use borrow.Author.Needs.{needs}

@@ -1,8 +1,8 @@
 -- Below 10000 by the powers that n has got to, else by the tests.
-use Rattle.print.proofs.DigitLaws.{short-width}
+use Rattle.decimal.proofs.DigitLaws.{short-width}
 use borrow.Author.Needs.{needs}
-use Rattle.print.proofs.width.Statement.{statement}
-use Rattle.print.proofs.width.Tie as tie
+use Rattle.decimal.proofs.width.Statement.{statement}
+use Rattle.decimal.proofs.width.Tie as tie
 
 reached-requires : tie.Need-reached-requires
 reached-requires c κs = search needs
@@ -27,23 +27,11 @@ returns c =
     let s = c .before .before .before in
     simp (c .before .before .reached .ensures .0, c .before .reached2 .ensures .0, c .reached3 .ensures .0) (short-width (s .before .args .n) (s .if1 .taken))
 
+long-width-requires : tie.Need-long-width-requires
+long-width-requires c κs = search needs
+
 returns-2 : tie.Need-returns-2
-returns-2 c = search needs
-
-returns-3 : tie.Need-returns-3
-returns-3 c = search needs
-
-returns-4 : tie.Need-returns-4
-returns-4 c = search needs
-
-returns-5 : tie.Need-returns-5
-returns-5 c = search needs
-
-returns-6 : tie.Need-returns-6
-returns-6 c = search needs
-
-returns-7 : tie.Need-returns-7
-returns-7 c = search needs
+returns-2 c = c .long-width .ensures
 
 pub width-spec : {M : Type 1} → statement M
 width-spec =
@@ -56,9 +44,5 @@ width-spec =
     reached-requires-3
     add-result-3
     returns
-    returns-2
-    returns-3
-    returns-4
-    returns-5
-    returns-6
-    returns-7)
+    long-width-requires
+    returns-2)

@@ -4,10 +4,10 @@ use mathlib.Core.Path.{_≡_, refl, ap, _∙_}
 use Prim.Native.Nat.{ℕ, suc, _-_, _≤_}
 use lib.ListN.{length, length-set}
 use lib.Seq.{sets}
-use Rattle.print.specs.Digits.{digits}
-use Rattle.print.proofs.DigitLaws.{digits-turn}
-use Rattle.print.proofs.put_digits.Statement.{statement}
-use Rattle.print.proofs.put_digits.Tie as tie
+use Rattle.decimal.specs.Inner.{digits}
+use Rattle.decimal.proofs.DigitLaws.{digits-turn}
+use Rattle.decimal.proofs.put_digits.Statement.{statement}
+use Rattle.decimal.proofs.put_digits.Tie as tie
 
 abbrev Inv-loop : tie.InvT-loop
 Inv-loop n k out₀ at j₀ rest₀ out j rest =

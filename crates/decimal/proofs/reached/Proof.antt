@@ -1,8 +1,8 @@
 -- By the test.
 use borrow.Author.Tests.{lt-ltb, le-ltb}
 use native.Mathlib.Omega.{arith}
-use Rattle.print.proofs.reached.Statement.{statement}
-use Rattle.print.proofs.reached.Tie as tie
+use Rattle.decimal.proofs.reached.Statement.{statement}
+use Rattle.decimal.proofs.reached.Tie as tie
 
 returns : tie.Need-returns
 returns c = (simp (lt-ltb _ _ (c .if1 .taken)), omega arith)

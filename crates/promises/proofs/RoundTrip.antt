@@ -11,17 +11,19 @@ use borrow.Author.Tests.{le-ltb, eqb-true, eqb-false}
 use Rattle.sam.specs.Op.{lenOf, codeOf, opOf, letters}
 use Rattle.sam.specs.Text.{Digits, value, Spells, Spells.end, Spells.op}
 use Rattle.ops.specs.Ops.{letterOf}
-use Rattle.print.specs.Text.{decimal, opText, textOf, anyBad}
-use Rattle.print.proofs.GrammarLaws.{print-spells, decimal-one, decimal-more}
+use Rattle.decimal.specs.Decimal.{decimal}
+use Rattle.print.specs.Text.{opText, textOf, anyBad}
+use Rattle.decimal.proofs.Meaning.{decimal-one, decimal-more}
+use Rattle.print.proofs.GrammarLaws.{print-spells}
 use Rattle.sam.proofs.TextLaws.{is-digit}
 use Rattle.sam.specs.Text.{isDigit}
 use Rattle.strict_text.specs.Text.{textOps}
 use Rattle.strict_text.specs.Valid.{validMapped}
 use Rattle.strict_text.specs.Parsed.{strict}
 use Rattle.lists.specs.Lists.{Each}
-use Rattle.strict_text.specs.Meaning.{withoutZeros}
+use Rattle.promises.specs.RoundTrip.{withoutZeros}
 use Rattle.strict_text.proofs.ValidLaws.{valid-mapped}
 use Rattle.strict_text.proofs.GrammarLaws.{letter-digit, accepts, accepted}
 
 -- a list with codes 0 to 8 is printed
 pub printable : (xs : List ℕ) → Each (λ o. codeOf o < 9) xs → anyBad xs ≡ false
