@@ -10,11 +10,12 @@ use lib.Signed.{ltZ}
 use Rattle.lists.specs.Lists.{sumOf}
 use Rattle.signed.specs.Whole.{natural, clamp32}
 use Rattle.sam.specs.Op.{lenOf, refLen}
-use Rattle.sam.specs.Record.{posOf, matePosOf, flagsOf, isUnmapped, isReverse, opsEnd, recordOps}
+use Rattle.sam.specs.Record.{posOf, matePosOf, flagsOf, isUnmapped, isReverse, opsEnd, recordOps, isShort}
 use Rattle.clip_runs.specs.Clips.{leadingClips, trailingClips}
 use Rattle.lengths.specs.Lengths.{refLengthOrZero}
 use Rattle.bin.specs.Bin.{spanOf}
 use Rattle.print.specs.Text.{anyBad, textOf}
+use Rattle.oplist.specs.Ops.{mostOps}
 use Rattle.strict_text.specs.Text.{textOps}
 use Rattle.strict_text.specs.Valid.{validMapped}
 use Rattle.strict_text.specs.Parsed.{strict}
@@ -30,7 +31,7 @@ use Rattle.promises.specs.Table.{Row, _when_, only}
 
 -- 1: "a record has under 32 bytes"
 abbrev pub short : List ℕ → Row
-short b = 1 when ltb (length b) 32
+short b = 1 when isShort b
 
 -- 2: "checked reference length: the op area ends past the record"
 abbrev pub overrun : List ℕ → Row
@@ -38,7 +39,7 @@ overrun b = 2 when ltb (length b) (opsEnd b)
 
 -- 3: "a list, given or parsed, has over 65,535 ops"
 abbrev pub tooMany : List ℕ → Row
-tooMany xs = 3 when ltb 65535 (length xs)
+tooMany xs = 3 when ltb mostOps (length xs)
 
 -- 4: "a signed 32-bit sum overflows where Rust with overflow checks stops": of the sums that it makes, one is below -2^31 or above 2^31 - 1
 abbrev pub outside : ℤ → Bool

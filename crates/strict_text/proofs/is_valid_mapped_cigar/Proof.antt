@@ -2,6 +2,7 @@
 use borrow.Author.Needs.{needs}
 use mathlib.Core.Path.{ap, _∙_}
 use borrow.Author.Tests.{lt-ltb, le-ltb}
+use Rattle.oplist.specs.Ops.{mostOps}
 use Rattle.strict_text.specs.Valid.{validMapped}
 use Rattle.strict_text.specs.Parsed.{validity}
 use Rattle.answers.specs.declared.Flag.the-variants as Flag
@@ -10,7 +11,7 @@ use Rattle.strict_text.proofs.is_valid_mapped_cigar.Tie as tie
 
 returns : tie.Need-returns
 unfolding validity
-returns c = rw (lt-ltb 65535 _ (c .if1 .taken))
+returns c = rw (lt-ltb mostOps _ (c .if1 .taken))
 
 lent-requires : tie.Need-lent-requires
 lent-requires c κs = search needs
@@ -25,7 +26,7 @@ returns-2 : tie.Need-returns-2
 unfolding validity
 returns-2 c =
     let m = c .before .before in
-    rw (le-ltb 65535 _ (m .before .if1 .left)) (ap Flag.Is (c .valid .ensures ∙ ap validMapped (m .lent .ensures _)))
+    rw (le-ltb mostOps _ (m .before .if1 .left)) (ap Flag.Is (c .valid .ensures ∙ ap validMapped (m .lent .ensures _)))
 
 pub is-valid-mapped-cigar-spec : {M : Type 1} → statement M
 is-valid-mapped-cigar-spec =

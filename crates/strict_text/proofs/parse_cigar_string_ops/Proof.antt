@@ -7,6 +7,7 @@ use mathlib.Core.Bool.{true}
 use lib.ListN.{length}
 use lib.Seq.{take-all}
 use borrow.Author.Tests.{lt-ltb, le-ltb}
+use Rattle.oplist.specs.Ops.{mostOps}
 use Rattle.lists.specs.Lists.{splice}
 use Rattle.answers.proofs.Unique.{settled, outcome}
 use Rattle.answers.specs.declared.Count.the-variants as Count
@@ -43,7 +44,7 @@ unfolding parsed
 returns-2 c =
     let t = told (c .before .before) in
     let n = c .before .before .n .given .0 .0 in
-    settled (rw (t .0, t .1, lt-ltb 65535 n (omega (arith, c .if1 .taken))))
+    settled (rw (t .0, t .1, lt-ltb mostOps n (omega (arith, c .if1 .taken))))
 
 returns-3 : tie.Need-returns-3
 unfolding parsed
@@ -52,7 +53,7 @@ returns-3 c =
     let m = c .before .before .before in
     let n = m .n .given .0 .0 in
     let d = m .before .before .before .before .before .args .out .now in
-    settled (rw (t .0, t .1, le-ltb 65535 n (omega (arith, c .before .if1 .left)), lt-ltb (length d) n (omega (arith, c .if2 .taken))))
+    settled (rw (t .0, t .1, le-ltb mostOps n (omega (arith, c .before .if1 .left)), lt-ltb (length d) n (omega (arith, c .if2 .taken))))
 
 write-ops-requires : tie.Need-write-ops-requires
 write-ops-requires c κs = search needs
@@ -70,7 +71,7 @@ returns-4 c =
     let t = told m in
     let n = m .n .given .0 .0 in
     let fits : length (textOps (a .text .now)) ≤ length (a .out .now) = omega (arith, t .1, e .if2 .left) in
-    settled (rw (t .0, le-ltb 65535 (length (textOps (a .text .now))) (omega (arith, t .1, e .before .if1 .left)), le-ltb (length (a .out .now)) (length (textOps (a .text .now))) fits)
+    settled (rw (t .0, le-ltb mostOps (length (textOps (a .text .now))) (omega (arith, t .1, e .before .if1 .left)), le-ltb (length (a .out .now)) (length (textOps (a .text .now))) fits)
     (outcome (ap Count.Number (sym (t .1))) (w .write-ops .ensures ∙ ap (splice (a .out .now) 0) (take-all (length (a .out .now)) (textOps (a .text .now)) fits))))
 
 pub parse-cigar-string-ops-spec : {M : Type 1} → statement M
