@@ -1,8 +1,8 @@
 /* The line protocol on standard input and output, through the static library of include/cigar.h.
  *
- * driver              answers request lines
- * driver --calls      names the calls that the library has
- * driver --values N   answers request lines with N places lent for the values (at most 3), to see what too few of them do
+ * driver           answers request lines
+ * driver --calls   names the calls that the library has
+ * driver --null    answers request lines with NULL for every buffer of no element
  */
 #include "cigar.h"
 
@@ -10,11 +10,10 @@ long read(int file, void *to, size_t bytes);
 long write(int file, const void *from, size_t bytes);
 void exit(int status);
 
-enum { MOST = 1 << 21, LONGEST_LINE = 1 << 23, BLOCK = 1 << 16, ARGS = 5, VALUES = 3, GUARD = 4 };
+enum { MOST = 1 << 21, LONGEST_LINE = 1 << 23, BLOCK = 1 << 16, ARGS = 5, GUARD = 4 };
 
 static const uint32_t FILL_OPS = 2779096485u;
 static const uint8_t FILL_BYTES = 165;
-static const uint64_t FILL_VALUES = 11936128518282651045u;
 
 /* ---- what was read of a request */
 
@@ -26,8 +25,7 @@ struct arg {
 };
 
 static struct arg arg[ARGS];
-static uint64_t values[VALUES];
-static size_t values_lent = VALUES;
+static int null_if_empty;
 
 static uint8_t record_area[2][LONGEST_LINE / 2];
 static uint32_t list_area[2][MOST];
@@ -37,8 +35,9 @@ static uint8_t bytes_room[MOST + GUARD];
 /* ---- the calls: name; arguments (R bytes, W bytes lent to be written, L list, o and b lent outputs of ops and bytes, i and u 32 bits, U 64 bits, f flag);
  * values (s signed, u unsigned, n none or a number, p a part of the record); and how they are passed */
 
-#define BYTES(i) arg[i].bytes, arg[i].n
-#define OPS(i) arg[i].ops, arg[i].n
+#define BUFFER(i, part) null_if_empty && !arg[i].n ? 0 : arg[i].part, arg[i].n
+#define BYTES(i) BUFFER(i, bytes)
+#define OPS(i) BUFFER(i, ops)
 #define I32(i) (int32_t)arg[i].number
 #define U32(i) (uint32_t)arg[i].number
 #define U64(i) arg[i].number
@@ -102,14 +101,34 @@ static uint8_t bytes_room[MOST + GUARD];
 CALLS
 #undef CALL
 
+/* What a call answered: its number, and its values as they are told, two of a value that may be none. */
+struct answer {
+    uint32_t refusal;
+    uint64_t values[2];
+};
+
+static struct answer of_int(struct cigar_int a) { return (struct answer){a.refusal, {(uint64_t)(int64_t)a.value, 0}}; }
+static struct answer of_count(struct cigar_count a) { return (struct answer){a.refusal, {a.value, 0}}; }
+static struct answer of_flag(struct cigar_flag a) { return (struct answer){a.refusal, {a.value, 0}}; }
+static struct answer of_found(struct cigar_found a) { return (struct answer){a.refusal, {a.found, a.value}}; }
+static struct answer of_two(struct cigar_two a) { return (struct answer){a.refusal, {a.first, a.second}}; }
+static struct answer of_lengths(struct cigar_lengths a) { return (struct answer){a.refusal, {(uint64_t)(int64_t)a.reference, a.query}}; }
+static struct answer of_bool(bool a) { return (struct answer){0, {a, 0}}; }
+static struct answer of_u32(uint32_t a) { return (struct answer){0, {a, 0}}; }
+static struct answer of_i32(int32_t a) { return (struct answer){0, {(uint64_t)(int64_t)a, 0}}; }
+
+#define ANSWER(a) \
+    _Generic((a), struct cigar_int: of_int, struct cigar_count: of_count, struct cigar_flag: of_flag, struct cigar_found: of_found, struct cigar_two: of_two, \
+        struct cigar_lengths: of_lengths, bool: of_bool, uint32_t: of_u32, int32_t: of_i32)(a)
+
 #define CALL(name, args, kinds, ...) \
-    static uint32_t run_##name(void) { return cigar_##name(__VA_ARGS__, values, values_lent); }
+    static struct answer run_##name(void) { return ANSWER(cigar_##name(__VA_ARGS__)); }
 CALLS
 #undef CALL
 
 struct call {
     const char *name, *args, *kinds;
-    uint32_t (*run)(void);
+    struct answer (*run)(void);
     void *function;
 };
 
@@ -328,46 +347,37 @@ static const struct call *read_request(void)
 
 /* ---- answers */
 
-static void put_values(const struct call *c)
+static void put_values(const struct call *c, const uint64_t *values)
 {
-    if (c->kinds[0] == 'n' && values[0] == 0 && values[1] == 0) {
+    if (c->kinds[0] == 'n' && !values[0]) {
         put_text("none");
         return;
     }
     put_text("ok");
     for (int i = 0; c->kinds[i] && c->kinds[i] != 'p'; i++) {
         put(' ');
-        if (c->kinds[i] == 'n')
-            put_number(values[0] == 1 ? values[1] : 18446744073709551615u);
-        else if (c->kinds[i] == 's')
+        if (c->kinds[i] == 's')
             put_signed((int64_t)values[i]);
         else
-            put_number(values[i]);
+            put_number(values[c->kinds[i] == 'n' ? 1 : i]);
     }
 }
 
-static void put_part(uint32_t refusal)
+static void put_part(const struct answer *a)
 {
-    if (refusal)
+    if (a->refusal)
         put_text(" ; -");
-    else if (values[0] > arg[0].n || values[1] > arg[0].n - values[0])
+    else if (a->values[0] > arg[0].n || a->values[1] > arg[0].n - a->values[0])
         put_text(" ; a part outside the record");
     else
-        put_content(arg[0].bytes + values[0], 0, values[1]);
+        put_content(arg[0].bytes + a->values[0], 0, a->values[1]);
 }
 
-/* How many values an answer of these kinds stores. */
-static size_t stored(const char *kinds)
+/* Said where the library told or wrote what it may not: a value beside a refusal or beside none, places behind a lent output. */
+static void put_strays(const struct call *c, const struct answer *a)
 {
-    return kinds[0] == 'n' || kinds[0] == 'p' || kinds[1] ? 2 : 1;
-}
-
-/* Said where the library wrote what it may not: values after a refusal or behind the answer's, places behind a lent output. */
-static void put_strays(const struct call *c, uint32_t refusal)
-{
-    for (size_t i = refusal ? 0 : stored(c->kinds); i < VALUES; i++)
-        if (values[i] != FILL_VALUES)
-            put_text(" ; a value written astray");
+    if ((a->refusal && (a->values[0] || a->values[1])) || (c->kinds[0] == 'n' && !a->values[0] && a->values[1]))
+        put_text(" ; a value beside none");
     for (int i = 0; c->args[i]; i++)
         for (size_t g = 0; g < GUARD; g++)
             if ((c->args[i] == 'o' && ops_room[arg[i].n + g] != FILL_OPS) || (c->args[i] == 'b' && bytes_room[arg[i].n + g] != FILL_BYTES))
@@ -381,22 +391,20 @@ static void answer(void)
         put_text("bad request\n");
         return;
     }
-    for (int i = 0; i < VALUES; i++)
-        values[i] = FILL_VALUES;
-    uint32_t refusal = c->run();
-    if (refusal) {
+    struct answer a = c->run();
+    if (a.refusal) {
         put_text("refuse ");
-        put_number(refusal);
+        put_number(a.refusal);
     } else
-        put_values(c);
+        put_values(c, a.values);
     if (c->kinds[0] == 'p')
-        put_part(refusal);
+        put_part(&a);
     for (int i = 0; c->args[i]; i++)
         if (c->args[i] == 'o')
             put_content(0, arg[i].ops, arg[i].n);
         else if (c->args[i] == 'b' || c->args[i] == 'W')
             put_content(arg[i].bytes, 0, arg[i].n);
-    put_strays(c, refusal);
+    put_strays(c, &a);
     put('\n');
 }
 
@@ -454,8 +462,7 @@ int main(int count, char **words)
         flush();
         return 0;
     }
-    if (count == 3 && same(words[1], "--values"))
-        values_lent = (size_t)(words[2][0] - '0') % (VALUES + 1);
+    null_if_empty = count == 2 && same(words[1], "--null");
     answer_all();
     return 0;
 }

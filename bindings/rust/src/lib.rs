@@ -1,42 +1,88 @@
 //! Safe calls into the proved CIGAR arithmetic, with the names of the Rust original (fgumi-raw-bam).
 //! Every call answers or refuses by number for every input; what the original answers by `Option` stays one, and what
-//! it answers by panicking is a [`Refusal`]. A `Vec` of the original is a slice that the caller lends.
+//! it answers by panicking is a [`Refusal`]. A `Vec` of the original is a slice that the caller lends: its first places
+//! are filled, those after them keep their content, and a refusal leaves all of it as it was.
+#![no_std]
+#![deny(missing_docs)]
 
 mod raw;
 
-/// Why a call answers no value; `number` is the number of the project's paper.
+use core::fmt;
+
+/// Why a call answers no value.
 #[derive(Clone, Copy, Debug, PartialEq, Eq, Hash)]
 pub enum Refusal {
+    /// A record has under 32 bytes.
     ShortRecord = 1,
+    /// The op area ends past the record.
     AreaOverrun = 2,
+    /// A list has over 65,535 ops.
     TooManyOps = 3,
+    /// A signed 32-bit sum overflows.
     Overflow = 4,
+    /// The text is no valid mapped CIGAR.
     NotACigar = 5,
+    /// The answer is longer than the lent output.
     NoRoom = 6,
+    /// Printing met a code 9 to 15.
     BadCode = 7,
+    /// Clipping: the lengths sum to 2^28 or more.
     TooLong = 8,
+    /// Lookup: the alignment's start is outside 1 to 2^31.
     BadStart = 9,
+    /// `CigarOp::new`: length 0 or above 268,435,455.
     BadLength = 10,
 }
 
+const REFUSALS: [(Refusal, &str); 10] = [
+    (Refusal::ShortRecord, "a record has under 32 bytes"),
+    (Refusal::AreaOverrun, "the op area ends past the record"),
+    (Refusal::TooManyOps, "a list has over 65,535 ops"),
+    (Refusal::Overflow, "a signed 32-bit sum overflows"),
+    (Refusal::NotACigar, "the text is no valid mapped CIGAR"),
+    (Refusal::NoRoom, "the answer is longer than the lent output"),
+    (Refusal::BadCode, "printing met an op code 9 to 15"),
+    (Refusal::TooLong, "clipping: the lengths sum to 2^28 or more"),
+    (Refusal::BadStart, "lookup: alignment start outside 1 to 2^31"),
+    (Refusal::BadLength, "op length 0 or above 268,435,455"),
+];
+
 impl Refusal {
+    /// The refusal's number, 1 to 10.
     #[inline]
     pub fn number(self) -> u32 {
         self as u32
     }
 }
 
+impl fmt::Display for Refusal {
+    fn fmt(&self, f: &mut fmt::Formatter<'_>) -> fmt::Result {
+        write!(f, "refusal {}: {}", self.number(), REFUSALS[self.number() as usize - 1].1)
+    }
+}
+
+impl core::error::Error for Refusal {}
+
 /// The nine kinds of ops, by code.
 #[derive(Clone, Copy, Debug, PartialEq, Eq, Hash)]
 pub enum CigarKind {
+    /// M, a match or a mismatch.
     Match = 0,
+    /// I, bases that the reference lacks.
     Insertion = 1,
+    /// D, bases that the read lacks.
     Deletion = 2,
+    /// N, a stretch of the reference that is skipped.
     Skip = 3,
+    /// S, bases that are not aligned and are stored.
     SoftClip = 4,
+    /// H, bases that are not aligned and are not stored.
     HardClip = 5,
+    /// P, padding.
     Pad = 6,
+    /// =, a match.
     SequenceMatch = 7,
+    /// X, a mismatch.
     SequenceMismatch = 8,
 }
 
@@ -52,110 +98,129 @@ const KINDS: [CigarKind; 9] = [
     CigarKind::SequenceMismatch,
 ];
 
-const REFUSALS: [Refusal; 10] = [
-    Refusal::ShortRecord,
-    Refusal::AreaOverrun,
-    Refusal::TooManyOps,
-    Refusal::Overflow,
-    Refusal::NotACigar,
-    Refusal::NoRoom,
-    Refusal::BadCode,
-    Refusal::TooLong,
-    Refusal::BadStart,
-    Refusal::BadLength,
-];
-
-// Two places serve every call: none stores more values.
+// An answer, unless it is refused by number.
 #[inline]
-fn told(call: impl FnOnce(*mut u64, usize) -> u32) -> Result<[u64; 2], Refusal> {
-    let mut values = [0u64; 2];
-    match call(values.as_mut_ptr(), values.len()) {
-        0 => Ok(values),
-        number => Err(REFUSALS[number as usize - 1]),
+fn unless<A>(refusal: u32, answer: A) -> Result<A, Refusal> {
+    match refusal {
+        0 => Ok(answer),
+        number => Err(REFUSALS[number as usize - 1].0),
     }
 }
 
-// A call that has no refusal.
 #[inline]
-fn sure(call: impl FnOnce(*mut u64, usize) -> u32) -> [u64; 2] {
-    told(call).expect("a call without refusals")
+fn int(a: raw::Int) -> Result<i32, Refusal> {
+    unless(a.refusal, a.value)
 }
 
 #[inline]
-fn integer(values: [u64; 2]) -> i32 {
-    values[0] as i64 as i32
+fn count(a: raw::Count) -> Result<usize, Refusal> {
+    unless(a.refusal, a.value as usize)
 }
 
-// None, or a value.
 #[inline]
-fn some(values: [u64; 2]) -> Option<u64> {
-    if values[0] == 1 { Some(values[1]) } else { None }
+fn flag(a: raw::Flag) -> Result<bool, Refusal> {
+    unless(a.refusal, a.value)
 }
 
-macro_rules! fields {
-    ($($name:ident, $call:ident, $kind:ty;)*) => {
-        $(#[inline]
+#[inline]
+fn found(a: raw::Found) -> Result<Option<usize>, Refusal> {
+    unless(a.refusal, a.found.then_some(a.value as usize))
+}
+
+#[inline]
+fn two(a: raw::Two) -> Result<(usize, usize), Refusal> {
+    unless(a.refusal, (a.first as usize, a.second as usize))
+}
+
+// A call on one record.
+macro_rules! of_record {
+    ($($(#[$doc:meta])* $name:ident, $call:ident, $shape:ident, $kind:ty;)*) => {
+        $($(#[$doc])*
+        #[inline]
         pub fn $name(bam: &[u8]) -> Result<$kind, Refusal> {
-            told(|v, n| unsafe { raw::$call(bam.as_ptr(), bam.len(), v, n) }).map(|x| x[0] as i64 as $kind)
+            $shape(unsafe { raw::$call(bam.as_ptr(), bam.len()) }).map(|x| x as $kind)
         })*
     };
 }
 
-fields! {
-    ref_id, cigar_ref_id, i32;
-    pos, cigar_pos, i32;
-    l_read_name, cigar_l_read_name, u8;
-    bin, cigar_bin, u16;
-    n_cigar_op, cigar_n_cigar_op, u16;
-    flags, cigar_flags, u16;
-    l_seq, cigar_l_seq, u32;
-    mate_ref_id, cigar_mate_ref_id, i32;
-    mate_pos, cigar_mate_pos, i32;
-    template_length, cigar_template_length, i32;
-    reference_length_from_raw_bam_checked, cigar_reference_length_from_raw_bam_checked, i32;
-    query_length, cigar_query_length, usize;
-    unclipped_5prime_from_raw_bam, cigar_unclipped_5prime_from_raw_bam, i32;
-    bin_from_raw_bam, cigar_bin_from_raw_bam, u16;
+of_record! {
+    /// The reference's number, -1 for none.
+    ref_id, cigar_ref_id, int, i32;
+    /// The position, counted from 0.
+    pos, cigar_pos, int, i32;
+    /// The length of the name, its NUL included.
+    l_read_name, cigar_l_read_name, count, u8;
+    /// The bin that the record holds.
+    bin, cigar_bin, count, u16;
+    /// The number of ops.
+    n_cigar_op, cigar_n_cigar_op, count, u16;
+    /// The flags.
+    flags, cigar_flags, count, u16;
+    /// The length of the sequence.
+    l_seq, cigar_l_seq, count, u32;
+    /// The mate's reference, -1 for none.
+    mate_ref_id, cigar_mate_ref_id, int, i32;
+    /// The mate's position, counted from 0.
+    mate_pos, cigar_mate_pos, int, i32;
+    /// The template's length.
+    template_length, cigar_template_length, int, i32;
+    /// The reference length.
+    reference_length_from_raw_bam_checked, cigar_reference_length_from_raw_bam_checked, int, i32;
+    /// The query length.
+    query_length, cigar_query_length, count, usize;
+    /// The unclipped 5' position, counted from 1; 0 for an unmapped record, 2147483647 for one without ops.
+    unclipped_5prime_from_raw_bam, cigar_unclipped_5prime_from_raw_bam, int, i32;
+    /// The bin, computed.
+    bin_from_raw_bam, cigar_bin_from_raw_bam, count, u16;
+    /// Whether the record and its mate are mapped on one reference, on opposite strands.
+    is_mapped_opposite_strand_pair_raw, cigar_is_mapped_opposite_strand_pair_raw, flag, bool;
+    /// Whether the record and its mate are an FR pair, by the record alone.
+    is_fr_pair_raw, cigar_is_fr_pair_raw, flag, bool;
 }
 
 /// The part of the record that holds its ops; empty where the area overruns.
 #[inline]
 pub fn cigar_raw_bytes(bam: &[u8]) -> Result<&[u8], Refusal> {
-    let [at, len] = told(|v, n| unsafe { raw::cigar_cigar_raw_bytes(bam.as_ptr(), bam.len(), v, n) })?;
-    Ok(&bam[at as usize..(at + len) as usize])
+    let (at, len) = two(unsafe { raw::cigar_cigar_raw_bytes(bam.as_ptr(), bam.len()) })?;
+    Ok(&bam[at..at + len])
 }
 
 /// The record's ops into the first places of `out`; how many.
 #[inline]
 pub fn get_cigar_ops(bam: &[u8], out: &mut [u32]) -> Result<usize, Refusal> {
-    told(|v, n| unsafe { raw::cigar_get_cigar_ops(bam.as_ptr(), bam.len(), out.as_mut_ptr(), out.len(), v, n) }).map(|x| x[0] as usize)
+    count(unsafe { raw::cigar_get_cigar_ops(bam.as_ptr(), bam.len(), out.as_mut_ptr(), out.len()) })
 }
 
+/// Whether an op of this code, taken modulo 16, takes reference bases.
 #[inline]
 pub fn consumes_ref(op_type: u32) -> bool {
-    sure(|v, n| unsafe { raw::cigar_consumes_ref(op_type, v, n) })[0] == 1
+    unsafe { raw::cigar_consumes_ref(op_type) }
 }
 
+/// Whether an op of this code, taken modulo 16, takes query bases.
 #[inline]
 pub fn consumes_query(op_type: u32) -> bool {
-    sure(|v, n| unsafe { raw::cigar_consumes_query(op_type, v, n) })[0] == 1
+    unsafe { raw::cigar_consumes_query(op_type) }
 }
 
+/// Whether an op of this code takes bases of the read: M, I, = and X.
 #[inline]
 pub fn consumes_read(op_type: u32) -> bool {
-    sure(|v, n| unsafe { raw::cigar_consumes_read(op_type, v, n) })[0] == 1
+    unsafe { raw::cigar_consumes_read(op_type) }
 }
 
 impl CigarKind {
+    /// The kind's letter.
     #[inline]
     pub fn as_char(self) -> char {
-        let values = sure(|v, n| unsafe { raw::cigar_as_char(self as u32, v, n) });
-        some(values).expect("a kind has a letter") as u8 as char
+        unsafe { raw::cigar_as_char(self as u32) }.value as u8 as char
     }
 
+    /// The kind of a code; none above 8.
     #[inline]
     pub fn from_op_type(op_type: u32) -> Option<CigarKind> {
-        some(sure(|v, n| unsafe { raw::cigar_from_op_type(op_type, v, n) })).map(|k| KINDS[k as usize])
+        let kind = unsafe { raw::cigar_from_op_type(op_type) };
+        kind.found.then(|| KINDS[kind.value as usize])
     }
 }
 
@@ -164,152 +229,153 @@ impl CigarKind {
 pub struct CigarOp(u32);
 
 impl CigarOp {
+    /// The op of a number.
     pub const fn from_raw(raw: u32) -> CigarOp {
         CigarOp(raw)
     }
 
+    /// The op of a kind and a length.
     #[inline]
     pub fn new(kind: CigarKind, len: u32) -> Result<CigarOp, Refusal> {
-        let values = told(|v, n| unsafe { raw::cigar_op_new(kind as u32, len, v, n) })?;
-        Ok(CigarOp(some(values).expect("a kind of the nine") as u32))
+        let op = unsafe { raw::cigar_op_new(kind as u32, len) };
+        unless(op.refusal, CigarOp(op.value as u32))
     }
 
+    /// The op's number.
     pub const fn raw(self) -> u32 {
         self.0
     }
 
+    /// The op's kind; `Pad` for a code 9 to 15.
     #[inline]
     pub fn kind(self) -> CigarKind {
-        KINDS[sure(|v, n| unsafe { raw::cigar_op_kind(self.0, v, n) })[0] as usize]
+        KINDS[unsafe { raw::cigar_op_kind(self.0) } as usize]
     }
 
+    /// The op's length.
     #[allow(clippy::len_without_is_empty)]
     #[inline]
     pub fn len(self) -> u32 {
-        sure(|v, n| unsafe { raw::cigar_op_len(self.0, v, n) })[0] as u32
+        unsafe { raw::cigar_op_len(self.0) }
     }
 
+    /// Whether the op takes query bases.
     #[inline]
     pub fn consumes_query(self) -> bool {
-        sure(|v, n| unsafe { raw::cigar_op_consumes_query(self.0, v, n) })[0] == 1
+        unsafe { raw::cigar_op_consumes_query(self.0) }
     }
 
+    /// Whether the op takes reference bases.
     #[inline]
     pub fn consumes_ref(self) -> bool {
-        sure(|v, n| unsafe { raw::cigar_op_consumes_ref(self.0, v, n) })[0] == 1
+        unsafe { raw::cigar_op_consumes_ref(self.0) }
     }
 }
 
+/// The reference length of a list.
 #[inline]
 pub fn reference_length_from_cigar(ops: &[u32]) -> Result<i32, Refusal> {
-    told(|v, n| unsafe { raw::cigar_reference_length_from_cigar(ops.as_ptr(), ops.len(), v, n) }).map(integer)
+    int(unsafe { raw::cigar_reference_length_from_cigar(ops.as_ptr(), ops.len()) })
 }
 
+/// The query length of a list.
 #[inline]
 pub fn query_length_from_cigar(ops: &[u32]) -> Result<usize, Refusal> {
-    told(|v, n| unsafe { raw::cigar_query_length_from_cigar(ops.as_ptr(), ops.len(), v, n) }).map(|x| x[0] as usize)
+    count(unsafe { raw::cigar_query_length_from_cigar(ops.as_ptr(), ops.len()) })
 }
 
+/// The reference length of a list, 2^31 - 1 at most.
 #[inline]
 pub fn saturating_reference_length(ops: &[u32]) -> Result<i32, Refusal> {
-    told(|v, n| unsafe { raw::cigar_saturating_reference_length(ops.as_ptr(), ops.len(), v, n) }).map(integer)
+    int(unsafe { raw::cigar_saturating_reference_length(ops.as_ptr(), ops.len()) })
 }
 
-/// 0 for a record that the checked form refuses.
+/// The reference length, 0 for a record that the checked form refuses.
 #[inline]
 pub fn reference_length_from_raw_bam(bam: &[u8]) -> i32 {
-    integer(sure(|v, n| unsafe { raw::cigar_reference_length_from_raw_bam(bam.as_ptr(), bam.len(), v, n) }))
+    unsafe { raw::cigar_reference_length_from_raw_bam(bam.as_ptr(), bam.len()) }
 }
 
 /// Reference and query length.
 #[inline]
 pub fn cigar_lengths(bam: &[u8]) -> Result<(i32, usize), Refusal> {
-    told(|v, n| unsafe { raw::cigar_cigar_lengths(bam.as_ptr(), bam.len(), v, n) }).map(|x| (integer(x), x[1] as usize))
+    let both = unsafe { raw::cigar_cigar_lengths(bam.as_ptr(), bam.len()) };
+    unless(both.refusal, (both.reference, both.query as usize))
 }
 
 /// The record's CIGAR as text into the first places of `out`; how many bytes.
 #[inline]
 pub fn cigar_to_bytes_into(bam: &[u8], out: &mut [u8]) -> Result<usize, Refusal> {
-    told(|v, n| unsafe { raw::cigar_cigar_to_bytes_into(bam.as_ptr(), bam.len(), out.as_mut_ptr(), out.len(), v, n) }).map(|x| x[0] as usize)
+    count(unsafe { raw::cigar_cigar_to_bytes_into(bam.as_ptr(), bam.len(), out.as_mut_ptr(), out.len()) })
 }
 
 /// The text's ops into the first places of `out`; how many.
 #[inline]
 pub fn parse_cigar_string_ops(text: &[u8], out: &mut [u32]) -> Result<usize, Refusal> {
-    told(|v, n| unsafe { raw::cigar_parse_cigar_string_ops(text.as_ptr(), text.len(), out.as_mut_ptr(), out.len(), v, n) }).map(|x| x[0] as usize)
+    count(unsafe { raw::cigar_parse_cigar_string_ops(text.as_ptr(), text.len(), out.as_mut_ptr(), out.len()) })
 }
 
+/// Whether a list is a valid mapped CIGAR.
 #[inline]
 pub fn is_valid_mapped_cigar(ops: &[u32]) -> Result<bool, Refusal> {
-    told(|v, n| unsafe { raw::cigar_is_valid_mapped_cigar(ops.as_ptr(), ops.len(), v, n) }).map(|x| x[0] == 1)
+    flag(unsafe { raw::cigar_is_valid_mapped_cigar(ops.as_ptr(), ops.len()) })
 }
 
+/// The mate's unclipped 5' position by its CIGAR as text, counted as the given one is.
 #[inline]
 pub fn mate_unclipped_5prime(mate_pos: i32, mate_reverse: bool, mc_cigar: &[u8]) -> i32 {
-    integer(sure(|v, n| unsafe { raw::cigar_mate_unclipped_5prime(mate_pos, mate_reverse as u8, mc_cigar.as_ptr(), mc_cigar.len(), v, n) }))
+    unsafe { raw::cigar_mate_unclipped_5prime(mate_pos, mate_reverse as u8, mc_cigar.as_ptr(), mc_cigar.len()) }
 }
 
+/// The same of a position counted from 0, counted from 1.
 #[inline]
 pub fn mate_unclipped_5prime_1based(mate_pos_0based: i32, mate_reverse: bool, mc_cigar: &[u8]) -> i32 {
-    integer(sure(|v, n| unsafe { raw::cigar_mate_unclipped_5prime_1based(mate_pos_0based, mate_reverse as u8, mc_cigar.as_ptr(), mc_cigar.len(), v, n) }))
+    unsafe { raw::cigar_mate_unclipped_5prime_1based(mate_pos_0based, mate_reverse as u8, mc_cigar.as_ptr(), mc_cigar.len()) }
 }
 
+/// The unclipped 5' position from a given position and strand, counted as the given one is, which a record without ops answers.
 #[inline]
 pub fn unclipped_5prime_raw(bam: &[u8], pos: i32, is_reverse: bool) -> Result<i32, Refusal> {
-    told(|v, n| unsafe { raw::cigar_unclipped_5prime_raw(bam.as_ptr(), bam.len(), pos, is_reverse as u8, v, n) }).map(integer)
+    int(unsafe { raw::cigar_unclipped_5prime_raw(bam.as_ptr(), bam.len(), pos, is_reverse as u8) })
 }
 
+/// The first reference position, counted from 1; none where the record has none.
 #[inline]
 pub fn alignment_start_from_raw(bam: &[u8]) -> Result<Option<usize>, Refusal> {
-    told(|v, n| unsafe { raw::cigar_alignment_start_from_raw(bam.as_ptr(), bam.len(), v, n) }).map(|x| some(x).map(|p| p as usize))
+    found(unsafe { raw::cigar_alignment_start_from_raw(bam.as_ptr(), bam.len()) })
 }
 
+/// The last reference position, counted from 1; none where the record has none.
 #[inline]
 pub fn alignment_end_from_raw(bam: &[u8]) -> Result<Option<usize>, Refusal> {
-    told(|v, n| unsafe { raw::cigar_alignment_end_from_raw(bam.as_ptr(), bam.len(), v, n) }).map(|x| some(x).map(|p| p as usize))
+    found(unsafe { raw::cigar_alignment_end_from_raw(bam.as_ptr(), bam.len()) })
 }
 
+/// The query position, counted from 1, at a reference position; none where there is none.
 #[inline]
 pub fn read_pos_at_ref_pos_raw(ops: &[u32], alignment_start: usize, ref_pos: usize, return_last_base_if_deleted: bool) -> Result<Option<usize>, Refusal> {
-    told(|v, n| unsafe {
-        raw::cigar_read_pos_at_ref_pos_raw(ops.as_ptr(), ops.len(), alignment_start as u64, ref_pos as u64, return_last_base_if_deleted as u8, v, n)
-    })
-    .map(|x| some(x).map(|p| p as usize))
+    found(unsafe { raw::cigar_read_pos_at_ref_pos_raw(ops.as_ptr(), ops.len(), alignment_start as u64, ref_pos as u64, return_last_base_if_deleted as u8) })
 }
 
 /// The clipped list into the first places of `out`; the ops written, and the reference bases lost at the start.
 #[inline]
 pub fn clip_cigar_ops_raw(ops: &[u32], clip_amount: usize, from_start: bool, out: &mut [u32]) -> Result<(usize, usize), Refusal> {
-    told(|v, n| unsafe {
-        raw::cigar_clip_cigar_ops_raw(ops.as_ptr(), ops.len(), clip_amount as u64, from_start as u8, out.as_mut_ptr(), out.len(), v, n)
-    })
-    .map(|x| (x[0] as usize, x[1] as usize))
+    two(unsafe { raw::cigar_clip_cigar_ops_raw(ops.as_ptr(), ops.len(), clip_amount as u64, from_start as u8, out.as_mut_ptr(), out.len()) })
 }
 
 /// The same of a record's ops.
 #[inline]
 pub fn clip_cigar_ops(bam: &[u8], clip_amount: usize, from_start: bool, out: &mut [u32]) -> Result<(usize, usize), Refusal> {
-    told(|v, n| unsafe {
-        raw::cigar_clip_cigar_ops(bam.as_ptr(), bam.len(), clip_amount as u64, from_start as u8, out.as_mut_ptr(), out.len(), v, n)
-    })
-    .map(|x| (x[0] as usize, x[1] as usize))
+    two(unsafe { raw::cigar_clip_cigar_ops(bam.as_ptr(), bam.len(), clip_amount as u64, from_start as u8, out.as_mut_ptr(), out.len()) })
 }
 
-#[inline]
-pub fn is_mapped_opposite_strand_pair_raw(bam: &[u8]) -> Result<bool, Refusal> {
-    told(|v, n| unsafe { raw::cigar_is_mapped_opposite_strand_pair_raw(bam.as_ptr(), bam.len(), v, n) }).map(|x| x[0] == 1)
-}
-
-#[inline]
-pub fn is_fr_pair_raw(bam: &[u8]) -> Result<bool, Refusal> {
-    told(|v, n| unsafe { raw::cigar_is_fr_pair_raw(bam.as_ptr(), bam.len(), v, n) }).map(|x| x[0] == 1)
-}
-
+/// Whether a record and its mate's are a primary FR pair.
 #[inline]
 pub fn is_primary_fr_pair_raw(a: &[u8], b: &[u8]) -> Result<bool, Refusal> {
-    told(|v, n| unsafe { raw::cigar_is_primary_fr_pair_raw(a.as_ptr(), a.len(), b.as_ptr(), b.len(), v, n) }).map(|x| x[0] == 1)
+    flag(unsafe { raw::cigar_is_primary_fr_pair_raw(a.as_ptr(), a.len(), b.as_ptr(), b.len()) })
 }
 
+/// The query bases past the mate, of two lists; positions are counted from 1.
 #[inline]
 pub fn bases_extending_past_mate_ops(
     is_reverse: bool,
@@ -318,7 +384,7 @@ pub fn bases_extending_past_mate_ops(
     mate_pos_1based: i32,
     mate_ops: &[u32],
 ) -> Result<usize, Refusal> {
-    told(|v, n| unsafe {
+    count(unsafe {
         raw::cigar_bases_extending_past_mate_ops(
             is_reverse as u8,
             this_pos_1based,
@@ -327,50 +393,38 @@ pub fn bases_extending_past_mate_ops(
             mate_pos_1based,
             mate_ops.as_ptr(),
             mate_ops.len(),
-            v,
-            n,
         )
     })
-    .map(|x| x[0] as usize)
 }
 
+/// The query bases past the mate, whose ops are given.
 #[inline]
 pub fn num_bases_extending_past_mate_cigar_raw(bam: &[u8], mate_ops: &[u32]) -> Result<usize, Refusal> {
-    told(|v, n| unsafe { raw::cigar_num_bases_extending_past_mate_cigar_raw(bam.as_ptr(), bam.len(), mate_ops.as_ptr(), mate_ops.len(), v, n) })
-        .map(|x| x[0] as usize)
+    count(unsafe { raw::cigar_num_bases_extending_past_mate_cigar_raw(bam.as_ptr(), bam.len(), mate_ops.as_ptr(), mate_ops.len()) })
 }
 
+/// The query bases past the mate, whose record is given.
 #[inline]
 pub fn num_bases_extending_past_mate_vs_mate_raw(rec: &[u8], mate: &[u8]) -> Result<usize, Refusal> {
-    told(|v, n| unsafe { raw::cigar_num_bases_extending_past_mate_vs_mate_raw(rec.as_ptr(), rec.len(), mate.as_ptr(), mate.len(), v, n) })
-        .map(|x| x[0] as usize)
+    count(unsafe { raw::cigar_num_bases_extending_past_mate_vs_mate_raw(rec.as_ptr(), rec.len(), mate.as_ptr(), mate.len()) })
 }
 
-/// The overhang past a mate whose ops are given as text, which are left in the first places of `out`: the overhang, and how many.
+/// The query bases past the mate, whose ops are given as text and are left in the first places of `out`: how many bases, and how many ops.
 #[inline]
 pub fn num_bases_extending_past_mate_text_raw(bam: &[u8], mate_text: &[u8], out: &mut [u32]) -> Result<(usize, usize), Refusal> {
-    told(|v, n| unsafe {
-        raw::cigar_num_bases_extending_past_mate_text_raw(
-            bam.as_ptr(),
-            bam.len(),
-            mate_text.as_ptr(),
-            mate_text.len(),
-            out.as_mut_ptr(),
-            out.len(),
-            v,
-            n,
-        )
+    two(unsafe {
+        raw::cigar_num_bases_extending_past_mate_text_raw(bam.as_ptr(), bam.len(), mate_text.as_ptr(), mate_text.len(), out.as_mut_ptr(), out.len())
     })
-    .map(|x| (x[0] as usize, x[1] as usize))
 }
 
+/// The bin of the region from `beg` to `end`, counted from 0, `end` not included.
 #[inline]
 pub fn reg2bin(beg: i32, end: i32) -> Result<u16, Refusal> {
-    told(|v, n| unsafe { raw::cigar_reg2bin(beg, end, v, n) }).map(|x| x[0] as u16)
+    count(unsafe { raw::cigar_reg2bin(beg, end) }).map(|x| x as u16)
 }
 
 /// Writes the bin to bytes 10 and 11 of the record, and answers it.
 #[inline]
 pub fn set_bin_from_raw_bam(bam: &mut [u8]) -> Result<u16, Refusal> {
-    told(|v, n| unsafe { raw::cigar_set_bin_from_raw_bam(bam.as_mut_ptr(), bam.len(), v, n) }).map(|x| x[0] as u16)
+    count(unsafe { raw::cigar_set_bin_from_raw_bam(bam.as_mut_ptr(), bam.len()) }).map(|x| x as u16)
 }

@@ -1,29 +1,28 @@
 // Bins.
+ghost use mathlib.Core.Path.{_≡_};
 ghost use Rattle.answers.specs.Settled.{Settled};
 ghost use Rattle.answers.specs.Answers.{tellNat};
 ghost use Rattle.bin.specs.Bin.{reg2bin, recordBin, setBin};
-ghost use Rattle.given.specs.Exported.{exported, Filled};
+ghost use Rattle.border.specs.Border.{countOf, across};
+use border::ToldCount;
 
 #[no_mangle]
-pub extern "C" fn cigar_reg2bin(beg: i32, end: i32, values: &mut [u64]) -> u32
-    ensures { λ r. ⌜ Settled (exported (tellNat (reg2bin beg end)) (now (values .entry))) r (now (values .exit)) ⌝ }
+pub extern "C" fn cigar_reg2bin(beg: i32, end: i32) -> ToldCount
+    ensures { λ r. ⌜ r ≡ countOf (tellNat (reg2bin beg end)) ⌝ }
 {
-    given::give_nat(bin::reg2bin(beg, end), values)
+    border::told_nat(bin::reg2bin(beg, end))
 }
 
 #[no_mangle]
-pub extern "C" fn cigar_bin_from_raw_bam(rec: &[u8], values: &mut [u64]) -> u32
-    ensures { λ r. ⌜ Settled (exported (tellNat (recordBin (now (rec .entry)))) (now (values .entry))) r (now (values .exit)) ⌝ }
+pub extern "C" fn cigar_bin_from_raw_bam(rec: &[u8]) -> ToldCount
+    ensures { λ r. ⌜ r ≡ countOf (tellNat (recordBin (now (rec .entry)))) ⌝ }
 {
-    given::give_nat(bin::bin_from_raw_bam(rec), values)
+    border::told_nat(bin::bin_from_raw_bam(rec))
 }
 
 #[no_mangle]
-pub extern "C" fn cigar_set_bin_from_raw_bam(rec: &mut [u8], values: &mut [u64]) -> u32
-    ensures { λ r. ⌜ Filled (setBin (now (rec .entry))) tellNat (now (rec .entry)) (now (values .entry)) r (now (rec .exit)) (now (values .exit)) ⌝ }
+pub extern "C" fn cigar_set_bin_from_raw_bam(rec: &mut [u8]) -> ToldCount
+    ensures { λ r. ⌜ Settled (across countOf tellNat (setBin (now (rec .entry)))) r (now (rec .exit)) ⌝ }
 {
-    if values.len() < 1 {
-        return given::give_nat(bin::bin_from_raw_bam(rec), values);
-    }
-    given::give_nat(bin::set_bin_from_raw_bam(rec), values)
+    border::told_nat(bin::set_bin_from_raw_bam(rec))
 }

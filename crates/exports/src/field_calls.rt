@@ -1,87 +1,96 @@
 // Fields of a record.
-ghost use Rattle.answers.specs.Settled.{Settled};
+ghost use mathlib.Core.Path.{_≡_};
 ghost use Rattle.answers.specs.Answers.{tellInt, tellNat};
 ghost use Rattle.sam.specs.Record.{refIdOf, posOf, nameLenOf, storedBinOf, opCountOf, flagsOf, seqLenOf, mateRefIdOf, matePosOf, templateLenOf};
 ghost use Rattle.fields.specs.Fields.{intField, natField, cigarArea, tellArea};
-ghost use Rattle.given.specs.Exported.{exported};
+ghost use Rattle.border.specs.Border.{intOf, countOf, twoOf};
+use border::ToldCount;
+use border::ToldInt;
+use border::ToldTwo;
 use fields::Area;
 
 #[no_mangle]
-pub extern "C" fn cigar_ref_id(rec: &[u8], values: &mut [u64]) -> u32
-    ensures { λ r. ⌜ Settled (exported (tellInt (intField refIdOf (now (rec .entry)))) (now (values .entry))) r (now (values .exit)) ⌝ }
+pub extern "C" fn cigar_ref_id(rec: &[u8]) -> ToldInt
+    ensures { λ r. ⌜ r ≡ intOf (tellInt (intField refIdOf (now (rec .entry)))) ⌝ }
 {
-    given::give_int(fields::ref_id(rec), values)
+    border::told_int(fields::ref_id(rec))
 }
 
 #[no_mangle]
-pub extern "C" fn cigar_pos(rec: &[u8], values: &mut [u64]) -> u32
-    ensures { λ r. ⌜ Settled (exported (tellInt (intField posOf (now (rec .entry)))) (now (values .entry))) r (now (values .exit)) ⌝ }
+pub extern "C" fn cigar_pos(rec: &[u8]) -> ToldInt
+    ensures { λ r. ⌜ r ≡ intOf (tellInt (intField posOf (now (rec .entry)))) ⌝ }
 {
-    given::give_int(fields::pos(rec), values)
+    border::told_int(fields::pos(rec))
 }
 
 #[no_mangle]
-pub extern "C" fn cigar_l_read_name(rec: &[u8], values: &mut [u64]) -> u32
-    ensures { λ r. ⌜ Settled (exported (tellNat (natField nameLenOf (now (rec .entry)))) (now (values .entry))) r (now (values .exit)) ⌝ }
+pub extern "C" fn cigar_l_read_name(rec: &[u8]) -> ToldCount
+    ensures { λ r. ⌜ r ≡ countOf (tellNat (natField nameLenOf (now (rec .entry)))) ⌝ }
 {
-    given::give_nat(fields::l_read_name(rec), values)
+    border::told_nat(fields::l_read_name(rec))
 }
 
 #[no_mangle]
-pub extern "C" fn cigar_bin(rec: &[u8], values: &mut [u64]) -> u32
-    ensures { λ r. ⌜ Settled (exported (tellNat (natField storedBinOf (now (rec .entry)))) (now (values .entry))) r (now (values .exit)) ⌝ }
+pub extern "C" fn cigar_bin(rec: &[u8]) -> ToldCount
+    ensures { λ r. ⌜ r ≡ countOf (tellNat (natField storedBinOf (now (rec .entry)))) ⌝ }
 {
-    given::give_nat(fields::bin(rec), values)
+    border::told_nat(fields::bin(rec))
 }
 
 #[no_mangle]
-pub extern "C" fn cigar_n_cigar_op(rec: &[u8], values: &mut [u64]) -> u32
-    ensures { λ r. ⌜ Settled (exported (tellNat (natField opCountOf (now (rec .entry)))) (now (values .entry))) r (now (values .exit)) ⌝ }
+pub extern "C" fn cigar_n_cigar_op(rec: &[u8]) -> ToldCount
+    ensures { λ r. ⌜ r ≡ countOf (tellNat (natField opCountOf (now (rec .entry)))) ⌝ }
 {
-    given::give_nat(fields::n_cigar_op(rec), values)
+    border::told_nat(fields::n_cigar_op(rec))
 }
 
 #[no_mangle]
-pub extern "C" fn cigar_flags(rec: &[u8], values: &mut [u64]) -> u32
-    ensures { λ r. ⌜ Settled (exported (tellNat (natField flagsOf (now (rec .entry)))) (now (values .entry))) r (now (values .exit)) ⌝ }
+pub extern "C" fn cigar_flags(rec: &[u8]) -> ToldCount
+    ensures { λ r. ⌜ r ≡ countOf (tellNat (natField flagsOf (now (rec .entry)))) ⌝ }
 {
-    given::give_nat(fields::flags(rec), values)
+    border::told_nat(fields::flags(rec))
 }
 
 #[no_mangle]
-pub extern "C" fn cigar_l_seq(rec: &[u8], values: &mut [u64]) -> u32
-    ensures { λ r. ⌜ Settled (exported (tellNat (natField seqLenOf (now (rec .entry)))) (now (values .entry))) r (now (values .exit)) ⌝ }
+pub extern "C" fn cigar_l_seq(rec: &[u8]) -> ToldCount
+    ensures { λ r. ⌜ r ≡ countOf (tellNat (natField seqLenOf (now (rec .entry)))) ⌝ }
 {
-    given::give_nat(fields::l_seq(rec), values)
+    border::told_nat(fields::l_seq(rec))
 }
 
 #[no_mangle]
-pub extern "C" fn cigar_mate_ref_id(rec: &[u8], values: &mut [u64]) -> u32
-    ensures { λ r. ⌜ Settled (exported (tellInt (intField mateRefIdOf (now (rec .entry)))) (now (values .entry))) r (now (values .exit)) ⌝ }
+pub extern "C" fn cigar_mate_ref_id(rec: &[u8]) -> ToldInt
+    ensures { λ r. ⌜ r ≡ intOf (tellInt (intField mateRefIdOf (now (rec .entry)))) ⌝ }
 {
-    given::give_int(fields::mate_ref_id(rec), values)
+    border::told_int(fields::mate_ref_id(rec))
 }
 
 #[no_mangle]
-pub extern "C" fn cigar_mate_pos(rec: &[u8], values: &mut [u64]) -> u32
-    ensures { λ r. ⌜ Settled (exported (tellInt (intField matePosOf (now (rec .entry)))) (now (values .entry))) r (now (values .exit)) ⌝ }
+pub extern "C" fn cigar_mate_pos(rec: &[u8]) -> ToldInt
+    ensures { λ r. ⌜ r ≡ intOf (tellInt (intField matePosOf (now (rec .entry)))) ⌝ }
 {
-    given::give_int(fields::mate_pos(rec), values)
+    border::told_int(fields::mate_pos(rec))
 }
 
 #[no_mangle]
-pub extern "C" fn cigar_template_length(rec: &[u8], values: &mut [u64]) -> u32
-    ensures { λ r. ⌜ Settled (exported (tellInt (intField templateLenOf (now (rec .entry)))) (now (values .entry))) r (now (values .exit)) ⌝ }
+pub extern "C" fn cigar_template_length(rec: &[u8]) -> ToldInt
+    ensures { λ r. ⌜ r ≡ intOf (tellInt (intField templateLenOf (now (rec .entry)))) ⌝ }
 {
-    given::give_int(fields::template_length(rec), values)
+    border::told_int(fields::template_length(rec))
 }
 
-#[no_mangle]
-pub extern "C" fn cigar_cigar_raw_bytes(rec: &[u8], values: &mut [u64]) -> u32
-    ensures { λ r. ⌜ Settled (exported (tellArea (cigarArea (now (rec .entry)))) (now (values .entry))) r (now (values .exit)) ⌝ }
+fn told_area(answer: Area) -> ToldTwo
+    ensures { λ r. ⌜ r ≡ twoOf (tellArea answer) ⌝ }
 {
-    match fields::cigar_area(rec) {
-        Area::At(start, size) => given::store_two(values, start, size),
-        Area::Refused(why) => answers::number(why),
+    match answer {
+        Area::At(start, size) => border::two(start, size),
+        Area::Refused(why) => border::refused_two(why),
     }
+}
+
+#[no_mangle]
+pub extern "C" fn cigar_cigar_raw_bytes(rec: &[u8]) -> ToldTwo
+    ensures { λ r. ⌜ r ≡ twoOf (tellArea (cigarArea (now (rec .entry)))) ⌝ }
+{
+    told_area(fields::cigar_area(rec))
 }

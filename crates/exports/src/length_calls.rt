@@ -1,59 +1,75 @@
 // Lengths.
-ghost use mathlib.Core.List.{[], _∷_};
-ghost use Rattle.answers.specs.Settled.{Settled};
-ghost use Rattle.answers.specs.Answers.{answered, tellInt, tellCount};
+ghost use mathlib.Core.Path.{_≡_};
+ghost use Rattle.answers.specs.Answers.{tellInt, tellCount};
 ghost use Rattle.lengths.specs.Lengths.{refLength, queryLength, saturatedLength, checkedRefLength, refLengthOrZero, recordQueryLength, bothLengths, tellLengths};
-ghost use Rattle.given.specs.Exported.{exported};
+ghost use Rattle.border.specs.Border.{intOf, countOf, lengthsOf};
+use border::ToldCount;
+use border::ToldInt;
+use border::ToldLengths;
 use lengths::Lengths;
 
 #[no_mangle]
-pub extern "C" fn cigar_reference_length_from_cigar(ops: &[u32], values: &mut [u64]) -> u32
-    ensures { λ r. ⌜ Settled (exported (tellInt (refLength (now (ops .entry)))) (now (values .entry))) r (now (values .exit)) ⌝ }
+pub extern "C" fn cigar_reference_length_from_cigar(ops: &[u32]) -> ToldInt
+    ensures { λ r. ⌜ r ≡ intOf (tellInt (refLength (now (ops .entry)))) ⌝ }
 {
-    given::give_int(lengths::reference_length_from_cigar(ops), values)
+    border::told_int(lengths::reference_length_from_cigar(ops))
 }
 
 #[no_mangle]
-pub extern "C" fn cigar_query_length_from_cigar(ops: &[u32], values: &mut [u64]) -> u32
-    ensures { λ r. ⌜ Settled (exported (tellCount (queryLength (now (ops .entry)))) (now (values .entry))) r (now (values .exit)) ⌝ }
+pub extern "C" fn cigar_query_length_from_cigar(ops: &[u32]) -> ToldCount
+    ensures { λ r. ⌜ r ≡ countOf (tellCount (queryLength (now (ops .entry)))) ⌝ }
 {
-    given::give_count(lengths::query_length_from_cigar(ops), values)
+    border::told_count(lengths::query_length_from_cigar(ops))
 }
 
 #[no_mangle]
-pub extern "C" fn cigar_saturating_reference_length(ops: &[u32], values: &mut [u64]) -> u32
-    ensures { λ r. ⌜ Settled (exported (tellInt (saturatedLength (now (ops .entry)))) (now (values .entry))) r (now (values .exit)) ⌝ }
+pub extern "C" fn cigar_saturating_reference_length(ops: &[u32]) -> ToldInt
+    ensures { λ r. ⌜ r ≡ intOf (tellInt (saturatedLength (now (ops .entry)))) ⌝ }
 {
-    given::give_int(lengths::saturating_reference_length(ops), values)
+    border::told_int(lengths::saturating_reference_length(ops))
 }
 
 #[no_mangle]
-pub extern "C" fn cigar_reference_length_from_raw_bam_checked(rec: &[u8], values: &mut [u64]) -> u32
-    ensures { λ r. ⌜ Settled (exported (tellInt (checkedRefLength (now (rec .entry)))) (now (values .entry))) r (now (values .exit)) ⌝ }
+pub extern "C" fn cigar_reference_length_from_raw_bam_checked(rec: &[u8]) -> ToldInt
+    ensures { λ r. ⌜ r ≡ intOf (tellInt (checkedRefLength (now (rec .entry)))) ⌝ }
 {
-    given::give_int(lengths::reference_length_from_raw_bam_checked(rec), values)
+    border::told_int(lengths::reference_length_from_raw_bam_checked(rec))
 }
 
 #[no_mangle]
-pub extern "C" fn cigar_query_length(rec: &[u8], values: &mut [u64]) -> u32
-    ensures { λ r. ⌜ Settled (exported (tellCount (recordQueryLength (now (rec .entry)))) (now (values .entry))) r (now (values .exit)) ⌝ }
+pub extern "C" fn cigar_query_length(rec: &[u8]) -> ToldCount
+    ensures { λ r. ⌜ r ≡ countOf (tellCount (recordQueryLength (now (rec .entry)))) ⌝ }
 {
-    given::give_count(lengths::query_length(rec), values)
+    border::told_count(lengths::query_length(rec))
 }
 
 #[no_mangle]
-pub extern "C" fn cigar_reference_length_from_raw_bam(rec: &[u8], values: &mut [u64]) -> u32
-    ensures { λ r. ⌜ Settled (exported (answered (refLengthOrZero (now (rec .entry)) ∷ [])) (now (values .entry))) r (now (values .exit)) ⌝ }
+pub extern "C" fn cigar_reference_length_from_raw_bam(rec: &[u8]) -> i32
+    ensures { λ r. ⌜ r ≡ refLengthOrZero (now (rec .entry)) ⌝ }
 {
-    given::give_number(lengths::reference_length_from_raw_bam(rec), values)
+    lengths::reference_length_from_raw_bam(rec)
 }
 
-#[no_mangle]
-pub extern "C" fn cigar_cigar_lengths(rec: &[u8], values: &mut [u64]) -> u32
-    ensures { λ r. ⌜ Settled (exported (tellLengths (bothLengths (now (rec .entry)))) (now (values .entry))) r (now (values .exit)) ⌝ }
+fn told_lengths(answer: Lengths) -> ToldLengths
+    ensures { λ r. ⌜ r ≡ lengthsOf (tellLengths answer) ⌝ }
 {
-    match lengths::cigar_lengths(rec) {
-        Lengths::Both(refs, query) => given::store_two(values, signed::bits64(refs), query),
-        Lengths::Refused(why) => answers::number(why),
+    match answer {
+        Lengths::Both(reference, query) => ToldLengths {
+            refusal: 0,
+            reference,
+            query,
+        },
+        Lengths::Refused(why) => ToldLengths {
+            refusal: answers::number(why),
+            reference: 0,
+            query: 0,
+        },
     }
+}
+
+#[no_mangle]
+pub extern "C" fn cigar_cigar_lengths(rec: &[u8]) -> ToldLengths
+    ensures { λ r. ⌜ r ≡ lengthsOf (tellLengths (bothLengths (now (rec .entry)))) ⌝ }
+{
+    told_lengths(lengths::cigar_lengths(rec))
 }

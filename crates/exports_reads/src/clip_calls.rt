@@ -1,16 +1,17 @@
 // Clipping.
+ghost use mathlib.Core.Path.{_≡_};
 ghost use Rattle.answers.specs.Settled.{Settled};
 ghost use Rattle.clip.specs.Answer.{clipped, clippedRecord, tellClipped};
-ghost use Rattle.given.specs.Exported.{exported, Filled};
-ghost use Rattle.given.specs.Flags.{flagged};
+ghost use Rattle.border.specs.Border.{twoOf, across, flagged};
+use border::ToldTwo;
 use clip::Clipped;
 
-fn give_clipped(answer: Clipped, values: &mut [u64]) -> u32
-    ensures { λ r. ⌜ Settled (exported (tellClipped answer) (now (values .entry))) r (now (values .exit)) ⌝ }
+fn told_clipped(answer: Clipped) -> ToldTwo
+    ensures { λ r. ⌜ r ≡ twoOf (tellClipped answer) ⌝ }
 {
     match answer {
-        Clipped::Done(n, count) => given::store_two(values, n, count),
-        Clipped::Refused(why) => answers::number(why),
+        Clipped::Done(n, count) => border::two(n, count),
+        Clipped::Refused(why) => border::refused_two(why),
     }
 }
 
@@ -20,18 +21,10 @@ pub extern "C" fn cigar_clip_cigar_ops_raw(
     amount: u64,
     start: u8,
     out: &mut [u32],
-    values: &mut [u64],
-) -> u32
-    ensures { λ r. ⌜ Filled (clipped (now (ops .entry)) amount (flagged start) (now (out .entry))) tellClipped (now (out .entry)) (now (values .entry)) r (now (out .exit)) (now (values .exit)) ⌝ }
+) -> ToldTwo
+    ensures { λ r. ⌜ Settled (across twoOf tellClipped (clipped (now (ops .entry)) amount (flagged start) (now (out .entry)))) r (now (out .exit)) ⌝ }
 {
-    if values.len() < 2 {
-        let refused = clip::clip_cigar_ops_raw(ops, amount, given::flag(start), &mut []);
-        return give_clipped(refused, values);
-    }
-    give_clipped(
-        clip::clip_cigar_ops_raw(ops, amount, given::flag(start), out),
-        values,
-    )
+    told_clipped(clip::clip_cigar_ops_raw(ops, amount, border::flag(start), out))
 }
 
 #[no_mangle]
@@ -40,16 +33,8 @@ pub extern "C" fn cigar_clip_cigar_ops(
     amount: u64,
     start: u8,
     out: &mut [u32],
-    values: &mut [u64],
-) -> u32
-    ensures { λ r. ⌜ Filled (clippedRecord (now (rec .entry)) amount (flagged start) (now (out .entry))) tellClipped (now (out .entry)) (now (values .entry)) r (now (out .exit)) (now (values .exit)) ⌝ }
+) -> ToldTwo
+    ensures { λ r. ⌜ Settled (across twoOf tellClipped (clippedRecord (now (rec .entry)) amount (flagged start) (now (out .entry)))) r (now (out .exit)) ⌝ }
 {
-    if values.len() < 2 {
-        let refused = clip::clip_cigar_ops(rec, amount, given::flag(start), &mut []);
-        return give_clipped(refused, values);
-    }
-    give_clipped(
-        clip::clip_cigar_ops(rec, amount, given::flag(start), out),
-        values,
-    )
+    told_clipped(clip::clip_cigar_ops(rec, amount, border::flag(start), out))
 }

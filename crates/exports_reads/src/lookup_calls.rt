@@ -1,17 +1,17 @@
 // Lookup.
-ghost use Rattle.answers.specs.Settled.{Settled};
+ghost use mathlib.Core.Path.{_≡_};
 ghost use Rattle.lookup.specs.Lookup.{lookup, tellFound};
-ghost use Rattle.given.specs.Exported.{exported};
-ghost use Rattle.given.specs.Flags.{flagged};
+ghost use Rattle.border.specs.Border.{foundOf, flagged};
+use border::ToldFound;
 use lookup::Found;
 
-fn give_found(answer: Found, values: &mut [u64]) -> u32
-    ensures { λ r. ⌜ Settled (exported (tellFound answer) (now (values .entry))) r (now (values .exit)) ⌝ }
+fn told_found(answer: Found) -> ToldFound
+    ensures { λ r. ⌜ r ≡ foundOf (tellFound answer) ⌝ }
 {
     match answer {
-        Found::At(n) => given::store_two(values, 1, n),
-        Found::Nothing => given::store_two(values, 0, 0),
-        Found::Refused(why) => answers::number(why),
+        Found::At(n) => border::found(n),
+        Found::Nothing => border::nothing(),
+        Found::Refused(why) => border::refused_found(why),
     }
 }
 
@@ -21,10 +21,8 @@ pub extern "C" fn cigar_read_pos_at_ref_pos_raw(
     start: u64,
     position: u64,
     asked: u8,
-    values: &mut [u64],
-) -> u32
-    ensures { λ r. ⌜ Settled (exported (tellFound (lookup (now (ops .entry)) start position (flagged asked))) (now (values .entry))) r (now (values .exit)) ⌝ }
+) -> ToldFound
+    ensures { λ r. ⌜ r ≡ foundOf (tellFound (lookup (now (ops .entry)) start position (flagged asked))) ⌝ }
 {
-    let found = lookup::read_pos_at_ref_pos_raw(ops, start, position, given::flag(asked));
-    give_found(found, values)
+    told_found(lookup::read_pos_at_ref_pos_raw(ops, start, position, border::flag(asked)))
 }

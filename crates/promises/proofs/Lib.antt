@@ -4,6 +4,7 @@ pub mod TextRows
 pub mod EndRows
 pub mod ClipRows
 pub mod OverlapRows
+pub mod BorderRows
 pub mod Settles
 pub mod Demand3
 pub mod RoundTrip

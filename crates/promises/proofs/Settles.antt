@@ -1,14 +1,12 @@
 -- Document 01, "What the statements have to settle": for every input, two outcomes that a call's contract admits are the same answer and the same memory.
 -- A call's `ensures` is one of two predicates, `r ≡ definition`, or `Settled definition r memory` where memory is lent; so there is one law for each.
 use Prim.Native.Nat.{ℕ}
-use mathlib.Core.Path.{_≡_, sym, ap, _∙_}
-use mathlib.Core.Bool.{cond}
+use mathlib.Core.Path.{_≡_, sym, _∙_}
 use mathlib.Core.List.{List}
-use lib.Dec.{eqb}
 use Rattle.answers.specs.Answers.{Told}
 use Rattle.answers.specs.Settled.{Outcome, Settled}
 use Rattle.answers.proofs.Unique.{unique}
-use Rattle.given.specs.Exported.{exported, Filled}
+use Rattle.border.specs.Border.{across}
 
 -- a call that is lent nothing, whose contract is `r ≡ definition`, whatever the definition
 pub settles : {A : Type 0} {definition r s : A} → r ≡ definition → s ≡ definition → r ≡ s
@@ -29,13 +27,10 @@ settles-left p q = unique p q
 -- Those calls: `get_cigar_ops`, `set_bin_from_raw_bam`, `cigar_to_bytes_into`, `parse_cigar_string_ops`, `clip_cigar_ops_raw`, `clip_cigar_ops`,
 -- `num_bases_extending_past_mate_text_raw`.
 
--- ---- the exported calls (include/cigar.h): with v lent for the values of an answer, and an output d beside it where there is one
+-- ---- the exported calls (include/cigar.h): what is told of an answer in its shape, and the lent memory where there is some
 
-pub exported-call : (t : Told) (v : List ℕ) {r s : ℕ} {m n : List ℕ} → Settled (exported t v) r m → Settled (exported t v) s n → (r ≡ s) × (m ≡ n)
-exported-call t v = settles-left
+pub border-call : {A B : Type 0} (shape : Told → B) (tell : A → Told) (a : A) {r s : B} → r ≡ shape (tell a) → s ≡ shape (tell a) → r ≡ s
+border-call shape tell a = settles
 
-pub filled-call : {A : Type 0} {want : Outcome A} {tell : A → Told} {d v : List ℕ} {r s : ℕ} {d₁ d₂ v₁ v₂ : List ℕ}
-    → Filled want tell d v r d₁ v₁ → Filled want tell d v s d₂ v₂ → (r ≡ s) × (d₁ ≡ d₂) × (v₁ ≡ v₂)
-filled-call {want = want} {d = d} p q =
-    let e = p .number ∙ sym (q .number) in
-    (e, p .output ∙ ap (λ n. cond (eqb n 0) (want .left) d) e ∙ sym (q .output), p .values ∙ sym (q .values))
+pub border-call-left : {A B : Type 0} (shape : Told → B) (tell : A → Told) (o : Outcome A) {r s : B} {m n : List ℕ} → Settled (across shape tell o) r m → Settled (across shape tell o) s n → (r ≡ s) × (m ≡ n)
+border-call-left shape tell o = settles-left

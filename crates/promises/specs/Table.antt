@@ -52,3 +52,8 @@ pub record GivesFilled {A : Type 0} (tell : A → Told) (want : Outcome A) (d : 
   pub refusal : GivesKept tell want d rows
   pub answer : refuses rows ≡ false → want .answer ≡ a
   pub fills : refuses rows ≡ false → Fills d ys (want .left)
+
+-- across the C border: the struct's number is that of the first row that holds, and where one does, the struct is the one of that number alone
+pub record Crosses {B : Type 0} (number : B → ℕ) (refusal : ℕ → B) (b : B) (rows : List Row) : Type 0 where
+  pub number-is : number b ≡ first rows
+  pub alone : refuses rows ≡ true → b ≡ refusal (first rows)

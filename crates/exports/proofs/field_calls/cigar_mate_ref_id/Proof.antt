@@ -1,23 +1,16 @@
 -- What the call answers, told.
-use mathlib.Core.Path.{sym, ap}
 use borrow.Author.Needs.{needs}
-use Rattle.answers.specs.Answers.{tellInt}
-use Rattle.given.proofs.ExportLaws.{told-as}
 use Rattle.exports.proofs.field_calls.cigar_mate_ref_id.Statement.{statement}
 use Rattle.exports.proofs.field_calls.cigar_mate_ref_id.Tie as tie
 
 mate-ref-id-requires : tie.Need-mate-ref-id-requires
 mate-ref-id-requires c κs = search needs
 
-give-int-requires : tie.Need-give-int-requires
-give-int-requires c κs = search needs
-
-same-length : tie.Need-same-length
-same-length c = search needs
+told-int-requires : tie.Need-told-int-requires
+told-int-requires c κs = search needs
 
 returns : tie.Need-returns
-returns c = told-as _ (ap tellInt (sym (c .before .before .before .before .mate-ref-id .ensures))) (c .before .before .give-int .ensures)
+returns c = cc
 
 pub cigar-mate-ref-id-spec : {M : Type 1} → statement M
-cigar-mate-ref-id-spec =
-    tie.close (tie.spec mate-ref-id-requires give-int-requires same-length returns)
+cigar-mate-ref-id-spec = tie.close (tie.spec mate-ref-id-requires told-int-requires returns)

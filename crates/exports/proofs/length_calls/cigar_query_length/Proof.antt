@@ -1,23 +1,16 @@
 -- What the call answers, told.
-use mathlib.Core.Path.{sym, ap}
 use borrow.Author.Needs.{needs}
-use Rattle.answers.specs.Answers.{tellCount}
-use Rattle.given.proofs.ExportLaws.{told-as}
 use Rattle.exports.proofs.length_calls.cigar_query_length.Statement.{statement}
 use Rattle.exports.proofs.length_calls.cigar_query_length.Tie as tie
 
 query-length-requires : tie.Need-query-length-requires
 query-length-requires c κs = search needs
 
-give-count-requires : tie.Need-give-count-requires
-give-count-requires c κs = search needs
-
-same-length : tie.Need-same-length
-same-length c = search needs
+told-count-requires : tie.Need-told-count-requires
+told-count-requires c κs = search needs
 
 returns : tie.Need-returns
-returns c = told-as _ (ap tellCount (sym (c .before .before .before .before .query-length .ensures))) (c .before .before .give-count .ensures)
+returns c = cc
 
 pub cigar-query-length-spec : {M : Type 1} → statement M
-cigar-query-length-spec =
-    tie.close (tie.spec query-length-requires give-count-requires same-length returns)
+cigar-query-length-spec = tie.close (tie.spec query-length-requires told-count-requires returns)

@@ -1,10 +1,5 @@
--- The kind, or none.
-use mathlib.Core.Path.{refl, sym, ap, _∙_}
+-- The letter, or none.
 use borrow.Author.Needs.{needs}
-use lib.IntN.{pos}
-use Rattle.ops.specs.Ops.{letterOfKind}
-use Rattle.given.proofs.ExportLaws.{two-told, told-as}
-use Rattle.exports.specs.Ops.{charOf}
 use Rattle.exports.proofs.op_calls.cigar_as_char.Statement.{statement}
 use Rattle.exports.proofs.op_calls.cigar_as_char.Tie as tie
 
@@ -17,33 +12,23 @@ enum-known-k c = search needs
 as-char-requires : tie.Need-as-char-requires
 as-char-requires c κs = search needs
 
-cast-store-two : tie.Need-cast-store-two
-cast-store-two c = search needs
+cast-found : tie.Need-cast-found
+cast-found c = search needs
 
-store-two-requires : tie.Need-store-two-requires
-store-two-requires c κs = search needs
+found-requires : tie.Need-found-requires
+found-requires c κs = search needs
 
 enum-told : tie.Need-enum-told
 enum-told c = search needs
 
-store-two-requires-2 : tie.Need-store-two-requires-2
-store-two-requires-2 c κs = search needs
-
-same-length : tie.Need-same-length
-same-length c = search needs
+nothing-requires : tie.Need-nothing-requires
+nothing-requires c κs = search needs
 
 returns : tie.Need-returns
-returns c =
-    let k = c .before .before .before .before .before .before in
-    told-as _ (ap charOf (sym (k .before .before .from-op-type .ensures) ∙ k .k .given .1)) (two-told _ (pos 1) (pos (letterOfKind (k .k .given .0 .0))) _ _ refl (c .before .before .before .as-char .ensures) (c .before .before .store-two .ensures))
-
-same-length-2 : tie.Need-same-length-2
-same-length-2 c = search needs
+returns c = let k = c .before .before .before in rw (← (k .before .before .from-op-type .ensures), k .k .given .1) (cc)
 
 returns-2 : tie.Need-returns-2
-returns-2 c =
-    let k = c .before .before .before .before in
-    told-as _ (ap charOf (sym (k .before .before .from-op-type .ensures) ∙ k .enum-told .given .1)) (two-told _ (pos 0) (pos 0) _ _ refl refl (c .before .before .store-two2 .ensures))
+returns-2 c = let k = c .before in rw (← (k .before .before .from-op-type .ensures), k .enum-told .given .1) (cc)
 
 pub cigar-as-char-spec : {M : Type 1} → statement M
 cigar-as-char-spec =
@@ -52,11 +37,9 @@ cigar-as-char-spec =
     from-op-type-requires
     enum-known-k
     as-char-requires
-    cast-store-two
-    store-two-requires
+    cast-found
+    found-requires
     enum-told
-    store-two-requires-2
-    same-length
+    nothing-requires
     returns
-    same-length-2
     returns-2)

@@ -1,0 +1,17 @@
+-- What the calls of the static libraries share.
+use Prim.Native.Nat.{ℕ}
+use mathlib.Core.Path.{_≡_, refl, ap, _∙_}
+use mathlib.Core.Bool.{Bool, true, false}
+use mathlib.Core.List.{List}
+use Rattle.answers.specs.Answers.{Told, flagValue}
+use Rattle.answers.specs.Settled.{Outcome, Settled}
+use Rattle.border.specs.Border.{isYes, across}
+
+-- a flag is told by 1 or 0, and read back from it
+pub flag-told : (b : Bool) → isYes (flagValue b) ≡ b
+flag-told true = refl
+flag-told false = refl
+
+-- what a call settled is settled across the border: its answer as it is told, and the lent memory as it is.
+pub across-settled : {A B : Type 0} (shape : Told → B) (tell : A → Told) {o : Outcome A} {a : A} {r : B} {left : List ℕ} → r ≡ shape (tell a) → Settled o a left → Settled (across shape tell o) r left
+across-settled shape tell e s = record { answer = e ∙ ap (λ a. shape (tell a)) (s .answer); memory = s .memory }

@@ -1,0 +1,56 @@
+-- include/cigar.h: what crosses the C border. Of what is told of an answer (document 01, "Numbers and their bounds") the struct of its shape: the number, 0 for an answer,
+-- and the values, each 0 beside a refusal.
+use Prim.Native.Nat.{ℕ}
+use mathlib.Core.Bool.{Bool, true, not}
+use lib.IntN.{ℤ, pos, negsuc}
+use lib.Dec.{eqb}
+use lib.ListN.{getD}
+use Rattle.signed.specs.Whole.{natural}
+use Rattle.answers.specs.Answers.{Told}
+use Rattle.answers.specs.Settled.{Outcome}
+use Rattle.border.specs.declared.ToldInt.{ToldInt}
+use Rattle.border.specs.declared.ToldCount.{ToldCount}
+use Rattle.border.specs.declared.ToldFlag.{ToldFlag}
+use Rattle.border.specs.declared.ToldFound.{ToldFound}
+use Rattle.border.specs.declared.ToldTwo.{ToldTwo}
+use Rattle.border.specs.declared.ToldLengths.{ToldLengths}
+
+-- the value at a place, 0 where there is none; and a value that is a flag
+abbrev pub value : ℕ → Told → ℤ
+value n t = getD (t .values) n (pos 0)
+
+abbrev pub isYes : ℤ → Bool
+isYes (pos n) = not (eqb n 0)
+isYes (negsuc n) = true
+
+-- a signed number
+abbrev pub intOf : Told → ToldInt
+intOf t = record { refusal = t .number; value = value 0 t }
+
+-- a number that is never negative
+abbrev pub countOf : Told → ToldCount
+countOf t = record { refusal = t .number; value = natural (value 0 t) }
+
+-- yes or no
+abbrev pub flagOf : Told → ToldFlag
+flagOf t = record { refusal = t .number; value = isYes (value 0 t) }
+
+-- none, or a number that is never negative
+abbrev pub foundOf : Told → ToldFound
+foundOf t = record { refusal = t .number; found = isYes (value 0 t); value = natural (value 1 t) }
+
+-- two numbers that are never negative
+abbrev pub twoOf : Told → ToldTwo
+twoOf t = record { refusal = t .number; first = natural (value 0 t); second = natural (value 1 t) }
+
+-- a signed number, and one that is never negative
+abbrev pub lengthsOf : Told → ToldLengths
+lengthsOf t = record { refusal = t .number; reference = value 0 t; query = natural (value 1 t) }
+
+-- a call with lent memory: its answer in the shape that it has, and the memory as the call leaves it
+abbrev pub across : {A B : Type 0} → (Told → B) → (A → Told) → Outcome A → Outcome B
+across shape tell o = record { answer = shape (tell (o .answer)); left = o .left }
+
+-- a flag as an argument: "anything but 0 counts as 1"
+abbrev pub flagged : ℕ → Bool
+flagged n = not (eqb n 0)

@@ -1,2 +1,0 @@
-pub mod OpLaws
-pub mod BinLaws

@@ -1,3 +1,0 @@
-pub mod ClipLaws
-pub mod OverlapLaws
-pub mod TextLaws

@@ -1,0 +1,2 @@
+/* What include/cigar.h needs of <stdbool.h>. */
+#define bool _Bool
