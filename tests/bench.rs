@@ -6,7 +6,6 @@ mod port;
 
 use original::{bin, cigar, fields::RawRecordView, overlap};
 use std::hint::black_box;
-use std::time::Instant;
 
 const INPUTS: usize = 64;
 
@@ -43,24 +42,44 @@ fn record(random: &mut Random, ops: &[u32], reverse: bool, mate: i32) -> Vec<u8>
     r
 }
 
+#[repr(C)]
+struct Timespec {
+    seconds: i64,
+    nanoseconds: i64,
+}
+
+extern "C" {
+    fn clock_gettime(clock: i32, time: *mut Timespec) -> i32;
+}
+
+/// Nanoseconds that this thread has run, by Linux's CLOCK_THREAD_CPUTIME_ID: what else the machine does in between doesn't count.
+fn thread_time() -> f64 {
+    let mut time = Timespec { seconds: 0, nanoseconds: 0 };
+    assert_eq!(unsafe { clock_gettime(3, &mut time) }, 0);
+    time.seconds as f64 * 1e9 + time.nanoseconds as f64
+}
+
 /// Nanoseconds a call of one run.
 fn time(calls: usize, run: &mut impl FnMut(usize)) -> f64 {
-    let start = Instant::now();
+    let start = thread_time();
     for i in 0..calls {
         run(i % INPUTS);
     }
-    start.elapsed().as_nanos() as f64 / calls as f64
+    (thread_time() - start) / calls as f64
 }
 
-/// A line of the output: the best of eleven runs of each side, in turns.
+/// A line of the output: of each side the median of three times, each the best of four runs, the sides in turns.
 fn row(name: &str, n: usize, note: &str, mut original: impl FnMut(usize), mut port: impl FnMut(usize)) {
-    let calls = (2_000_000 / (n + 20)).max(200);
-    let (mut rust, mut own) = (f64::MAX, f64::MAX);
-    for _ in 0..11 {
-        rust = rust.min(time(calls, &mut original));
-        own = own.min(time(calls, &mut port));
+    let calls = (2_000_000 / (n + 20)).max(50);
+    let (mut rust, mut own) = ([f64::MAX; 3], [f64::MAX; 3]);
+    for turn in 0..12 {
+        let best = |times: &mut [f64; 3], time: f64| times[turn / 4] = times[turn / 4].min(time);
+        best(&mut rust, time(calls, &mut original));
+        best(&mut own, time(calls, &mut port));
     }
-    println!("{name}\t{n}\t{rust:.1}\t{own:.1}\t{note}");
+    rust.sort_by(f64::total_cmp);
+    own.sort_by(f64::total_cmp);
+    println!("{name}\t{n}\t{:.2}\t{:.2}\t{note}", rust[1], own[1]);
 }
 
 macro_rules! pair {
@@ -161,23 +180,24 @@ fn single(random: &mut Random) {
     pair!("op_new", 1, "", |x| cigar::CigarOp::new(cigar::CigarKind::Match, x) => fn(u32) -> cigar::CigarOp, |x| port::CigarOp::new(port::CigarKind::Match, x) => fn(u32) -> Result<port::CigarOp, port::Refusal>, |i, f| f(i as u32 + 1), |i, g| g(i as u32 + 1));
 }
 
-/// The original behind the port's border: a C function that stores the value and answers 0, or 6 where there is no place for it, and its caller reads the value
-/// back. Where the port takes as long as this, the rest of its time is the border's.
+#[repr(C)]
+struct Told {
+    refusal: u32,
+    value: u64,
+}
+
+/// The original behind the port's border: a C function that returns the number and the value, which its caller makes a `Result` of. Where the port takes as long
+/// as this, the rest of its time is the border's.
 macro_rules! behind {
     ($n:expr, $inputs:expr, $name:literal, $t:ty, $original:path) => {{
         #[inline(never)]
-        extern "C" fn stored(at: *const $t, len: usize, values: *mut u64, places: usize) -> u32 {
-            if places < 1 {
-                return 6;
-            }
-            unsafe { *values = $original(std::slice::from_raw_parts(at, len)) as u64 };
-            0
+        extern "C" fn told(at: *const $t, len: usize) -> Told {
+            Told { refusal: 0, value: $original(unsafe { std::slice::from_raw_parts(at, len) }) as u64 }
         }
-        let (f, g) = (black_box($original as fn(&[$t]) -> _), black_box(stored as extern "C" fn(*const $t, usize, *mut u64, usize) -> u32));
+        let (f, g) = (black_box($original as fn(&[$t]) -> _), black_box(told as extern "C" fn(*const $t, usize) -> Told));
         row($name, $n, "the Rust behind the border", |i| { black_box(f(&$inputs[i])); }, |i| {
-            let mut values = [0u64; 2];
-            let told = if g($inputs[i].as_ptr(), $inputs[i].len(), values.as_mut_ptr(), 2) == 0 { Ok(values[0]) } else { Err(()) };
-            let _ = black_box(told);
+            let told = g($inputs[i].as_ptr(), $inputs[i].len());
+            let _ = black_box(if told.refusal == 0 { Ok(told.value) } else { Err(told.refusal) });
         });
     }};
 }
@@ -192,6 +212,48 @@ fn border(n: usize, random: &mut Random) {
     behind!(n, r, "bin_from_raw_bam", u8, bin::bin_from_raw_bam);
 }
 
+/// Lists that are unlike today's: of one code, or of length 0 throughout.
+fn plain(n: usize, name: &str, op: impl Fn(u32) -> u32, random: &mut Random) {
+    let l: Vec<Vec<u32>> = (0..INPUTS).map(|_| (0..n).map(|_| op(1 + random.below(150) as u32)).collect()).collect();
+    let mut out = vec![0u32; n + 2];
+    let named = |call: &str| format!("{call}, {name}");
+    pair!(&named("reference_length_from_cigar"), n, "further", cigar::reference_length_from_cigar => fn(&[u32]) -> i32, port::reference_length_from_cigar => fn(&[u32]) -> Result<i32, port::Refusal>, |i, f| f(&l[i]), |i, g| g(&l[i]));
+    pair!(&named("query_length_from_cigar"), n, "further", cigar::query_length_from_cigar => fn(&[u32]) -> usize, port::query_length_from_cigar => fn(&[u32]) -> Result<usize, port::Refusal>, |i, f| f(&l[i]), |i, g| g(&l[i]));
+    pair!(&named("is_valid_mapped_cigar"), n, "further", overlap::reach::is_valid_mapped_cigar => fn(&[u32]) -> bool, port::is_valid_mapped_cigar => fn(&[u32]) -> Result<bool, port::Refusal>, |i, f| f(&l[i]), |i, g| g(&l[i]));
+    let far = 1000 + 40 * n;
+    pair!(&named("read_pos_at_ref_pos_raw"), n, "further", cigar::read_pos_at_ref_pos_raw => fn(&[u32], usize, usize, bool) -> Option<usize>, port::read_pos_at_ref_pos_raw => fn(&[u32], usize, usize, bool) -> Result<Option<usize>, port::Refusal>, |i, f| f(&l[i], 1000, far, false), |i, g| g(&l[i], 1000, far, false));
+    clips(n, name, &l, &mut out);
+    let mate = |i: usize| &l[(i + 1) % INPUTS];
+    pair!(&named("bases_extending_past_mate_ops"), n, "further", overlap::bases_extending_past_mate_ops => fn(bool, i32, &[u32], i32, &[u32]) -> usize, port::bases_extending_past_mate_ops => fn(bool, i32, &[u32], i32, &[u32]) -> Result<usize, port::Refusal>, |i, f| f(false, 1000, &l[i], 1010, mate(i)), |i, g| g(false, 1000, &l[i], 1010, mate(i)));
+}
+
+fn clips(n: usize, name: &str, l: &[Vec<u32>], out: &mut [u32]) {
+    for (end, start) in [("start", true), ("end", false)] {
+        pair!(&format!("clip_cigar_ops_raw, {end}, {name}"), n, "further", cigar::clip_cigar_ops_raw => fn(&[u32], usize, bool) -> (Vec<u32>, usize), port::clip_cigar_ops_raw => fn(&[u32], usize, bool, &mut [u32]) -> Result<(usize, usize), port::Refusal>, |i, f| f(&l[i], 160, start), |i, g| g(&l[i], 160, start, out));
+    }
+}
+
+/// Lists at which one side stops early: 2^28 is reached at the last op, H stands second, 2^31 is passed by the first nine ops.
+fn early(n: usize, random: &mut Random) {
+    let mut out = vec![0u32; n + 2];
+    let some: Vec<Vec<u32>> = (0..INPUTS).map(|_| list(random, n)).collect();
+    let with = |at: usize, op: u32| some.iter().map(|x| { let mut y = x.clone(); y[at] = op; y }).collect::<Vec<_>>();
+    clips(n, "2^28 at the last op", &with(n - 1, 268435455 << 4), &mut out);
+    let (broken, r) = (with(1, 5 << 4 | 5), some.iter().map(|x| record(random, x, false, 2000)).collect::<Vec<_>>());
+    pair!("is_valid_mapped_cigar, H second", n, "further", overlap::reach::is_valid_mapped_cigar => fn(&[u32]) -> bool, port::is_valid_mapped_cigar => fn(&[u32]) -> Result<bool, port::Refusal>, |i, f| f(&broken[i]), |i, g| g(&broken[i]));
+    pair!("num_bases_extending_past_mate_cigar_raw, H second", n, "further", overlap::num_bases_extending_past_mate_cigar_raw => fn(&[u8], &[u32]) -> usize, port::num_bases_extending_past_mate_cigar_raw => fn(&[u8], &[u32]) -> Result<usize, port::Refusal>, |i, f| f(&r[i], &broken[i]), |i, g| g(&r[i], &broken[i]));
+    let past: Vec<Vec<u8>> = some.iter().map(|x| { let mut y = x.clone(); y[..9].fill(268435455 << 4); record(random, &y, false, 2000) }).collect();
+    pair!("reference_length_from_raw_bam_checked, past 2^31", n, "further", cigar::reference_length_from_raw_bam_checked => fn(&[u8]) -> Option<i32>, port::reference_length_from_raw_bam_checked => fn(&[u8]) -> Result<i32, port::Refusal>, |i, f| f(&past[i]), |i, g| g(&past[i]));
+}
+
+/// Text whose next byte the processor can foresee: one op again and again.
+fn foreseen(n: usize, op: &str) {
+    let t: Vec<String> = (0..INPUTS).map(|_| op.repeat(n)).collect();
+    let mut out = vec![0u32; n + 2];
+    pair!(&format!("parse_cigar_string_ops, {op} repeated"), n, "further", overlap::parse_cigar_string_ops => fn(&str) -> Option<Vec<u32>>, port::parse_cigar_string_ops => fn(&[u8], &mut [u32]) -> Result<usize, port::Refusal>, |i, f| f(&t[i]), |i, g| g(t[i].as_bytes(), &mut out));
+    pair!(&format!("mate_unclipped_5prime, reverse, {op} repeated"), n, "further", cigar::mate_unclipped_5prime => fn(i32, bool, &[u8]) -> i32, port::mate_unclipped_5prime => fn(i32, bool, &[u8]) -> i32, |i, f| f(1000, true, t[i].as_bytes()), |i, g| g(1000, true, t[i].as_bytes()));
+}
+
 fn main() {
     let random = &mut Random(7);
     for n in [1, 3, 10, 100, 10_000] {
@@ -201,4 +263,14 @@ fn main() {
         border(n, random);
     }
     single(random);
+    for n in [10, 100, 10_000, 65_535] {
+        for op in ["1M", "100M"] {
+            foreseen(n, op);
+        }
+        plain(n, "all D", |length| length << 4 | 2, random);
+        plain(n, "all N", |length| length << 4 | 3, random);
+        plain(n, "code 15", |length| length << 4 | 15, random);
+        plain(n, "length 0", |length| length % 2 * 2, random);
+        early(n, random);
+    }
 }
