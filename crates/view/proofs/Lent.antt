@@ -23,7 +23,7 @@ use denote.Plain.{UInt, uint-vals, uint-tells, uint-lawful, bool-vals, bool-tell
 use denote.Ref.{RefT}
 use denote.Signature.{Slot, plain, mutSliceOf, typeAt, typesAt}
 use denote.Slice.{sliceVal, sliceTy, slice-vals, mut-slice-tells, mut-slice-lawful}
-use Rattle.view.proofs.Shared.{Answer, Others, Fits, ofSlice, Promise, At, looks-in, shuts-up, hands, Walks, Law, enters, selfTy, sliceLocal, opens}
+use Rattle.view.proofs.Shared.{Answer, Others, Fits, ofSlice, Promise, At, opens-view, shuts-view, hands, Walks, Law, enters, selfTy, sliceLocal, opens}
 
 -- a lent slice of numbers of a width, at the last lifetime of the function and of the method
 abbrev pub outOf : Width → Slot 2
@@ -100,9 +100,9 @@ module _ {M : Type 1} (𝓤 : URA M) (H : Heap 𝓤) (𝓜 : Model 𝓤 H) (𝓖
         qed (givenOf 𝓤 H 𝓜 𝓖) (raw (At 1 (prints-with w) Q 𝓤 H (𝓖 .A) E E′ gives κs qs bounds x a (o ∷ [], tt)) ∷ []) ∵ enter ! C Λ (printFn (Q .ty (named 1)) w f) (vptr (x .ptr .0) (x .ptr .1) ∷ o ∷ []) _ $
         alloc1 ! (λ l₀. alloc1 ! (λ l₁. alloc1 ! (λ l₂. alloc1 ! (λ l₃. alloc1 ! (λ l₄. alloc1 ! (λ l₅. alloc0 ! $ params1 ! $ pass1 ! (init ! 8 refl (tt, tt)) $ pass1 ! (init ! 6 refl fits-out) $ pass0 ! $
         -- [room for _5; …; room for _4; …; room for _3; …; _2; …; _1; …; room for _0; …; what there is at entry]
-        move ! (12 ∷ []) $ looks-in 1 (prints-with w) Q 𝓤 H (𝓖 .A) E E′ gives κs qs bounds x a (o ∷ [], tt) ! tt (λ q wt.
+        move ! (12 ∷ []) $ opens-view 1 (prints-with w) Q 𝓤 H (𝓖 .A) E E′ gives κs qs bounds x a (o ∷ [], tt) ! tt (λ q wt.
         assigns ! (of-opd ! (load ! (from ! (hop ! (look ! 14 refl) (fld ! refl (stop !)))) (look-in ! 0 (sub ! 0 refl (whole !))))) (from ! (stop !)) (init ! 10 refl (tt, wt)) $
-        shuts-up 1 (prints-with w) Q 𝓤 H (𝓖 .A) E E′ gives κs qs bounds x a (o ∷ [], tt) ! tt q $
+        shuts-view 1 (prints-with w) Q 𝓤 H (𝓖 .A) E E′ gives κs qs bounds x a (o ∷ [], tt) ! tt q $
         -- [what the function asks; the view's token; room for _5; …; room for _4; …; _3; …; _2; …; _1; …; room for _0; …]
         assigns ! (addr ! (from ! (fld ! refl (hop ! (look-in ! 8 (sub ! 0 refl (whole !))) (stop !))))) (from ! (stop !)) (init ! 4 refl (tt, tt)) $
         assigns ! (agg ! (and-then ! (load ! (from ! (stop !)) (look ! 4 refl)) (and-then ! (load ! (from ! (fld ! refl (stop !))) (look-in ! 8 (sub ! 1 refl (whole !)))) (no-more !)))) (from ! (stop !)) (init ! 2 refl (tt, fits-out .1)) $
@@ -124,9 +124,9 @@ module _ {M : Type 1} (𝓤 : URA M) (H : Heap 𝓤) (𝓜 : Model 𝓤 H) (𝓖
         alloc1 ! (λ l₀. alloc1 ! (λ l₁. alloc1 ! (λ l₂. alloc1 ! (λ l₃. alloc1 ! (λ l₄. alloc1 ! (λ l₅. alloc1 ! (λ l₆. alloc1 ! (λ l₇. alloc0 ! $ params1 ! $ pass1 ! (init ! 12 refl (tt, tt)) $
         pass1 ! (init ! 10 refl (uint-lawful 𝓤 H (𝓖 .A) (givenOf 𝓤 H 𝓜 𝓖) w64 .typed (a .0) (n ∷ []) (are .0) .0)) $ pass1 ! (init ! 8 refl (bool-lawful 𝓤 H (𝓖 .A) (givenOf 𝓤 H 𝓜 𝓖) .typed (a .1 .0) (b ∷ []) (are .1 .0) .0)) $ pass1 ! (init ! 6 refl fits-out) $ pass0 ! $
         -- [room for _7; …; room for _6; …; room for _5; …; _4; …; _3; …; _2; …; _1; …; room for _0; …; what there is at entry]
-        move ! (16 ∷ []) $ looks-in 1 (clips-with w) Q 𝓤 H (𝓖 .A) E E′ gives κs qs bounds x a (n ∷ [], (b ∷ [], (o ∷ [], tt))) ! tt (λ q wt.
+        move ! (16 ∷ []) $ opens-view 1 (clips-with w) Q 𝓤 H (𝓖 .A) E E′ gives κs qs bounds x a (n ∷ [], (b ∷ [], (o ∷ [], tt))) ! tt (λ q wt.
         assigns ! (of-opd ! (load ! (from ! (hop ! (look ! 18 refl) (fld ! refl (stop !)))) (look-in ! 0 (sub ! 0 refl (whole !))))) (from ! (stop !)) (init ! 10 refl (tt, wt)) $
-        shuts-up 1 (clips-with w) Q 𝓤 H (𝓖 .A) E E′ gives κs qs bounds x a (n ∷ [], (b ∷ [], (o ∷ [], tt))) ! tt q $
+        shuts-view 1 (clips-with w) Q 𝓤 H (𝓖 .A) E E′ gives κs qs bounds x a (n ∷ [], (b ∷ [], (o ∷ [], tt))) ! tt q $
         -- [what the function asks; the view's token; room for _7; …; room for _6; …; _5; …; _4; …; _3; …; _2; …; _1; …; room for _0; …]
         assigns ! (addr ! (from ! (fld ! refl (hop ! (look-in ! 8 (sub ! 0 refl (whole !))) (stop !))))) (from ! (stop !)) (init ! 4 refl (tt, tt)) $
         assigns ! (agg ! (and-then ! (load ! (from ! (stop !)) (look ! 4 refl)) (and-then ! (load ! (from ! (fld ! refl (stop !))) (look-in ! 8 (sub ! 1 refl (whole !)))) (no-more !)))) (from ! (stop !)) (init ! 2 refl (tt, fits-out .1)) $

@@ -3,7 +3,7 @@
 --     Others               the other parameters, in the function's signature and in the method's: the same but for the lifetimes' names.        none     no other
 --     ofView, ofSlice      the signatures: the method's has one lifetime more, the view's, which is within the slice's
 --     Promise, promised    what a function ensures, and the contract of that alone.        Called, Method     the two contracts, as triples
---     looks-in, shuts-up   the steps of a walk at which the view is opened for its slice, and at which it is shut and the function has what it asks
+--     opens-view, shuts-view     the steps of a walk at which the view is opened for its slice, and at which it is shut and the function has what it asks
 --     hands                the step at which the function is called.        turns     what the function leaves is what the method leaves
 --     meets                the contract, from a walk at the parameters' machine values.        enters     the same of the routine, with the function's theorem cited: `Law`
 --     sharedFn, shared     a method with no other parameter: its MIR, and that it meets its contract
@@ -235,8 +235,8 @@ module _ (m : ℕ) (O : Others m) (Q : Answer m) where
             at-once ! $ says ! (Q .fits (named 1) (κs .1) r u is) $ updating ! $ at-once ! $ show ! (Left u) r $ move ! (1 ∷ 0 ∷ []) $ join ! $ frame ! $ done !))
 
       module _ {K : Type 0} {W : Given 𝓤 H A} {Γ : List (Item 𝓤)} {G : Goal 𝓤 H} where
-        pub looks-in : K → Soaks G → ((q : Share) → WT (held d) → Seq K W (cell q ∷ slice ∷ ‵ Own ∷ opened q ∷ lent ∷ rest ∷ Γ) G) → Seq K W (raw At ∷ Γ) G
-        looks-in t z k =
+        pub opens-view : K → Soaks G → ((q : Share) → WT (held d) → Seq K W (cell q ∷ slice ∷ ‵ Own ∷ opened q ∷ lent ∷ rest ∷ Γ) G) → Seq K W (raw At ∷ Γ) G
+        opens-view t z k =
             use1 W ((token ⊛ lent) ⊛ rest) (parts W) $ split t $ split t $ move t (1 ∷ 0 ∷ []) $
             looks t z (B κ′) (Is (B κ′)) (shows 𝓤 H A (B κ′)) (LL.vals (D κ′) (L κ′)) (LL.tells (D κ′) (L κ′)) (LL.copy (D κ′) (T′.the-copy (α κ′)) 𝓤 H A W) d (x .ptr .0) (x .ptr .1) (λ q vs.
             spelt t (B κ′) (Is (B κ′)) (shows 𝓤 H A (B κ′)) (LL.vals (D κ′) (L κ′)) (LL.tells (D κ′) (L κ′)) q d vs (x .ptr .0) (x .ptr .1) $
@@ -245,8 +245,8 @@ module _ (m : ℕ) (O : Others m) (Q : Answer m) where
             use1 W (given (mach d ∷ [] ≡ mach d ∷ []) (‵ (all-own (D κ′ .parts) (L κ′) (d .0, tt)))) (own-open 𝓤 H A W (D κ′) (L κ′) (d .0, tt) (mach d)) $ learn t (λ _. fsplit t $ move t (1 ∷ []) $ drop t $
             move t (2 ∷ []) $ use1 W (cell q) (W .laws .raw-at q (T′.mir erased) (x .ptr .0) (x .ptr .1) (mach d)) $ k q (LL.lawful (D κ′) (L κ′) 𝓤 H A W .typed d (mach d ∷ []) was .0 .1 .0))))
 
-        pub shuts-up : K → Soaks G → (q : Share) → Step K W (raw (Asked .pre to) ∷ token ∷ Γ) G (cell q ∷ slice ∷ ‵ Own ∷ opened q ∷ lent ∷ rest ∷ Γ) G
-        shuts-up t z q = step (λ s.
+        pub shuts-view : K → Soaks G → (q : Share) → Step K W (raw (Asked .pre to) ∷ token ∷ Γ) G (cell q ∷ slice ∷ ‵ Own ∷ opened q ∷ lent ∷ rest ∷ Γ) G
+        shuts-view t z q = step (λ s.
             use1 W (‵ (cellAt q (B κ′ .mir) (mach d ∷ []) (x .ptr .0) (x .ptr .1))) (W .laws .at-raw q (T′.mir erased) (x .ptr .0) (x .ptr .1) (mach d)) $
             move t (0 ∷ 2 ∷ 3 ∷ []) $ shuts t z (B κ′) q d (mach d ∷ []) (x .ptr .0) (x .ptr .1) $
             -- [the token; what the slice owns; the borrow; the rest; …]
@@ -320,9 +320,9 @@ module _ {M : Type 1} (𝓤 : URA M) (H : Heap 𝓤) (𝓜 : Model 𝓤 H) (𝓖
       qed (givenOf 𝓤 H 𝓜 𝓖) (raw (At 0 none Q 𝓤 H (𝓖 .A) E E′ gives κs qs bounds x tt tt) ∷ []) ∵ enter ! C Λ (sharedFn (Q .ty (named 1)) f) (vptr (x .ptr .0) (x .ptr .1) ∷ []) _ $
       alloc1 ! (λ l₀. alloc1 ! (λ l₁. alloc1 ! (λ l₂. alloc0 ! $ params1 ! $ pass1 ! (init ! 2 refl (tt, tt)) $ pass0 ! $
       -- [room for _2; …; _1; …; room for _0; …; what there is at entry]
-      move ! (6 ∷ []) $ looks-in 0 none Q 𝓤 H (𝓖 .A) E E′ gives κs qs bounds x tt tt ! tt (λ q wt.
+      move ! (6 ∷ []) $ opens-view 0 none Q 𝓤 H (𝓖 .A) E E′ gives κs qs bounds x tt tt ! tt (λ q wt.
       assigns ! (of-opd ! (load ! (from ! (hop ! (look ! 8 refl) (fld ! refl (stop !)))) (look-in ! 0 (sub ! 0 refl (whole !))))) (from ! (stop !)) (init ! 6 refl (tt, wt)) $
-      shuts-up 0 none Q 𝓤 H (𝓖 .A) E E′ gives κs qs bounds x tt tt ! tt q $
+      shuts-view 0 none Q 𝓤 H (𝓖 .A) E E′ gives κs qs bounds x tt tt ! tt q $
       -- [what the function asks; the view's token; _2; …; _1; …; room for _0; …]
       hands 0 none Q 𝓤 H (𝓖 .A) E E′ gives κs qs bounds x tt tt ! fm known (and-then ! (load ! (from ! (stop !)) (look ! 2 refl)) (no-more !)) (λ u fits.
       land ! (from ! (stop !)) (init ! 5 refl fits) $ returns ! (look ! 5 refl) $ forget ! 1 refl $ forget ! 3 refl $ forget ! 5 refl $
