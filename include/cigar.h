@@ -151,23 +151,27 @@ struct cigar_found cigar_read_pos_at_ref_pos_raw(const uint32_t *ops, size_t ops
 
 /* ---- clipping: the clipped list into out; `first` the ops written, `second` the reference bases lost at the start */
 
-/* Refusals 3, 8, 6 */
+/* Of a list. Refusals 3, 8, 6 */
 struct cigar_two cigar_clip_cigar_ops_raw(const uint32_t *ops, size_t ops_len, uint64_t amount, uint8_t from_start, uint32_t *out, size_t out_len);
-/* Refusals 1, 8, 6 */
+/* Of a record. Refusals 1, 8, 6 */
 struct cigar_two cigar_clip_cigar_ops(const uint8_t *rec, size_t rec_len, uint64_t amount, uint8_t from_start, uint32_t *out, size_t out_len);
 
 /* ---- pair tests. Refusal 1 */
+
+/* Paired, both mapped, on the same reference, on opposite strands */
 struct cigar_flag cigar_is_mapped_opposite_strand_pair_raw(const uint8_t *rec, size_t rec_len);
+/* Such a pair that faces inward: of a reverse record its mate starts at or before its end, of a forward one the template length is at least 1 */
 struct cigar_flag cigar_is_fr_pair_raw(const uint8_t *rec, size_t rec_len);
+/* The same of two records, by the reverse one */
 struct cigar_flag cigar_is_primary_fr_pair_raw(const uint8_t *rec, size_t rec_len, const uint8_t *mate, size_t mate_len);
 
 /* ---- overhang: the query bases past the mate */
 
-/* Positions are counted from 1. Refusal 3 */
+/* Of two lists; positions are counted from 1. Refusal 3 */
 struct cigar_count cigar_bases_extending_past_mate_ops(uint8_t reverse, int32_t position, const uint32_t *ops, size_t ops_len, int32_t mate_position, const uint32_t *mate_ops, size_t mate_ops_len);
-/* Refusals 1, 3, 4 */
+/* Of a record and its mate's list. Refusals 1, 3, 4 */
 struct cigar_count cigar_num_bases_extending_past_mate_cigar_raw(const uint8_t *rec, size_t rec_len, const uint32_t *mate_ops, size_t mate_ops_len);
-/* Refusals 1, 4 */
+/* Of a record and its mate's. Refusals 1, 4 */
 struct cigar_count cigar_num_bases_extending_past_mate_vs_mate_raw(const uint8_t *rec, size_t rec_len, const uint8_t *mate, size_t mate_len);
 /* The mate's ops from text into out: `first` the overhang, `second` the ops written; text that the strict reader refuses by 5 answers 0 and 0 and writes
  * nothing. Refusals 1, 3, 4, 6 */

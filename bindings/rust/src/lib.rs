@@ -172,9 +172,9 @@ of_record! {
     unclipped_5prime_from_raw_bam, cigar_unclipped_5prime_from_raw_bam, int, i32;
     /// The bin, computed.
     bin_from_raw_bam, cigar_bin_from_raw_bam, count, u16;
-    /// Whether the record and its mate are mapped on one reference, on opposite strands.
+    /// Whether the record is paired, and it and its mate are mapped on the same reference, on opposite strands.
     is_mapped_opposite_strand_pair_raw, cigar_is_mapped_opposite_strand_pair_raw, flag, bool;
-    /// Whether the record and its mate are an FR pair, by the record alone.
+    /// Whether such a pair faces inward: of a reverse record its mate starts at or before its end, of a forward one the template length is at least 1.
     is_fr_pair_raw, cigar_is_fr_pair_raw, flag, bool;
 }
 
@@ -369,7 +369,7 @@ pub fn clip_cigar_ops(bam: &[u8], clip_amount: usize, from_start: bool, out: &mu
     two(unsafe { raw::cigar_clip_cigar_ops(bam.as_ptr(), bam.len(), clip_amount as u64, from_start as u8, out.as_mut_ptr(), out.len()) })
 }
 
-/// Whether a record and its mate's are a primary FR pair.
+/// The same of two records, by the reverse one.
 #[inline]
 pub fn is_primary_fr_pair_raw(a: &[u8], b: &[u8]) -> Result<bool, Refusal> {
     flag(unsafe { raw::cigar_is_primary_fr_pair_raw(a.as_ptr(), a.len(), b.as_ptr(), b.len()) })
