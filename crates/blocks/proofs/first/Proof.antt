@@ -14,7 +14,7 @@ abbrev Inv-loop : tie.InvT-loop
 Inv-loop block₀ n r₀ block r = (length block ≡ length block₀) × (r .none ≡ false) × First 0 r block
 
 abbrev μ-loop : tie.MeasureT-loop
-μ-loop block₀ n r₀ block r = n - r .have
+μ-loop block₀ n r₀ block r = length block₀ - r .have
 
 loop-holds : tie.Need-loop-holds Inv-loop μ-loop
 loop-holds c = (refl, refl, record { read = []; gathers = starts; within = omega arith; enough = λ e. omega arith })
@@ -37,7 +37,7 @@ returns c =
     record { read = g .read; gathers = g .gathers; within = g .within; enough = λ e. let z : _≡_ {A = ℕ} 0 1 = cc (c .if2 .taken) in absurd (omega arith) }
 
 loop-less : tie.Need-loop-less Inv-loop μ-loop
-loop-less c = let f = c .before .before .before in omega (arith, fill-grows (f .fill .ensures .0) (c .if2 .left), f .before .before .if1 .taken)
+loop-less c = let f = c .before .before .before in omega (arith, fill-grows (f .fill .ensures .0) (c .if2 .left), f .fill .ensures .1, f .before .before .before .before .loop .inv .0)
 
 loop-again : tie.Need-loop-again Inv-loop μ-loop
 loop-again c = let f = c .before .before .before in (f .fill .ensures .0 .same ∙ f .before .before .before .before .loop .inv .0, c .if2 .left, gone f)

@@ -32,7 +32,7 @@ enough c =
     omega (arith, long (take (a .args .first .have) (a .args .block .now)) (f .1), length-take-le (a .args .first .have) (a .args .block .now) (f .0 .within))
 
 shift-requires : tie.Need-shift-requires Inv-loop μ-loop
-shift-requires c κs = (enough (c .before), c .before .before .before .pre .1 .1 .0 .within)
+shift-requires c κs = (omega (arith, enough (c .before)), c .before .before .before .pre .1 .1 .0 .within)
 
 sub-start : tie.Need-sub-start Inv-loop μ-loop
 sub-start c = enough (c .before .before .before .before)
