@@ -2,7 +2,6 @@
 pub mod plan;
 mod write;
 
-ghost use mathlib.Core.Path.{_≡_};
 ghost use mathlib.Core.Bool.{true, false};
 ghost use Rattle.oplist.specs.Ops.{opsOf};
 ghost use Rattle.answers.specs.Settled.{Settled};

@@ -1,10 +1,10 @@
 -- What the tables of codes say of each other: a test that antt computes over the 16 codes, carried to each.
-use mathlib.Core.Path.{_≡_, refl, sym, ap, _∙_}
+use mathlib.Core.Path.{_≡_, refl, ap, _∙_}
 use mathlib.Core.Bool.{Bool, true, false, cond, not, Bool·beq}
 use Prim.Native.Nat.{ℕ, _<_}
 use native.Mathlib.Omega.{arith}
 use lib.Dec.{eqb}
-use borrow.Author.Tests.{ne-eqb}
+use borrow.Author.Tests.{ne-eqb, not-true}
 use Rattle.lists.proofs.Absurd.{false-true}
 use Rattle.lists.proofs.Tables.{below, below-at, same-true}
 use Rattle.sam.specs.Op.{lenOf, codeOf, opOf, isRef, isQuery, refLen, queryLen}
@@ -26,12 +26,8 @@ pub by-codes : (p q : ℕ → Bool) → below (λ d. imp (p d) (q d)) 16 ≡ tru
 by-codes p q h o = imp-true (p (codeOf o)) (q (codeOf o)) (below-at (λ d. imp (p d) (q d)) 16 (codeOf o) h (omega arith))
 
 -- and so does it not
-not-so : (b : Bool) → not b ≡ true → b ≡ false
-not-so true e = false-true e
-not-so false e = refl
-
 pub never : (p q : ℕ → Bool) → below (λ d. imp (p d) (not (q d))) 16 ≡ true → (o : ℕ) → p (codeOf o) ≡ true → q (codeOf o) ≡ false
-never p q h o e = not-so (q (codeOf o)) (by-codes p (λ d. not (q d)) h o e)
+never p q h o e = not-true (q (codeOf o)) (by-codes p (λ d. not (q d)) h o e)
 
 -- ---- read bases
 

@@ -1,21 +1,25 @@
--- Demand 3, of the definitions that clipping's contract uses: the facing list's laws carried to both ends, and neither call is refused since a clip adds at most one op and no length.
+-- Demand 3: the facing list's laws carried to both ends, for every call that clips by the rule; no call is refused, since a clip adds at most one op and no length.
 use mathlib.Core.Path.{_≡_, refl, sym, ap, _∙_}
 use mathlib.Core.Bool.{Bool, true, false, cond, _||_}
 use mathlib.Core.List.{List, [], _∷_, _++_, reverse, reverse-cons}
 use Prim.Native.Nat.{ℕ, _+_, _-_, _^_, _≤_, _<_}
 use native.Mathlib.Omega.{arith}
-use lib.ListN.{length, length-append}
+use lib.ListN.{length, take, drop, length-append}
+use lib.Seq.{take-at}
 use lib.Dec.{eqb, leb}
 use borrow.Author.Tests.{leb-true, leb-false, eqb-true, eqb-false, le-ltb}
-use Rattle.lists.specs.Lists.{facing, sumOf}
+use Rattle.lists.specs.Lists.{facing, splice, sumOf}
 use Rattle.lists.proofs.ListLaws.{length-facing}
 use Rattle.lists.proofs.Sums.{sum-cons, sum-append, sum-facing, facing-facing}
 use Rattle.sam.specs.Op.{lenOf, codeOf, refLen}
 use Rattle.ops.specs.Ops.{readLen}
 use Rattle.clip.specs.Clipping.{taking, Cut, hardOf, softOf, clip}
-use Rattle.clip.specs.Answer.{clippedOps, clippedCount, clippedUpTo, clippedRecord}
-use Rattle.clip.proofs.AnswerLaws.{accepted}
-use Rattle.clip_laws.specs.Demand3.{isInner, keptLen, Shaped, Takes, most, Answers, ClipsOnce, survives, EndsInsertion, ClipsTwice}
+use Rattle.answers.specs.Settled.{Outcome}
+use Rattle.clip.specs.Answer.{clippedOps, clippedCount, clippedUpTo, clippedRecord, written}
+use Rattle.clip.specs.declared.Clipped.{Clipped}
+use Rattle.clip.specs.declared.Clipped.the-variants.{Done}
+use Rattle.clip.proofs.AnswerLaws.{within, accepted}
+use Rattle.clip_laws.specs.Demand3.{isInner, keptLen, Shaped, Takes, most, survives, EndsInsertion, Clipper, Answers, Once, Twice, Demand3, Itself, InRecord}
 use Rattle.clip_laws.proofs.CodeLaws.{hard-len, hard-code}
 use Rattle.clip_laws.proofs.ShapeLaws.{Headed, left-headed, left-length, left-total, soft-length, soft-total, shaped-facing, shaped-inner, tail-clips, shaped-runs}
 use Rattle.clip_laws.proofs.ClipLaws.{once, twice, on-none, on-soft, on-inner}
@@ -122,16 +126,6 @@ ops-facing : (xs : List ℕ) (a : ℕ) (start : Bool) → facing start (clippedO
 unfolding clippedOps
 ops-facing xs a start = facing-facing start (clip (facing start xs) a .ops)
 
--- a list, or a record that holds it, is clipped if it is short enough and the buffer has room
-calls : (limit : ℕ) (xs : List ℕ) (a : ℕ) (start : Bool) (d : List ℕ) → length xs ≤ limit → sumOf lenOf xs < 2 ^ 28 → length (clippedOps xs a start) ≤ length d
-    → Answers limit xs a start d (clippedOps xs a start) (clippedCount xs a start)
-unfolding clippedUpTo clippedRecord
-calls limit xs a start d few short room =
-    record {
-      from-list = simp (le-ltb limit (length xs) few) (accepted xs a start d (omega arith) room);
-      from-record = λ b h e. simp (le-ltb (length b) 32 h, e) (accepted xs a start d (omega arith) room);
-    }
-
 module _ {limit : ℕ} (xs : List ℕ) (a : ℕ) (start : Bool) (D : Takes limit xs) where
   shape' : Shaped (facing start xs)
   shape' = shaped-facing start xs (D .shape)
@@ -159,28 +153,6 @@ module _ {limit : ℕ} (xs : List ℕ) (a : ℕ) (start : Bool) (D : Takes limit
   unfolding clippedCount
   count-end e = rw e refl
 
-  -- DEMAND 3, of one call
-  pub clips-once : (d : List ℕ) → length xs < length d → a ≤ most (D .shape) start → ClipsOnce limit xs a start d
-  clips-once d room le =
-      let O = once (shape' .inner) (shape' .softs' ++ shape' .hards') (shaped-runs shape') (shape' .inner-are) (tail-clips shape') a (within' le) in
-      let e = ops-facing xs a start in
-      let m = small-ops in
-      let k₁ = sum-facing keptLen start (clippedOps xs a start) in
-      let k₂ = ap (sumOf keptLen) e in
-      let k₃ = sum-facing keptLen start xs in
-      let r₁ = sum-facing refLen start (clippedOps xs a start) in
-      let r₂ = drops-length (facing start xs) (facing start (clippedOps xs a start)) (clip (facing start xs) a .lost) (clip-drops xs a start) in
-      let r₃ = sum-facing refLen start xs in
-      record {
-        answers = calls limit xs a start d (omega (arith, D .few)) (D .short) (omega (arith, m .0));
-        floor = rw e (O .floor);
-        kept = omega (arith, O .kept);
-        lost-at-start = λ t. let c = count-start t in omega arith;
-        none-at-end = count-end;
-        long = m .0;
-        total = m .1;
-      }
-
 counts : (start : Bool) (p q : ℕ) → cond start p 0 + cond start q 0 ≡ cond start (p + q) 0
 counts true p q = refl
 counts false p q = refl
@@ -201,22 +173,100 @@ module _ {limit : ℕ} (xs : List ℕ) (a b : ℕ) (start : Bool) (D : Takes lim
       ∙ survives-facing start (clippedOps xs a start)
       ∙ v)
 
-  -- DEMAND 3, of two calls at one end
-  pub clips-twice : (d : List ℕ) → length xs < length d → b ≤ most (D .shape) start → survives (clippedOps xs a start) ≡ true → (EndsInsertion (facing start xs) a b → ⊥)
-      → ClipsTwice limit xs a b start d
+  pub rule-twice : survives (clippedOps xs a start) ≡ true → (EndsInsertion (facing start xs) a b → ⊥)
+      → (clippedOps (clippedOps xs a start) b start ≡ clippedOps xs b start) × (clippedCount xs a start + clippedCount (clippedOps xs a start) b start ≡ clippedCount xs b start)
   unfolding clippedOps clippedCount
-  clips-twice d room bound v E =
+  rule-twice v E =
       let t = twice (shaped-runs shape'') a b le (headed v) E in
-      let f = ops-facing xs a start in
-      let same : clippedOps (clippedOps xs a start) b start ≡ clippedOps xs b start =
-      ap (λ (l : List ℕ). facing start (clip l b .ops)) f ∙ ap (λ (c : Cut). facing start (c .ops)) (sym t) in
-      let m = small-ops xs a start D in
-      let n = small-ops xs b start D in
-      let s = ap length same in
-      record {
-        answers = rw same at (calls limit (clippedOps xs a start) b start d (omega (arith, D .few, m .0)) (omega (arith, D .short, m .1)) (omega (arith, n .0)));
-        list-is = same;
-        counts-add = ap (λ (l : List ℕ). cond start (clip (facing start xs) a .lost) 0 + cond start (clip l b .lost) 0) f
+      let f = ops-facing xs a start in (
+        ap (λ (l : List ℕ). facing start (clip l b .ops)) f ∙ ap (λ (c : Cut). facing start (c .ops)) (sym t),
+        ap (λ (l : List ℕ). cond start (clip (facing start xs) a .lost) 0 + cond start (clip l b .lost) 0) f
             ∙ counts start (clip (facing start xs) a .lost) (clip (clip (facing start xs) a .ops) b .lost)
-            ∙ ap (λ (c : Cut). cond start (c .lost) 0) (sym t);
-      }
+            ∙ ap (λ (c : Cut). cond start (c .lost) 0) (sym t),
+      )
+
+-- ---- two answers into one buffer are the same list and count
+
+pub take-written : (d xs : List ℕ) → take (length xs) (splice d 0 xs) ≡ xs
+unfolding splice
+take-written d xs = take-at xs (drop (0 + length xs) d) (length xs) refl
+
+pub same-written : (d xs ys : List ℕ) (m n : ℕ) → written xs m d ≡ written ys n d → (xs ≡ ys) × (m ≡ n)
+same-written d xs ys m n e =
+    let a : Done (length xs) m ≡ Done (length ys) n = ap (λ (o : Outcome Clipped). o .answer) e in
+    let l : splice d 0 xs ≡ splice d 0 ys = ap (λ (o : Outcome Clipped). o .left) e in
+    let p : length xs ≡ length ys = cc in
+    let q : m ≡ n = cc in
+    (sym (take-written d xs) ∙ ap (take (length xs)) l ∙ ap (λ (k : ℕ). take k (splice d 0 ys)) p ∙ take-written d ys, q)
+
+pub same-answers : (f : Clipper) (s : List ℕ) (a : ℕ) (start : Bool) (xs ys : List ℕ) (m n : ℕ) → Answers f s a start xs m → Answers f s a start ys n → (xs ≡ ys) × (m ≡ n)
+same-answers f s a start xs ys m n A B =
+    let d = xs ++ ys in
+    let l = length-append xs ys in
+    same-written d xs ys m n (sym (A d (omega arith)) ∙ B d (omega arith))
+
+-- ---- DEMAND 3 of every call that clips by the rule what it takes
+
+module _ (limit : ℕ) (Holds : List ℕ → List ℕ → Type 0) (f : Clipper)
+    (takes : (s xs : List ℕ) → Holds s xs → length xs ≤ limit → sumOf lenOf xs < 2 ^ 28 → (a : ℕ) (start : Bool) → Answers f s a start (clippedOps xs a start) (clippedCount xs a start)) where
+  module _ (s xs : List ℕ) (H : Holds s xs) (T : Takes limit xs) (start : Bool) where
+    by-rule : (a : ℕ) → Answers f s a start (clippedOps xs a start) (clippedCount xs a start)
+    by-rule a = takes s xs H (omega (arith, T .few)) (T .short) a start
+
+    once-is : (a : ℕ) → a ≤ most (T .shape) start → Once f s xs a start
+    once-is a le =
+        let S = shape' xs a start T in
+        let O = once (S .inner) (S .softs' ++ S .hards') (shaped-runs S) (S .inner-are) (tail-clips S) a (within' xs a start T le) in
+        let e = ops-facing xs a start in
+        let k₁ = sum-facing keptLen start (clippedOps xs a start) in
+        let k₂ = ap (sumOf keptLen) e in
+        let k₃ = sum-facing keptLen start xs in
+        let r₁ = sum-facing refLen start (clippedOps xs a start) in
+        let r₂ = drops-length (facing start xs) (facing start (clippedOps xs a start)) (clip (facing start xs) a .lost) (clip-drops xs a start) in
+        let r₃ = sum-facing refLen start xs in
+        record {
+          ys = clippedOps xs a start;
+          count = clippedCount xs a start;
+          answers = by-rule a;
+          floor = rw e (O .floor);
+          kept = omega (arith, O .kept);
+          lost-at-start = λ t. let c = count-start xs a start T t in omega arith;
+          none-at-end = count-end xs a start T;
+          long = small-ops xs a start T .0;
+        }
+
+    twice-is : (a b : ℕ) → a ≤ b → b ≤ most (T .shape) start
+        → (ys : List ℕ) (first : ℕ) → Answers f s a start ys first
+        → (zs : List ℕ) (whole : ℕ) → Answers f s b start zs whole
+        → survives ys ≡ true → (EndsInsertion (facing start xs) a b → ⊥)
+        → (t : List ℕ) → Holds t ys → Twice f t b start first zs whole
+    twice-is a b le bound ys first A zs whole B v E t K =
+        let p = same-answers f s a start ys (clippedOps xs a start) first (clippedCount xs a start) A (by-rule a) in
+        let q = same-answers f s b start zs (clippedOps xs b start) whole (clippedCount xs b start) B (by-rule b) in
+        let w = rule-twice xs a b start T le (sym (ap survives (p .0)) ∙ v) E in
+        let m = small-ops xs a start T in
+        let l = ap length (p .0) in
+        let u = ap (sumOf lenOf) (p .0) in
+        let C = takes t ys K (omega (arith, T .few, m .0)) (omega (arith, T .short, m .1)) b start in
+        let x : clippedOps ys b start ≡ zs = ap (λ (k : List ℕ). clippedOps k b start) (p .0) ∙ w .0 ∙ sym (q .0) in
+        record {
+          second = clippedCount ys b start;
+          then-b = rw x at C;
+          counts-add = ap (λ (k : ℕ). k + clippedCount ys b start) (p .1) ∙ ap (λ (k : List ℕ). clippedCount xs a start + clippedCount k b start) (p .0) ∙ w .1 ∙ sym (q .1);
+        }
+
+  pub demand3 : Demand3 limit Holds f
+  demand3 = record { once = once-is; twice = twice-is }
+
+-- ---- the two calls
+
+pub list-demand3 : (limit : ℕ) → Demand3 limit Itself (clippedUpTo limit)
+list-demand3 limit =
+    demand3 limit Itself (clippedUpTo limit)
+    (λ s xs H few short a start d room. rw H (within xs a start d few ∙ accepted xs a start d (omega arith) room))
+
+pub record-demand3 : (limit : ℕ) → Demand3 limit InRecord clippedRecord
+unfolding clippedRecord
+record-demand3 limit =
+    demand3 limit InRecord clippedRecord
+    (λ b xs H few short a start d room. simp (le-ltb (length b) 32 (H .0), H .1) (accepted xs a start d (omega arith) room))

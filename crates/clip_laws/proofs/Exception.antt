@@ -1,19 +1,20 @@
 -- Demand 3's exception is needed: 5M3I2D6M meets every other premise, 8 is the end of the insertion that 6 falls inside, and 6 then 8 is not 8. antt computes both.
 use mathlib.Core.Path.{_≡_, refl, ap}
 use mathlib.Core.Bool.{true}
-use mathlib.Core.List.{List, [], _∷_}
-use Prim.Native.Nat.{ℕ, _≤_}
+use mathlib.Core.List.{List, [], _∷_, _++_}
+use Prim.Native.Nat.{ℕ, _+_, _≤_, _<_}
 use native.Mathlib.Omega.{arith}
 use lib.Dec.{lit<, lit≤}
 use lib.ListN.{length}
 use Rattle.lists.specs.Lists.{sumOf}
 use Rattle.lists.specs.Runs.{leading, afterLeading}
-use Rattle.sam.specs.Op.{opOf, isRef, refLen}
+use Rattle.lists.proofs.Absurd.{nil-cons}
+use Rattle.sam.specs.Op.{lenOf, codeOf, opOf, isRef, refLen}
 use Rattle.ops.specs.Ops.{isRead, readLen, isClip}
 use Rattle.clip_runs.specs.Clips.{outerHard, nextSoft, inside, leadingClips}
 use Rattle.clip.specs.Clipping.{goes, ends, taking, softOf, upgraded, cutInto, clip}
 use Rattle.clip.specs.Answer.{clippedOps}
-use Rattle.clip_laws.specs.Demand3.{isInner, Takes, most, survives, EndsInsertion, ClipsTwice}
+use Rattle.clip_laws.specs.Demand3.{isInner, Takes, most, survives, EndsInsertion}
 
 -- 5M3I2D6M
 abbrev inserted : List ℕ
@@ -64,9 +65,9 @@ excluded =
     }
 
 -- three ops are left, and two
-pub needed : (d : List ℕ) → ClipsTwice 65535 inserted 6 8 true d → ⊥
+pub needed : clippedOps (clippedOps inserted 6 true) 8 true ≡ clippedOps inserted 8 true → ⊥
 unfolding isRead isRef isClip readLen refLen leading sumOf afterLeading goes ends taking softOf upgraded cutInto outerHard nextSoft inside leadingClips clip clippedOps
-needed d T = let e : _≡_ {A = ℕ} 3 2 = ap length (T .list-is) in omega arith
+needed t = let e : _≡_ {A = ℕ} 3 2 = ap length t in omega arith
 
 -- no equivalence is claimed: 3I5M by 1 then 3 is excluded too, and is 3
 abbrev first : List ℕ
@@ -89,3 +90,32 @@ excluded-too =
 pub equal-too : clippedOps (clippedOps first 1 true) 3 true ≡ clippedOps first 3 true
 unfolding isRead isRef isClip readLen refLen leading sumOf afterLeading goes ends taking softOf upgraded cutInto outerHard nextSoft inside leadingClips clip clippedOps
 equal-too = refl
+
+-- ---- no wider than its words
+
+-- two equal amounts are never excluded
+pub same-not : (xs : List ℕ) (a : ℕ) → EndsInsertion xs a a → ⊥
+same-not xs a E = omega (arith, E .a-within)
+
+-- in 5M3I2D6M the insertion is the only one: an amount falls inside it from 6 on, and it ends at 8
+only : (a b : ℕ) → EndsInsertion inserted a b → (5 < a) × (b ≡ 8)
+unfolding inside leadingClips leading afterLeading isClip sumOf readLen isRead
+only a b E = go (E .before) (E .insertion) (E .after) (E .list-is) (E .is-insertion) (E .a-past) (E .b-end)
+  where
+    go : (before : List ℕ) (i : ℕ) (after : List ℕ) → inserted ≡ before ++ (i ∷ after) → codeOf i ≡ 1 → 0 + sumOf readLen before < a → b ≡ 0 + (sumOf readLen before + lenOf i) → (5 < a) × (b ≡ 8)
+    go [] i after e c p q = let h : opOf 5 0 ≡ i = cc in absurd (omega (arith, ap codeOf h))
+    go (x ∷ []) i after e c p q = let h : opOf 5 0 ≡ x = cc in let k : opOf 3 1 ≡ i = cc in let r = ap readLen h in let l = ap lenOf k in (omega arith, omega arith)
+    go (x ∷ (y ∷ [])) i after e c p q = let h : opOf 2 2 ≡ i = cc in absurd (omega (arith, ap codeOf h))
+    go (x ∷ (y ∷ (z ∷ []))) i after e c p q = let h : opOf 6 0 ≡ i = cc in absurd (omega (arith, ap codeOf h))
+    go (x ∷ (y ∷ (z ∷ (u ∷ before)))) i after e c p q = none before i after (cc)
+      where
+        none : (before : List ℕ) (i : ℕ) (after : List ℕ) → [] ≡ before ++ (i ∷ after) → (5 < a) × (b ≡ 8)
+        none [] i after e = nil-cons e
+        none (v ∷ before) i after e = nil-cons e
+
+-- so a at its start is not excluded, and b past its end is not
+pub start-not : EndsInsertion inserted 5 8 → ⊥
+start-not E = let o = only 5 8 E in omega (arith, o .0)
+
+pub past-not : EndsInsertion inserted 6 9 → ⊥
+past-not E = let o = only 6 9 E in omega (arith, o .1)

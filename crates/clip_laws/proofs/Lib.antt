@@ -6,3 +6,4 @@ pub mod ShapeLaws
 pub mod ClipLaws
 pub mod Demand3
 pub mod Exception
+pub mod Refuted

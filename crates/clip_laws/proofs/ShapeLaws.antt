@@ -1,7 +1,7 @@
 -- Sums over runs and takings, what survives a taking, and the runs that a shaped list begins with, from either end.
 use mathlib.Core.Path.{_≡_, refl, sym, ap, _∙_}
 use mathlib.Core.Bool.{Bool, true, false, cond}
-use mathlib.Core.List.{List, [], _∷_, _++_, reverse, reverse-cons, reverse-append, append-assoc}
+use mathlib.Core.List.{List, [], _∷_, _++_, reverse, reverse-append, append-assoc}
 use Prim.Native.Nat.{ℕ, suc, _+_, _-_, _≤_, _<_}
 use native.Mathlib.Omega.{arith}
 use lib.ListN.{length, length-reverse}

@@ -1,4 +1,4 @@
--- Demand 3, over the definitions that clipping's contract uses: the lists that it takes, what one call promises, and what two calls at one end promise.
+-- Demand 3, of any clipper: the lists that it takes, what one call promises, and what two calls at one end promise.
 use Prim.Native.Nat.{ℕ, _+_, _^_, _≤_, _<_}
 use mathlib.Core.Path.{_≡_}
 use mathlib.Core.Bool.{Bool, true, false, _||_}
@@ -9,7 +9,9 @@ use Rattle.sam.specs.Op.{lenOf, codeOf, refLen, queryLen}
 use Rattle.sam.specs.Record.{recordOps}
 use Rattle.ops.specs.Ops.{readLen}
 use Rattle.clip_runs.specs.Clips.{isHard, isSoft, hardLen, outerHard, inside, leadingClips}
-use Rattle.clip.specs.Answer.{clippedOps, clippedCount, clippedUpTo, clippedRecord, written}
+use Rattle.answers.specs.Settled.{Outcome}
+use Rattle.clip.specs.Answer.{written}
+use Rattle.clip.specs.declared.Clipped.{Clipped}
 
 -- "inner ops (M, I, D, N, P, =, X)"
 unfoldable pub isInner : ℕ → Bool
@@ -48,26 +50,6 @@ most {xs} S start = leadingClips (facing start xs) + sumOf readLen (S .inner)
 unfoldable pub keptLen : ℕ → ℕ
 keptLen o = queryLen o + hardLen o
 
--- a call, over a list or over a record that holds it, answers the list ys and the count
-pub record Answers (limit : ℕ) (xs : List ℕ) (amount : ℕ) (start : Bool) (d ys : List ℕ) (count : ℕ) : Type 0 where
-  pub from-list : clippedUpTo limit xs amount start d ≡ written ys count d
-  pub from-record : (b : List ℕ) → 32 ≤ length b → recordOps b ≡ xs → clippedRecord b amount start d ≡ written ys count d
-
--- one call, into a buffer d
-pub record ClipsOnce (limit : ℕ) (xs : List ℕ) (a : ℕ) (start : Bool) (d : List ℕ) : Type 0 where
-  -- it answers
-  pub answers : Answers limit xs a start d (clippedOps xs a start) (clippedCount xs a start)
-  -- "clipping leaves at least that amount hard clipped there"
-  pub floor : a ≤ outerHard (facing start (clippedOps xs a start))
-  -- "and conserves query plus hard bases"
-  pub kept : sumOf keptLen (clippedOps xs a start) ≡ sumOf keptLen xs
-  -- "at the start it returns exactly the reference length lost", and 0 at the end
-  pub lost-at-start : start ≡ true → clippedCount xs a start + sumOf refLen (clippedOps xs a start) ≡ sumOf refLen xs
-  pub none-at-end : start ≡ false → clippedCount xs a start ≡ 0
-  -- at most one op more and no larger total, so that a second call takes the list
-  pub long : length (clippedOps xs a start) ≤ length xs + 1
-  pub total : sumOf lenOf (clippedOps xs a start) ≤ sumOf lenOf xs
-
 -- "an inner op survives": one is among the ops, of any length
 unfoldable pub survives : List ℕ → Bool
 survives [] = false
@@ -84,10 +66,53 @@ pub record EndsInsertion (xs : List ℕ) (a b : ℕ) : Type 0 where
   pub a-within : a < b
   pub b-end : b ≡ leadingClips xs + (sumOf readLen before + lenOf insertion)
 
--- a second call, by b at the same end, on the list that the first one answered
-pub record ClipsTwice (limit : ℕ) (xs : List ℕ) (a b : ℕ) (start : Bool) (d : List ℕ) : Type 0 where
-  -- it answers; "a then b gives b's list"
-  pub answers : Answers limit (clippedOps xs a start) b start d (clippedOps xs b start) (clippedCount (clippedOps xs a start) b start)
-  pub list-is : clippedOps (clippedOps xs a start) b start ≡ clippedOps xs b start
-  -- "and the two counts add to b's count"
-  pub counts-add : clippedCount xs a start + clippedCount (clippedOps xs a start) b start ≡ clippedCount xs b start
+-- ---- any clipper
+
+-- of a list or a record, an amount, the chosen end (the start or not) and a lent buffer: what it answers, and what it leaves in the buffer
+abbrev pub Clipper : Type 0
+Clipper = List ℕ → ℕ → Bool → List ℕ → Outcome Clipped
+
+-- "Buffers have room": into each buffer that the clipped list ys fits, the call answers ys and the count
+abbrev pub Answers : Clipper → List ℕ → ℕ → Bool → List ℕ → ℕ → Type 0
+Answers f s amount start ys count = (d : List ℕ) → length ys ≤ length d → f s amount start d ≡ written ys count d
+
+-- one call, by a, on s, which holds the list xs
+pub record Once (f : Clipper) (s xs : List ℕ) (a : ℕ) (start : Bool) : Type 0 where
+  pub ys : List ℕ
+  pub count : ℕ
+  pub answers : Answers f s a start ys count
+  -- "clipping leaves at least that amount hard clipped there
+  pub floor : a ≤ outerHard (facing start ys)
+  -- and conserves query plus hard bases;
+  pub kept : sumOf keptLen ys ≡ sumOf keptLen xs
+  -- at the start it returns exactly the reference length lost", and 0 at the end
+  pub lost-at-start : start ≡ true → count + sumOf refLen ys ≡ sumOf refLen xs
+  pub none-at-end : start ≡ false → count ≡ 0
+  -- at most one op more: so much room is enough
+  pub long : length ys ≤ length xs + 1
+
+-- a second call, by b at the same end, on t, which holds the list that the first call left; b alone answers zs and the count whole
+pub record Twice (f : Clipper) (t : List ℕ) (b : ℕ) (start : Bool) (first : ℕ) (zs : List ℕ) (whole : ℕ) : Type 0 where
+  pub second : ℕ
+  -- "a then b gives b's list,
+  pub then-b : Answers f t b start zs second
+  -- and the two counts add to b's count"
+  pub counts-add : first + second ≡ whole
+
+-- DEMAND 3. What a clipper is given holds a list: it is the list, or a record of it. "Take at most 65,534 ops [..]": `Takes` with the limit 65,535
+pub record Demand3 (limit : ℕ) (Holds : List ℕ → List ℕ → Type 0) (f : Clipper) : Type 0 where
+  -- "For an amount up to the chosen end's clips plus inner M, I, = and X bases"
+  pub once : (s xs : List ℕ) → Holds s xs → (T : Takes limit xs) (start : Bool) (a : ℕ) → a ≤ most (T .shape) start → Once f s xs a start
+  -- "For two such amounts a ≤ b at one end [..], if an inner op survives a and b isn't the end of an insertion that a fell inside": a answered ys and first, b zs and whole
+  pub twice : (s xs : List ℕ) → Holds s xs → (T : Takes limit xs) (start : Bool) (a b : ℕ) → a ≤ b → b ≤ most (T .shape) start
+      → (ys : List ℕ) (first : ℕ) → Answers f s a start ys first
+      → (zs : List ℕ) (whole : ℕ) → Answers f s b start zs whole
+      → survives ys ≡ true → (EndsInsertion (facing start xs) a b → ⊥)
+      → (t : List ℕ) → Holds t ys → Twice f t b start first zs whole
+
+-- `clip_cigar_ops_raw` is given the list itself, `clip_cigar_ops` a record that holds it
+abbrev pub Itself : List ℕ → List ℕ → Type 0
+Itself s xs = s ≡ xs
+
+abbrev pub InRecord : List ℕ → List ℕ → Type 0
+InRecord b xs = (32 ≤ length b) × (recordOps b ≡ xs)

@@ -9,7 +9,7 @@ use lib.Dec.{ltb}
 use lib.ListN.{length}
 use borrow.Author.Tests.{ltb-true, ltb-false, lt-ltb, le-ltb}
 use Rattle.sam.specs.Op.{lenOf, codeOf, isRef, isQuery, queryLen, refLen}
-use Rattle.sam.specs.Columns.{Spot, Column, spell, columns, refs, Seen, base, gap, off, past}
+use Rattle.sam.specs.Columns.{Spot, Column, spell, columns, Seen, base, gap, off, past}
 use Rattle.lookup.specs.Lookup.{spotIn, look, readOver, lookup}
 use Rattle.lookup.specs.Meaning.{Reads}
 use Rattle.lookup.specs.Meaning as means

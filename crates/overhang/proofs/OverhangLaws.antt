@@ -1,11 +1,10 @@
 -- The three ways of a read to lie to its mate, each from its tests: the definition's own, on either side.
 use Prim.Native.Nat.{ℕ, _+_, _-_, _≤_}
-use mathlib.Core.Path.{_≡_, refl, sym, ap, _∙_, subst}
+use mathlib.Core.Path.{_≡_, refl, sym, ap, _∙_}
 use mathlib.Core.Bool.{Bool, true, false, not, cond}
 use mathlib.Core.List.{List, reverse}
 use native.Mathlib.Omega.{arith}
 use lib.IntN.{ℤ}
-use lib.Dec.{T}
 use lib.Signed.{ltZ}
 use mir.Syntax.{w32}
 use mir.Val.{SFits}
@@ -21,9 +20,6 @@ use Rattle.overhang.proofs.Mirror.{past-left, past-right}
 
 pub differ : {r a b x y : ℕ} → r ≡ a - b → a ≡ x → b ≡ y → r ≡ x - y
 differ e p q = cc
-
-pub not-so : {A : Type 0} → true ≡ false → A
-not-so e = absurd (subst T e tt)
 
 -- of equal positions
 pub of-places : (b : Bool) (xs ys : List ℕ) {p q m l : ℤ} {n : ℕ} → n ≡ overhangOf b p xs m ys → p ≡ q → m ≡ l → n ≡ overhangOf b q xs l ys

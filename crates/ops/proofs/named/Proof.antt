@@ -1,6 +1,6 @@
 -- Each arm is the table's entry at its code; past the table stand its defaults.
 use Prim.Native.Nat.{_≤_}
-use mathlib.Core.Path.{_≡_, sym, ap, _∙_}
+use mathlib.Core.Path.{sym, ap, _∙_}
 use Rattle.ops.specs.Ops.{kindOf, letterOf}
 use Rattle.ops.proofs.CodeLaws.{past5, past9, no-kind, no-letter}
 use borrow.Author.Needs.{needs}

@@ -1,5 +1,5 @@
 -- The one test is the definition's.
-use mathlib.Core.Path.{_≡_, ap}
+use mathlib.Core.Path.{ap}
 use borrow.Author.Tests.{lt-ltb, le-ltb}
 use Rattle.ops.specs.declared.KindFound.the-variants.{Kind}
 use Rattle.ops.specs.Ops.{fromOpType}

@@ -1,6 +1,6 @@
 -- The two tests are the definition's.
 use Prim.Native.Nat.{ℕ}
-use mathlib.Core.Path.{_≡_, ap}
+use mathlib.Core.Path.{ap}
 use borrow.Author.Tests.{eq-eqb, ne-eqb, lt-ltb, le-ltb}
 use Rattle.sam.specs.Op.{opOf}
 use Rattle.ops.specs.declared.NewOp.the-variants.{Op}
