@@ -9,7 +9,7 @@ use lib.ListN.{length, take}
 use borrow.Author.Tests.{leb-true, leb-false}
 use Rattle.lists.specs.Lists.{sumOf}
 use Rattle.lists.specs.Runs.{leading, holds, afterLast}
-use Rattle.lists.proofs.Absurd.{true-false}
+use Rattle.lists.proofs.Absurd.{false-true}
 use Rattle.lists.proofs.RunLaws.{after-none}
 use Rattle.clip_runs.specs.Clips.{clipLen, trailingClips}
 use Rattle.ends.specs.Tails.{refOp, clipsToNext, greatestRun}
@@ -42,7 +42,7 @@ all-between [] e = refl
 all-between (o ∷ xs) e = go (refOp o) (all-between xs) e
   where
     go : (t : Bool) → (holds refOp xs ≡ false → between xs ≡ xs) → cond t true (holds refOp xs) ≡ false → cond (not t) (o ∷ between xs) [] ≡ o ∷ xs
-    go true f h = true-false h
+    go true f h = false-true (sym h)
     go false f h = ap (λ (l : List ℕ). o ∷ l) (f h)
 
 -- ---- the clips after the last reference op, one op on

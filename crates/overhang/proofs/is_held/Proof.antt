@@ -6,7 +6,7 @@ use mir.Syntax.{w32}
 use mir.Val.{toZ, ofZ}
 use borrow.Author.Tests.{leb-false}
 use Rattle.signed.specs.Whole.{raised}
-use Rattle.lists.proofs.Absurd.{true-false}
+use Rattle.lists.proofs.Absurd.{false-true}
 use borrow.Author.Needs.{needs}
 use Rattle.overhang.proofs.is_held.Statement.{statement}
 use Rattle.overhang.proofs.is_held.Tie as tie
@@ -20,20 +20,20 @@ raise-requires : tie.Need-raise-requires
 raise-requires c κs = search needs
 
 returns : tie.Need-returns
-returns c = λ e. true-false e
+returns c = λ e. false-true (sym e)
 
 returns-2 : tie.Need-returns-2
 returns-2 c =
     λ e.
     let k = c .before .before in
     let l : raised (k .before .before .args .target .0) < 4294967295 = omega (arith, target-is k, k .raise .ensures .1) in
-    (record { before-last = l; reaches = λ f. true-false (sym (c .if2 .taken) ∙ f) }, record { before-last = l; reaches = λ f. true-false (sym (c .if2 .taken) ∙ f) })
+    (record { before-last = l; reaches = λ f. false-true (sym (sym (c .if2 .taken) ∙ f)) }, record { before-last = l; reaches = λ f. false-true (sym (sym (c .if2 .taken) ∙ f)) })
 
 ends-by-requires : tie.Need-ends-by-requires
 ends-by-requires c κs = search needs
 
 returns-3 : tie.Need-returns-3
-returns-3 c = λ e. true-false e
+returns-3 c = λ e. false-true (sym e)
 
 ends-by-requires-2 : tie.Need-ends-by-requires-2
 ends-by-requires-2 c κs = search needs
