@@ -16,7 +16,7 @@
  *
  * A flag as an argument is a byte: anything but 0 counts as 1. Positions are counted as each call says.
  *
- * The calls are in two archives, each said above its calls: link the ones that you need.
+ * The calls are in two archives, each said above its calls: link the ones that you need. libselvedgekite.so has all of them.
  */
 #ifndef CIGAR_H
 #define CIGAR_H

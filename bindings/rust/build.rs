@@ -1,17 +1,23 @@
-// Links the two static libraries that `rt staticlib` writes at the top of the repository.
+// Links the two archives that ./build-libraries writes at the top of the repository: those for x86-64, and for any other target
+// those of this machine's own processor. SELVEDGEKITE_LIB names another folder.
+use std::env::var;
 use std::path::Path;
 
 fn main() {
-    if std::env::var("CARGO_CFG_TARGET_ARCH").as_deref() != Ok("x86_64") {
-        panic!("the static library is compiled for x86-64 only: build for an x86_64 target");
-    }
-    let here = std::env::var("CARGO_MANIFEST_DIR").unwrap();
-    let folder = std::env::var("SELVEDGEKITE_LIB").unwrap_or(format!("{here}/../../target/staticlib"));
+    let (arch, host) = (var("CARGO_CFG_TARGET_ARCH").unwrap(), var("HOST").unwrap());
+    let made = if arch == "x86_64" { "x86_64" } else { "native" };
+    let folder = var("SELVEDGEKITE_LIB").unwrap_or_else(|_| {
+        if arch != "x86_64" && !host.starts_with(&arch) {
+            panic!("./build-libraries builds for x86-64 and for its own machine: run it on one with {arch}, and name its folder by SELVEDGEKITE_LIB");
+        }
+        format!("{}/../../target/libraries/{made}", var("CARGO_MANIFEST_DIR").unwrap())
+    });
+    println!("cargo:rerun-if-env-changed=SELVEDGEKITE_LIB");
     println!("cargo:rustc-link-search=native={folder}");
     for name in ["exports", "exports_reads"] {
         let library = Path::new(&folder).join(format!("lib{name}.a"));
         if !library.exists() {
-            panic!("{} is missing: run `rt staticlib {name}` at the top of the repository", library.display());
+            panic!("{} is missing: run ./build-libraries at the top of the repository", library.display());
         }
         println!("cargo:rustc-link-lib=static={name}");
         println!("cargo:rerun-if-changed={}", library.display());
