@@ -66,6 +66,8 @@ def columns(record):
 
 
 def main():
+    if len(sys.argv) != 2:
+        sys.exit(__doc__)
     n = 0
     with opened(sys.argv[1]) as file:
         if not skip_head(file):
