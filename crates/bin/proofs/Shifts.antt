@@ -13,7 +13,7 @@ use mir.Facts.{toZ-ofZ}
 use mir.ValLaws.{sfits-le}
 use Rattle.signed.specs.Whole.{raised}
 use Rattle.signed.specs.Equal.{eqℤ}
-use Rattle.bin.specs.Bin.{Level, shr, low16, firstAgreed}
+use Rattle.bin.specs.Bin.{Shift, shr, low16, firstAgreed}
 
 pub shr-fits : (z : ℤ) (k : ℕ) → SFits w32 z → SFits w32 (shr z k)
 shr-fits z k f = sfits-le (mag-shr z (2 ^ k)) f
@@ -42,7 +42,7 @@ pub placed : (beg : ℤ) → SFits w32 beg → (first k r : ℕ) → r ≡ low16
 placed beg f first k r e = simp (toZ-ofZ f) at e
 
 -- the cases of `firstAgreed`
-module _ (beg last : ℤ) (l : Level) (ls : List Level) where
+module _ (beg last : ℤ) (l : Shift) (ls : List Shift) where
   pub agree-here : eqℤ (shr beg (l .shift)) (shr last (l .shift)) ≡ true → firstAgreed (l ∷ ls) beg last ≡ pos (l .offset) +ℤ shr beg (l .shift)
   unfolding firstAgreed
   agree-here a = simp a

@@ -23,13 +23,13 @@ use Rattle.answers.specs.declared.Nat.the-variants.{Number, Refused}
 abbrev pub shr : ℤ → ℕ → ℤ
 shr z k = shrZ z (2 ^ k)
 
--- a level: its shift and its offset
-pub record Level : Type 0 where
+-- a shift and its offset
+pub record Shift : Type 0 where
   pub shift : ℕ
   pub offset : ℕ
 
-abbrev pub levels : List Level
-levels =
+abbrev pub shifts : List Shift
+shifts =
     record { shift = 14; offset = 4681 }
     ∷ record { shift = 17; offset = 585 }
     ∷ record { shift = 20; offset = 73 }
@@ -38,13 +38,13 @@ levels =
     ∷ []
 
 -- the first shift at which the ends agree; else 0
-unfoldable pub firstAgreed : List Level → ℤ → ℤ → ℤ
+unfoldable pub firstAgreed : List Shift → ℤ → ℤ → ℤ
 firstAgreed [] beg last = pos 0
 firstAgreed (l ∷ ls) beg last =
     cond (eqℤ (shr beg (l .shift)) (shr last (l .shift))) (pos (l .offset) +ℤ shr beg (l .shift)) (firstAgreed ls beg last)
 
 abbrev pub binOf : ℤ → ℤ → ℤ
-binOf beg last = firstAgreed levels beg last
+binOf beg last = firstAgreed shifts beg last
 
 -- the low 16 bits of a number in two's complement
 unfoldable pub low16 : ℤ → ℕ

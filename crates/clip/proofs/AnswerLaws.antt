@@ -16,7 +16,7 @@ use Rattle.answers.specs.declared.Refusal.{Refusal}
 use Rattle.answers.specs.declared.Refusal.the-variants.{TooLong, NoRoom}
 use Rattle.answers.proofs.Unique.{settled, outcome}
 use Rattle.clip.specs.Clipping.{Cut, clip}
-use Rattle.clip.specs.Plan.{PlanIs, Unplanned}
+use Rattle.clip.specs.InnerPlan.{PlanIs, Unplanned}
 use Rattle.clip.specs.Answer.{clippedOps, clippedCount, clippedInto, clippedUpTo, written}
 use Rattle.clip.specs.declared.Clipped.{Clipped}
 use Rattle.clip.specs.declared.Clipped.the-variants.{Done, Refused}

@@ -16,7 +16,7 @@ use Rattle.clip_runs.specs.Clips.{leadingClips}
 use Rattle.clip_runs.specs.Walked.{OuterIs}
 use Rattle.clip_runs.proofs.RunLaws.{outer-total}
 use Rattle.clip.specs.Clipping.{Taken, more, goes, ends, taking, Cut, softOf, upgraded, cutInto, clip}
-use Rattle.clip.specs.Plan.{takenOf, cutOf, TakingIs}
+use Rattle.clip.specs.InnerPlan.{takenOf, cutOf, TakingIs}
 use Rattle.clip.proofs.CodeLaws.{read-le, read-D}
 
 -- ---- taking

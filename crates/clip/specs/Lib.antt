@@ -1,3 +1,3 @@
 pub mod Clipping
 pub mod Answer
-pub mod Plan
+pub mod InnerPlan

@@ -9,7 +9,7 @@ ghost use Rattle.lists.specs.Lists.{facing, sumOf};
 ghost use Rattle.sam.specs.Op.{lenOf, opOf};
 ghost use Rattle.oplist.specs.Ops.{opsOf};
 ghost use Rattle.clip.specs.Clipping.{goes, more, ends, upgraded};
-ghost use Rattle.clip.specs.Plan.{TakingIs, PlanIs, PlannedIs, takenOf, cutOf};
+ghost use Rattle.clip.specs.InnerPlan.{TakingIs, PlanIs, PlannedIs, takenOf, cutOf};
 use answers::Refusal;
 use oplist::Ops;
 

@@ -19,7 +19,7 @@ use Rattle.clip_runs.specs.Clips.{isHard, isSoft, afterRun, outerHard, nextSoft
 use Rattle.clip.specs.Clipping.{taking, Cut, hardOf, softOf, upgraded, cutInto, clip}
 use Rattle.clip.specs.Answer.{clippedOps}
 use Rattle.clip.proofs.RuleLaws.{take-nil}
-use Rattle.clip_laws.specs.Placed.{KeepsPlaced}
+use Rattle.clip_laws.specs.Placement.{KeepsPlaced}
 use Rattle.clip_laws.proofs.CodeLaws.{op-code, hard-code, soft-code}
 use Rattle.clip_laws.proofs.TakeLaws.{Way, whole, none, over, cuts, way, take-whole, take-none, take-over, take-cut}
 

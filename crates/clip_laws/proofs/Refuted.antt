@@ -1,6 +1,6 @@
 -- Demand 3 has teeth: four clippers that document 01 names don't meet it, each shown by a list of one or two ops. antt computes what they leave.
 use mathlib.Core.Path.{_≡_, refl, sym, ap, _∙_}
-use mathlib.Core.Bool.{Bool, true, cond}
+use mathlib.Core.Bool.{true, cond}
 use mathlib.Core.List.{List, [], _∷_}
 use Prim.Native.Nat.{ℕ, zero, suc, _≤_}
 use native.Mathlib.Omega.{arith}

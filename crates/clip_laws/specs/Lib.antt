@@ -1,3 +1,3 @@
 pub mod Demand3
 pub mod Drops
-pub mod Placed
+pub mod Placement

@@ -20,7 +20,7 @@ use Rattle.ends.specs.declared.Found1.the-variants.{Nothing}
 use Rattle.ends.specs.declared.Unclipped.the-variants.{Unmapped, NoOps}
 use Rattle.ends.specs.declared.Place0.the-variants as Place0
 use Rattle.ends.specs.declared.tails.Tail.{Tail}
-use Rattle.ends.specs.Sums.{_⊕_, _⊖_, total}
+use Rattle.ends.specs.Sums.{_⊕_, _⊖_, summed}
 use Rattle.ends.specs.Tails.{greatestRun}
 use Rattle.ends.specs.Ends.{provided, trailingSum, unclippedStart, unclippedEnd, toPlace0, toPlace1, toFound1, oneBased, fivePrime, noOps, unclippedAt, unclippedOf, unclippedFrom, alignmentStart, alignmentEnd}
 
@@ -74,10 +74,10 @@ some-left b xs n e f g = ne-eqb _ 0 (λ z. g (e ∙ ap length f ∙ z))
 
 -- the 5' end by the strand, from what the walk to it has met
 module _ (at : ℤ) (xs : List ℕ) where
-  pub forward : (t : Bool) (clips : ℕ) → t ≡ false → clips ≡ leadingClips xs → Number at ⊖ total clips ≡ fivePrime t at xs
+  pub forward : (t : Bool) (clips : ℕ) → t ≡ false → clips ≡ leadingClips xs → Number at ⊖ summed clips ≡ fivePrime t at xs
   unfolding fivePrime unclippedStart
   forward t clips f c = simp (f, c)
 
-  pub backward : (t : Bool) (w : Tail) → t ≡ true → w .refs ≡ sumOf refLen xs → w .clips ≡ trailingClips xs → w .most ≡ greatestRun xs → Number at ⊕ total (w .refs) ⊕ provided (total (w .most)) (Number (pos (w .clips))) ⊖ Number (pos 1) ≡ fivePrime t at xs
+  pub backward : (t : Bool) (w : Tail) → t ≡ true → w .refs ≡ sumOf refLen xs → w .clips ≡ trailingClips xs → w .most ≡ greatestRun xs → Number at ⊕ summed (w .refs) ⊕ provided (summed (w .most)) (Number (pos (w .clips))) ⊖ Number (pos 1) ≡ fivePrime t at xs
   unfolding fivePrime unclippedEnd trailingSum
   backward t w f r c m = simp (f, r, c, m)

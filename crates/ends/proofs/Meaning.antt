@@ -13,7 +13,7 @@ use Rattle.signed.specs.declared.Sum.the-variants.{Number, Over}
 use Rattle.sam.specs.Columns.{columns, refs}
 use Rattle.sam.proofs.LengthLaws.{reference-length}
 use Rattle.clip_runs.specs.Clips.{leadingClips, trailingClips}
-use Rattle.ends.specs.Sums.{both, total}
+use Rattle.ends.specs.Sums.{both, summed}
 use Rattle.ends.specs.Tails.{greatestRun}
 use Rattle.ends.specs.Ends.{unclippedStart, provided, trailingSum, unclippedEnd}
 
@@ -70,7 +70,7 @@ module _ (at : ℤ) (xs : List ℕ) (z : ℤ) where
       let q = parts _+ℤ_ _ _ (p .left) (p .left-is) in
       let s = parts _+ℤ_ _ _ (q .left) (q .left-is) in
       let b : pos (refs (columns xs)) ≡ s .right = ap pos (sym (reference-length xs)) ∙ checked-is _ _ (s .right-is) in
-      let c : pos (trailingClips xs) ≡ q .right = provided-is (total (greatestRun xs)) _ _ (q .right-is) in
+      let c : pos (trailingClips xs) ≡ q .right = provided-is (summed (greatestRun xs)) _ _ (q .right-is) in
       joined _-ℤ_
       (joined _+ℤ_ (joined _+ℤ_ (number-is at (s .left) (s .left-is)) b (s .is)) c (q .is))
       (number-is (pos 1) (p .right) (p .right-is))

@@ -12,7 +12,7 @@ use Rattle.lists.specs.Runs.{leading, holds, afterLast}
 use Rattle.lists.proofs.Absurd.{false-true}
 use Rattle.lists.proofs.RunLaws.{after-none}
 use Rattle.clip_runs.specs.Clips.{clipLen, trailingClips}
-use Rattle.ends.specs.Tails.{refOp, clipsToNext, greatestRun}
+use Rattle.ends.specs.Tails.{refOp, clipsToNext, greatestRun, Reached}
 use Rattle.ends.proofs.TailLaws.{sum-pick, no-clips, next-ref, run-ref, next-other, run-other}
 
 abbrev between : List ℕ → List ℕ
@@ -102,10 +102,6 @@ pub run-most : (xs : List ℕ) (i : ℕ) → trailingClips (take i xs) ≤ great
 run-most xs i = omega (arith, run-whole (take i xs), run-part xs i)
 
 -- ---- and as much
-
-pub record Reached (xs : List ℕ) : Type 0 where
-  pub after : ℕ
-  pub is : trailingClips (take after xs) ≡ greatestRun xs
 
 next-is : (xs : List ℕ) → clipsToNext xs ≡ sumOf clipLen (between xs)
 unfolding clipsToNext

@@ -11,7 +11,8 @@ use Rattle.sam.specs.Op.{lenOf, codeOf, refLen}
 use Rattle.ops.specs.Ops.{isClip}
 use Rattle.clip_runs.specs.Clips.{clipLen, trailingClips}
 use Rattle.ends.specs.declared.tails.Tail.{Tail}
-use Rattle.ends.specs.Tails.{refOp, clipsToNext, greatestRun, Met, met}
+use Rattle.ends.specs.Tails.{refOp, clipsToNext, greatestRun}
+use Rattle.ends.specs.InnerTails.{Met, met}
 
 met-eq : {a b c a' b' c' : ℕ} → a ≡ a' → b ≡ b' → c ≡ c' → _≡_ {A = Met} (record { refs = a; clips = b; most = c }) (record { refs = a'; clips = b'; most = c' })
 met-eq e f g = cc

@@ -26,14 +26,14 @@ use Rattle.ends.specs.declared.Found1.{Found1}
 use Rattle.ends.specs.declared.Found1.the-variants as Found1
 use Rattle.ends.specs.declared.Unclipped.{Unclipped}
 use Rattle.ends.specs.declared.Unclipped.the-variants as Unclipped
-use Rattle.ends.specs.Sums.{_⊕_, _⊖_, total}
+use Rattle.ends.specs.Sums.{_⊕_, _⊖_, summed}
 use Rattle.ends.specs.Tails.{greatestRun}
 
 -- ---- the unclipped ends of an op list that is aligned at a place, counted from 0 or from 1 as the place is
 
 -- "forward less the leading S and H"
 unfoldable pub unclippedStart : ℤ → List ℕ → Sum
-unclippedStart at xs = Sum.Number at ⊖ total (leadingClips xs)
+unclippedStart at xs = Sum.Number at ⊖ summed (leadingClips xs)
 
 -- the clips after the last reference op, where the Rust's sum of clips gets so far
 abbrev pub provided : Sum → Sum → Sum
@@ -41,11 +41,11 @@ provided (Sum.Number z) s = s
 provided Sum.Over s = Sum.Over
 
 unfoldable pub trailingSum : List ℕ → Sum
-trailingSum xs = provided (total (greatestRun xs)) (Sum.Number (pos (trailingClips xs)))
+trailingSum xs = provided (summed (greatestRun xs)) (Sum.Number (pos (trailingClips xs)))
 
 -- "reverse plus reference length plus clips after the last reference op, less 1"
 unfoldable pub unclippedEnd : ℤ → List ℕ → Sum
-unclippedEnd at xs = Sum.Number at ⊕ total (sumOf refLen xs) ⊕ trailingSum xs ⊖ Sum.Number (pos 1)
+unclippedEnd at xs = Sum.Number at ⊕ summed (sumOf refLen xs) ⊕ trailingSum xs ⊖ Sum.Number (pos 1)
 
 unfoldable pub fivePrime : Bool → ℤ → List ℕ → Sum
 fivePrime reverse at xs = cond reverse (unclippedEnd at xs) (unclippedStart at xs)

@@ -1,3 +1,4 @@
 pub mod Sums
 pub mod Tails
+pub mod InnerTails
 pub mod Ends

@@ -20,5 +20,5 @@ abbrev pub _⊖_ : Sum → Sum → Sum
 _⊖_ a b = both _-ℤ_ a b
 
 -- lengths that come to n, summed one by one: since none is negative, a sum on the way overflows exactly where n does
-abbrev pub total : ℕ → Sum
-total n = checked (pos n)
+abbrev pub summed : ℕ → Sum
+summed n = checked (pos n)

@@ -1,14 +1,15 @@
 -- Document 01, module 7: "reverse plus reference length plus clips after the last reference op, less 1. Clips before any reference op don't count in reverse."
 -- The Rust keeps one sum of clips, which begins anew at each reference op. So it also sums the clips between two reference ops, which don't count, and stops
 -- where these overflow; clips before any reference op are not summed.
-use Prim.Native.Nat.{ℕ, _+_, max}
+use Prim.Native.Nat.{ℕ, max}
+use mathlib.Core.Path.{_≡_}
 use mathlib.Core.Bool.{Bool, not, cond}
 use mathlib.Core.List.{List, [], _∷_}
+use lib.ListN.{take}
 use Rattle.lists.specs.Lists.{sumOf}
-use Rattle.lists.specs.Runs.{leading, holds}
-use Rattle.sam.specs.Op.{codeOf, isRef, refLen}
+use Rattle.lists.specs.Runs.{leading}
+use Rattle.sam.specs.Op.{codeOf, isRef}
 use Rattle.clip_runs.specs.Clips.{clipLen, trailingClips}
-use Rattle.ends.specs.declared.tails.Tail.{Tail}
 
 abbrev pub refOp : ℕ → Bool
 refOp o = isRef (codeOf o)
@@ -22,15 +23,7 @@ unfoldable pub greatestRun : List ℕ → ℕ
 greatestRun [] = 0
 greatestRun (o ∷ xs) = max (cond (refOp o) (clipsToNext xs) 0) (greatestRun xs)
 
--- what a walk has once it has met the ops that are left
-pub record Met : Type 0 where
-  pub refs : ℕ
-  pub clips : ℕ
-  pub most : ℕ
-
-unfoldable pub met : Tail → List ℕ → Met
-met w xs = record {
-  refs = w .refs + sumOf refLen xs;
-  clips = cond (holds refOp xs) (trailingClips xs) (cond (w .saw) (w .clips + sumOf clipLen xs) (w .clips));
-  most = max (w .most) (max (cond (w .saw) (w .clips + clipsToNext xs) 0) (greatestRun xs));
-}
+-- after so many ops the sum of clips is the most that it comes to
+pub record Reached (xs : List ℕ) : Type 0 where
+  pub after : ℕ
+  pub is : trailingClips (take after xs) ≡ greatestRun xs

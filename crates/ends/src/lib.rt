@@ -5,7 +5,7 @@ ghost use mathlib.Core.Path.{_≡_};
 ghost use Prim.Native.Nat.{_≤_};
 ghost use lib.IntN.{pos};
 ghost use Rattle.signed.specs.declared.Sum.the-variants.{Number};
-ghost use Rattle.ends.specs.Sums.{_⊕_, _⊖_, total};
+ghost use Rattle.ends.specs.Sums.{_⊕_, _⊖_, summed};
 ghost use Rattle.ends.specs.Ends.{provided, toPlace0, toPlace1, oneBased, toFound1, asUnclipped, unclippedOf, asRust, unclippedFrom, alignmentStart, alignmentEnd};
 use answers::Pos0;
 use answers::Pos1;
@@ -68,7 +68,7 @@ pub fn one_based(p: Pos0) -> Place1
 
 // Lengths that come to n.
 fn whole(n: u64) -> Sum
-    ensures { λ r. ⌜ r ≡ total n ⌝ }
+    ensures { λ r. ⌜ r ≡ summed n ⌝ }
 {
     if 2147483647 < n {
         return Sum::Over;
@@ -78,7 +78,7 @@ fn whole(n: u64) -> Sum
 
 // Where an alignment at `at` that begins with so many clipped bases would begin; counted as `at` is.
 fn start_from(at: i32, clips: u64) -> Sum
-    ensures { λ r. ⌜ r ≡ Number at ⊖ total clips ⌝ }
+    ensures { λ r. ⌜ r ≡ Number at ⊖ summed clips ⌝ }
 {
     let Sum::Number(n) = whole(clips) else {
         return Sum::Over;
@@ -89,7 +89,7 @@ fn start_from(at: i32, clips: u64) -> Sum
 // The clips after the last reference op, where the Rust's sum of clips gets so far.
 fn trailing(clips: u64, most: u64) -> Sum
     requires { ⌜ clips ≤ most ⌝ }
-    ensures { λ r. ⌜ r ≡ provided (total most) (Number (pos clips)) ⌝ }
+    ensures { λ r. ⌜ r ≡ provided (summed most) (Number (pos clips)) ⌝ }
 {
     if 2147483647 < most {
         return Sum::Over;
@@ -100,7 +100,7 @@ fn trailing(clips: u64, most: u64) -> Sum
 // Where an alignment at `at` would end with its clips, from what the walk to its end has met; counted as `at` is.
 fn end_from(at: i32, w: Tail) -> Sum
     requires { ⌜ w .clips ≤ w .most ⌝ }
-    ensures { λ r. ⌜ r ≡ Number at ⊕ total (w .refs) ⊕ provided (total (w .most)) (Number (pos (w .clips))) ⊖ Number (pos 1) ⌝ }
+    ensures { λ r. ⌜ r ≡ Number at ⊕ summed (w .refs) ⊕ provided (summed (w .most)) (Number (pos (w .clips))) ⊖ Number (pos 1) ⌝ }
 {
     let Sum::Number(refs) = whole(w.refs) else {
         return Sum::Over;

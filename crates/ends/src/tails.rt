@@ -6,7 +6,8 @@ ghost use Rattle.lists.specs.Lists.{sumOf};
 ghost use Rattle.sam.specs.Op.{refLen};
 ghost use Rattle.oplist.specs.Ops.{opsOf};
 ghost use Rattle.clip_runs.specs.Clips.{trailingClips};
-ghost use Rattle.ends.specs.Tails.{greatestRun, met};
+ghost use Rattle.ends.specs.Tails.{greatestRun};
+ghost use Rattle.ends.specs.InnerTails.{met};
 use oplist::Ops;
 
 // What the walk to the end has met: the reference bases, the S and H since the last reference op, the most that these came to, and whether there was a

@@ -1,21 +1,19 @@
 -- Lookup's walk sees what the columns show: the columns of one op are all alike.
-use Prim.Native.Nat.{ℕ, _+_, _-_, _≤_, _<_}
+use Prim.Native.Nat.{ℕ, _-_, _≤_, _<_}
 use mathlib.Core.Path.{_≡_, refl, sym, ap, _∙_}
 use mathlib.Core.Bool.{Bool, true, false, cond}
 use mathlib.Core.List.{List, [], _∷_, _++_}
 use mathlib.Core.Logic.{inl, inr}
 use native.Mathlib.Omega.{arith}
 use lib.Dec.{ltb}
-use lib.ListN.{length}
 use borrow.Author.Tests.{ltb-true, ltb-false, lt-ltb, le-ltb}
 use Rattle.sam.specs.Op.{lenOf, codeOf, isRef, isQuery, queryLen, refLen}
 use Rattle.sam.specs.Columns.{Spot, Column, spell, columns, Seen, base, gap, off, past}
 use Rattle.lookup.specs.Lookup.{spotIn, look, readOver, lookup}
-use Rattle.lookup.specs.Meaning.{Reads}
+use Rattle.lookup.specs.Meaning.{InBounds, Reads}
 use Rattle.lookup.specs.Meaning as means
 use Rattle.lookup.specs.declared.Found.{Found}
 use Rattle.lookup.specs.declared.Found.the-variants.{Nothing}
-use Rattle.oplist.specs.Ops.{mostOps}
 use Rattle.sam.proofs.ColumnLaws.{seen, seen-past, seen-in, seen-both, seen-gap, seen-is, is-seen, queries-spell, refs-spell}
 
 -- within one op
@@ -56,12 +54,7 @@ look-only xs k s S = seen-is (columns xs) k s S ∙ sym (look-seen xs k)
 
 -- ---- the call, where it is accepted
 
-pub record Taken (xs : List ℕ) (start : ℕ) : Type 0 where
-  pub few : length xs ≤ mostOps
-  pub low : 1 ≤ start
-  pub high : start ≤ 2147483648
-
-module _ (xs : List ℕ) (start at : ℕ) (asked : Bool) (t : Taken xs start) where
+module _ (xs : List ℕ) (start at : ℕ) (asked : Bool) (t : InBounds xs start) where
   not-yet : at < start → lookup xs start at asked ≡ Nothing
   unfolding lookup
   not-yet h = simp (le-ltb _ _ (t .few), le-ltb _ _ (t .low), le-ltb _ _ (t .high), lt-ltb _ _ h)

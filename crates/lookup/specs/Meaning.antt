@@ -5,9 +5,17 @@ use mathlib.Core.Path.{_≡_}
 use mathlib.Core.Bool.{Bool, cond}
 use mathlib.Core.List.{List, _∷_, _++_}
 use mathlib.Core.Logic.{_⊎_}
+use lib.ListN.{length}
 use Rattle.sam.specs.Columns.{Column, Both, Reference, queries, refs}
+use Rattle.oplist.specs.Ops.{mostOps}
 use Rattle.lookup.specs.declared.Found.{Found}
 use Rattle.lookup.specs.declared.Found.the-variants.{At, Nothing}
+
+-- what the call answers for: at most 65,535 ops, and a start from 1 to 2^31
+pub record InBounds (xs : List ℕ) (start : ℕ) : Type 0 where
+  pub few : length xs ≤ mostOps
+  pub low : 1 ≤ start
+  pub high : start ≤ 2147483648
 
 pub data Reads (cs : List Column) (start at : ℕ) (asked : Bool) (r : Found) : Type 0 where
   base : (left right : List Column) → cs ≡ left ++ (Both ∷ right) → start + refs left ≡ at → r ≡ At (queries left + 1) → Reads cs start at asked r

@@ -1,4 +1,4 @@
--- The gap of a read that stops short is never negative, so the Rust's cast to an unsigned number takes it as it is: a held sum keeps an order with a number of an i32.
+-- The gap of a read that stops short is never negative, so the Rust's cast to an unsigned number takes it as it is: a clamped sum keeps an order with a number of an i32.
 use Prim.Native.Nat.{ℕ, _+_, _≤_, _<_}
 use mathlib.Core.Path.{_≡_, refl}
 use mathlib.Core.Bool.{Bool, true, false}
@@ -40,7 +40,7 @@ module _ (a z : ℤ) (f : SFits w32 a) where
       go true e true g = rw (clamp-below z (ltb-true (up z + 2147483648) (dn z) g)) (omega (arith, low32 a f))
       go true e false g = rw (clamp-in z (ltb-true (up z) (dn z + 2147483648) e) (ltb-false (up z + 2147483648) (dn z) g)) h
 
--- a held count is not negative
+-- a clamped count is not negative
 count-over : (n : ℕ) → AtMost (pos 0) (clamp32 (pos n))
 count-over n = clamp-over (pos 0) (pos n) (sfits32 (pos 0) (omega arith) (omega arith)) (omega arith)
 

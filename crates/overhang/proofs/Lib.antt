@@ -1,7 +1,7 @@
+pub mod Most
 pub mod Places
 pub mod ReachLaws
 pub mod Mirror
 pub mod OverhangLaws
-pub mod Most
 pub mod Meaning
 pub mod Gaps

@@ -1,4 +1,4 @@
--- What the counts mean, against the SAM specification's columns: with no position held at 2^31 - 1, the walk counts what stands up to the column of its target.
+-- What the counts mean, against the SAM specification's columns: with no position clamped at 2^31 - 1, the walk counts what stands up to the column of its target.
 use Prim.Native.Nat.{ℕ, _+_, _-_, _≤_, _<_, min}
 use mathlib.Core.Path.{_≡_, refl, sym, ap, _∙_}
 use mathlib.Core.Bool.{Bool, true, false, cond, _&&_}
@@ -18,13 +18,9 @@ use Rattle.sam.specs.Op.{lenOf, codeOf, isQuery, isRef, queryLen, refLen}
 use Rattle.sam.specs.Columns.{Spot, Column, Both, Query, Reference, spell, columns, queries, refs, refOf, Seen, base, gap}
 use Rattle.sam.proofs.ColumnLaws.{seen, seen-past, seen-in, seen-both, seen-gap, seen-is, queries-spell, refs-spell, queries-append}
 use Rattle.sam.proofs.LengthLaws.{query-length}
-use Rattle.overhang.specs.Reach.{basesUpTo, upTo, onBase}
+use Rattle.overhang.specs.Reach.{basesUpTo, upTo, onBase, Unclamped}
 use Rattle.overhang.specs.Overhang.{basesPast}
 use Rattle.overhang.proofs.ReachLaws.{upToPlace, place-is, up-past}
-
--- no position that counts is held: the target lies before 2^31 - 1, or the alignment ends before it
-abbrev pub Unheld : ℤ → ℤ → List ℕ → Type 0
-Unheld t p xs = (ltZ t (pos 2147483647) ≡ true) ⊎ (leZ (p +ℤ pos (sumOf refLen xs)) (pos 2147483647) ≡ true)
 
 -- an op over both has as many query as reference bases
 pub both-len : (o : ℕ) → isQuery (codeOf o) ≡ true → 0 < refLen o → queryLen o ≡ refLen o
@@ -118,7 +114,7 @@ module _ (on : ℕ) (xs : List ℕ) (k : ℕ) where
 
 -- ---- an alignment from p on, and a target k positions after p
 
-module _ (t p : ℤ) (k : ℕ) (xs : List ℕ) (f : SFits w32 t) (g : SFits w32 p) (e : t ≡ p +ℤ pos k) (u : Unheld t p xs) where
+module _ (t p : ℤ) (k : ℕ) (xs : List ℕ) (f : SFits w32 t) (g : SFits w32 p) (e : t ≡ p +ℤ pos k) (u : Unclamped t p xs) where
   pub bases-up-to-is : (on : ℕ) → on ≤ 1 → basesUpTo on t p xs ≡ upTo on xs k
   bases-up-to-is on h =
       sym (place-is on t p xs f g) ∙ places on (raised t) (raised p) k xs h there (⊎-elim (λ w. inl (before w)) (λ w. inr (within w)) u)

@@ -1,4 +1,4 @@
--- A list seen from its other end: the query bases that are not up to a reference base lie past it. So with no position held, the bases past a position
+-- A list seen from its other end: the query bases that are not up to a reference base lie past it. So with no position clamped, the bases past a position
 -- are those over the reference bases past it, from the end that is measured.
 use Prim.Native.Nat.{ℕ, _+_, _-_, _≤_, _<_}
 use mathlib.Core.Path.{_≡_, refl, sym, ap, _∙_}

@@ -14,7 +14,7 @@ use Rattle.signed.specs.Whole.{raised}
 use Rattle.sam.specs.Op.{refLen}
 use Rattle.overhang.specs.Reach.{softClip, upTo}
 use Rattle.overhang.specs.Overhang.{endOf, softStart, softEnd, laterOf, forwardOverhang, reverseOverhang, overhangOf}
-use Rattle.overhang.specs.Sides.{shortOf, clipGap, meetAt, pastOf, roomPast, Free}
+use Rattle.overhang.specs.InnerSides.{shortOf, clipGap, meetAt, pastOf, roomPast, Free}
 use Rattle.overhang.proofs.Places.{raised-lt}
 use Rattle.overhang.proofs.Mirror.{past-left, past-right}
 
@@ -57,7 +57,7 @@ module _ (p m : ℤ) (xs ys : List ℕ) (e f : ℤ) (h : e ≡ endOf p xs) (k : 
         go true u v z q = simp (sym h, sym k, u, v, sym z) q
         go false u v z q = simp (sym h, sym k, u, v, sym z) q
 
-    -- with no position held, by the n and l reference bases of each
+    -- with no position clamped, by the n and l reference bases of each
     pub free : (n l : ℕ) → n ≡ sumOf refLen xs → l ≡ sumOf refLen ys → SFits w32 t → SFits w32 p → SFits w32 m → Free b t p n × Free b t m l
         → r ≡ upTo 0 (facing b xs) (roomPast b t p n) - upTo 0 (facing b ys) (roomPast b t m l) → r ≡ overhangOf b p xs m ys
     free n l i j a c d F q = shared (sides b z (F .0) (F .1) q)

@@ -1,4 +1,4 @@
--- Positions of an i32 as places, raised by 2^31: orders, differences and sums that are held within an i32 are those of naturals up to 2^32 - 1.
+-- Positions of an i32 as places, raised by 2^31: orders, differences and sums that are clamped within an i32 are those of naturals up to 2^32 - 1.
 use Prim.Native.Nat.{ℕ, _+_, _-_, _≤_, _<_, min}
 use mathlib.Core.Path.{_≡_, refl, sym, ap, _∙_}
 use mathlib.Core.Bool.{Bool, true, false}
@@ -14,7 +14,7 @@ use Rattle.signed.specs.Whole.{raised, natural, clamp32}
 use Rattle.signed.proofs.Halves.{up, dn, plus, minus, is-lt, is-ge, one-half, raise-fact, low32, sfits32}
 use Rattle.signed.proofs.Ranges.{clamp-in, clamp-above, clamp-below}
 
--- a held number is of an i32
+-- a clamped number is of an i32
 pub clamp-fits : (z : ℤ) → SFits w32 (clamp32 z)
 clamp-fits z = go (ltb (up z) (dn z + 2147483648)) refl (ltb (up z + 2147483648) (dn z)) refl
   where

@@ -1,3 +1,3 @@
 pub mod Reach
 pub mod Overhang
-pub mod Sides
+pub mod InnerSides

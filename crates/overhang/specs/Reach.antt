@@ -1,11 +1,13 @@
 -- Document 01, module 10, the overhang's counts of query bases: as the Rust (overlap.rs), whose positions stay within an i32.
 use Prim.Native.Nat.{ℕ, _+_, _-_}
-use mathlib.Core.Bool.{Bool, cond, _&&_}
+use mathlib.Core.Path.{_≡_}
+use mathlib.Core.Bool.{Bool, true, cond, _&&_}
 use mathlib.Core.List.{List, [], _∷_}
+use mathlib.Core.Logic.{_⊎_}
 use lib.IntN.{ℤ, pos, _+ℤ_, _-ℤ_}
 use lib.Dec.{ltb}
-use lib.Signed.{ltZ}
-use Rattle.lists.specs.Lists.{facing}
+use lib.Signed.{ltZ, leZ}
+use Rattle.lists.specs.Lists.{facing, sumOf}
 use Rattle.signed.specs.Whole.{natural, clamp32}
 use Rattle.sam.specs.Columns.{Over, Base, Gap, Off}
 use Rattle.sam.specs.Op.{codeOf, isQuery, queryLen, refLen}
@@ -28,7 +30,11 @@ basesUpTo on t p (o ∷ xs) =
 abbrev pub softClip : Bool → List ℕ → ℕ
 softClip start xs = leadingSoft (facing start xs)
 
--- where no position is held: the query bases before reference base k, counted from 0, and with on = 1 the one over it
+-- no position that counts is clamped at 2^31 - 1: the target t lies before it, or the alignment from p on ends before it
+abbrev pub Unclamped : ℤ → ℤ → List ℕ → Type 0
+Unclamped t p xs = (ltZ t (pos 2147483647) ≡ true) ⊎ (leZ (p +ℤ pos (sumOf refLen xs)) (pos 2147483647) ≡ true)
+
+-- where no position is clamped: the query bases before reference base k, counted from 0, and with on = 1 the one over it
 unfoldable pub upTo : ℕ → List ℕ → ℕ → ℕ
 unfolding queryLen
 upTo on [] k = 0

@@ -12,7 +12,7 @@ ghost use Rattle.sam.specs.Op.{codeOf, isQuery, refLen};
 ghost use Rattle.oplist.specs.Ops.{opsOf};
 ghost use Rattle.overhang.specs.Reach.{basesUpTo, softClip, upTo};
 ghost use Rattle.overhang.specs.Overhang.{endAt, endOf, gapTo, earlierOf, laterOf, overhangOf, basesExtending};
-ghost use Rattle.overhang.specs.Sides.{shortOf, meetAt, clipGap, pastOf, roomPast, Free};
+ghost use Rattle.overhang.specs.InnerSides.{shortOf, meetAt, clipGap, pastOf, roomPast, Free};
 use answers::Count;
 use answers::Pos1;
 use answers::Refusal;
@@ -290,8 +290,8 @@ fn ends_by(e: Extent, place: u64) -> bool
     true
 }
 
-// Whether a position may be held within an i32 on the way to the target, so that the reference bases up to it don't tell where it lies.
-fn is_held(reverse: bool, own: Extent, other: Extent, target: Pos1) -> bool
+// Whether a position may be clamped within an i32 on the way to the target, so that the reference bases up to it don't tell where it lies.
+fn is_clamped(reverse: bool, own: Extent, other: Extent, target: Pos1) -> bool
     requires { ⌜ (own .refs ≤ 1152921504606846976) × (other .refs ≤ 1152921504606846976) ⌝ }
     ensures { λ r. ⌜ (r ≡ false → Free reverse (target .0) (own .start .0) (own .refs) × Free reverse (target .0) (other .start .0) (other .refs)) ⌝ }
 {
@@ -322,7 +322,14 @@ fn room_past(reverse: bool, e: Extent, target: Pos1) -> u64
 }
 
 // The query bases past the target, on the side that is measured, by the walk that holds its positions.
-fn held_past(words: &[u32], rec: &[u8], list: Ops, start: Pos1, target: Pos1, reverse: bool) -> u64
+fn clamped_past(
+    words: &[u32],
+    rec: &[u8],
+    list: Ops,
+    start: Pos1,
+    target: Pos1,
+    reverse: bool,
+) -> u64
     ensures { λ r. ⌜ r ≡ pastOf reverse (target .0) (start .0) (opsOf (now (words .entry)) (now (rec .entry)) list) ⌝ }
 {
     if reverse {
@@ -359,8 +366,8 @@ pub fn overhang(
         return 0;
     }
     let target = meeting(reverse, own, other);
-    if is_held(reverse, own, other, target) {
-        let mate_past = held_past(
+    if is_clamped(reverse, own, other, target) {
+        let mate_past = clamped_past(
             mate_words,
             mate_rec,
             mate_list,
@@ -369,7 +376,7 @@ pub fn overhang(
             reverse,
         );
         return more(
-            held_past(words, rec, list, own.start, target, reverse),
+            clamped_past(words, rec, list, own.start, target, reverse),
             mate_past,
         );
     }
@@ -381,7 +388,7 @@ pub fn overhang(
     )
 }
 
-// The same of two lent lists. Where a position may be held it asks the walk above, which is slower.
+// The same of two lent lists. Where a position may be clamped it asks the walk above, which is slower.
 fn lent_overhang(reverse: bool, this: Pos1, words: &[u32], mate: Pos1, mate_words: &[u32]) -> u64
     requires { ⌜ (length (now words) ≤ 4294967295) × (length (now «mate_words») ≤ 4294967295) ⌝ }
     ensures { λ r. ⌜ r ≡ overhangOf reverse (this .0) (now (words .entry)) (mate .0) (now («mate_words» .entry)) ⌝ }
@@ -399,7 +406,7 @@ fn lent_overhang(reverse: bool, this: Pos1, words: &[u32], mate: Pos1, mate_word
         return 0;
     }
     let target = meeting(reverse, own, other);
-    if is_held(reverse, own, other, target) {
+    if is_clamped(reverse, own, other, target) {
         let list = oplist::lent(words);
         let mate_list = oplist::lent(mate_words);
         return overhang(

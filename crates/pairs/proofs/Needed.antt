@@ -5,27 +5,11 @@ use mathlib.Core.List.{List}
 use Prim.Native.Nat.{ℕ}
 use Rattle.signed.specs.Equal.{eqℤ}
 use Rattle.signed.proofs.EqualLaws.{eqℤ-sym}
-use Rattle.sam.specs.Record.{refIdOf, posOf, flagsOf, mateRefIdOf, matePosOf, templateLenOf, isPaired, isUnmapped, isMateUnmapped, isReverse, isMateReverse, isShort}
-use Rattle.lengths.specs.Lengths.{askedLength}
+use Rattle.sam.specs.Record.{refIdOf, flagsOf, templateLenOf, isReverse, isShort}
 use Rattle.answers.specs.declared.Refusal.the-variants.{ShortRecord}
 use Rattle.answers.specs.declared.Flag.the-variants as Flag
+use Rattle.pairs.specs.Needed.{SamePair, SameReverse}
 use Rattle.pairs.specs.Pairs.{bothMapped, isOpposite, mateStartsBefore, frBy, isFr, areOpposite, isPrimaryFr, oppositePair, frPair, primaryFrPair}
-
--- "paired, both mapped, same reference, strands differ"
-pub record SamePair (a b : List ℕ) : Type 0 where
-  pub paired : isPaired (flagsOf a) ≡ isPaired (flagsOf b)
-  pub unmapped : isUnmapped (flagsOf a) ≡ isUnmapped (flagsOf b)
-  pub mate-unmapped : isMateUnmapped (flagsOf a) ≡ isMateUnmapped (flagsOf b)
-  pub reverse : isReverse (flagsOf a) ≡ isReverse (flagsOf b)
-  pub mate-reverse : isMateReverse (flagsOf a) ≡ isMateReverse (flagsOf b)
-  pub reference : refIdOf a ≡ refIdOf b
-  pub mate-reference : mateRefIdOf a ≡ mateRefIdOf b
-
--- mate start and own end
-pub record SameReverse (a b : List ℕ) : Type 0 where
-  pub mate-place : matePosOf a ≡ matePosOf b
-  pub place : posOf a ≡ posOf b
-  pub span : askedLength a ≡ askedLength b
 
 pub opposite-needs : (a b : List ℕ) → SamePair a b → isOpposite a ≡ isOpposite b
 unfolding isOpposite bothMapped

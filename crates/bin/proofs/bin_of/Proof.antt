@@ -1,4 +1,4 @@
--- Level by level, from the finest: the first at which the ends agree.
+-- Shift by shift, from the finest: the first at which the ends agree.
 use Prim.Native.Nat.{ℕ}
 use mathlib.Core.Bool.{Bool, true, false}
 use mathlib.Core.Path.{_≡_, ap, sym, _∙_}
@@ -6,7 +6,7 @@ use lib.ListN.{drop}
 use mir.Syntax.{w32}
 use mir.Val.{toZ, ofZ}
 use Rattle.signed.specs.Equal.{eqℤ}
-use Rattle.bin.specs.Bin.{levels, shr, low16, firstAgreed, binOf}
+use Rattle.bin.specs.Bin.{shifts, shr, low16, firstAgreed, binOf}
 use Rattle.bin.proofs.Shifts.{agrees, placed, agree-here, agree-later}
 use borrow.Author.Needs.{needs}
 use Rattle.bin.proofs.bin_of.Statement.{statement}
@@ -16,9 +16,9 @@ use Rattle.bin.proofs.bin_of.Tie as tie
 told : (s : tie.Start) (k : ℕ) (r t : Bool) → r ≡ eqℤ (shr (toZ w32 (ofZ w32 (s .args .beg))) k) (shr (toZ w32 (ofZ w32 (s .args .last))) k) → r ≡ t → eqℤ (shr (s .args .beg) k) (shr (s .args .last) k) ≡ t
 told s k r t e q = agrees (s .args .beg) (s .args .last) (s .fits .beg) (s .fits .last) k r t e q
 
--- n levels have been passed
+-- n shifts have been passed
 abbrev Past : tie.Start → ℕ → Type 0
-Past s n = binOf (s .args .beg) (s .args .last) ≡ firstAgreed (drop n levels) (s .args .beg) (s .args .last)
+Past s n = binOf (s .args .beg) (s .args .last) ≡ firstAgreed (drop n shifts) (s .args .beg) (s .args .last)
 
 past-14 : (c : tie.Else1) → Past (c .before .before) 1
 past-14 c =

@@ -8,7 +8,7 @@ use Prim.Native.Nat.{ℕ}
 use Rattle.answers.proofs.Unique.{settled}
 use Rattle.oplist.specs.Ops.{opsOf}
 use Rattle.clip.specs.declared.plan.Planned.the-variants as Planned
-use Rattle.clip.specs.Plan.{PlannedIs}
+use Rattle.clip.specs.InnerPlan.{PlannedIs}
 use Rattle.clip.proofs.AnswerLaws.{within, no-room, plan-length, plan-skip, done-end, unplanned}
 use borrow.Author.Needs.{needs}
 use Rattle.clip.proofs.clip_end.Statement.{statement}

@@ -6,7 +6,7 @@ use mir.Val.{toZ, ofZ}
 use Rattle.signed.specs.declared.Sum.{Sum}
 use Rattle.signed.specs.declared.Sum.the-variants.{Number}
 use Rattle.ends.specs.declared.tails.Tail.{Tail}
-use Rattle.ends.specs.Sums.{both, _⊕_, _⊖_, total}
+use Rattle.ends.specs.Sums.{both, _⊕_, _⊖_, summed}
 use Rattle.ends.specs.Ends.{provided}
 use borrow.Author.Needs.{needs}
 use Rattle.ends.proofs.end_from.Statement.{statement}
@@ -14,7 +14,7 @@ use Rattle.ends.proofs.end_from.Tie as tie
 
 -- the chain from its second and from its third sum on
 abbrev clips-of : Tail → Sum
-clips-of w = provided (total (w .most)) (Number (pos (w .clips)))
+clips-of w = provided (summed (w .most)) (Number (pos (w .clips)))
 
 abbrev last-of : Sum → Sum
 last-of s = s ⊖ Number (pos 1)
@@ -22,7 +22,7 @@ last-of s = s ⊖ Number (pos 1)
 abbrev from-end : Tail → Sum → Sum
 from-end w s = last-of (s ⊕ clips-of w)
 
-at-end : (c : tie.After-checked-add) → let a = c .before .before .before .before .before .args in from-end (a .w) (Number (a .at) ⊕ total (a .w .refs)) ≡ from-end (a .w) (c .checked-add .result)
+at-end : (c : tie.After-checked-add) → let a = c .before .before .before .before .before .args in from-end (a .w) (Number (a .at) ⊕ summed (a .w .refs)) ≡ from-end (a .w) (c .checked-add .result)
 unfolding both
 at-end c =
     let r = c .before .before in

@@ -5,7 +5,8 @@ use mathlib.Core.List.{List}
 use borrow.Author.Tests.{lt-ltb, le-ltb}
 use Rattle.sam.specs.Columns.{Spot}
 use Rattle.lookup.specs.Lookup.{look, lookup, readOver}
-use Rattle.lookup.proofs.LookupLaws.{Taken, lookup-at}
+use Rattle.lookup.specs.Meaning.{InBounds}
+use Rattle.lookup.proofs.LookupLaws.{lookup-at}
 use borrow.Author.Needs.{needs}
 use Rattle.lookup.proofs.read_pos_at_ref_pos_raw.Statement.{statement}
 use Rattle.lookup.proofs.read_pos_at_ref_pos_raw.Tie as tie
@@ -44,7 +45,7 @@ returns-5 c =
     let s = c .before in
     let k = s .before .before .before in
     let a = k .before .before .before .before .before .args in
-    let t : Taken (a .cigar .now) (a .start) = record { few = k .before .before .before .if1 .left; low = k .before .before .if2 .left; high = k .before .if3 .left } in
+    let t : InBounds (a .cigar .now) (a .start) = record { few = k .before .before .before .if1 .left; low = k .before .before .if2 .left; high = k .before .if3 .left } in
     let e = s .look-at .ensures .0 ∙ ap (λ (l : List ℕ). look l (a .pos - a .start)) (s .before .lent .ensures _) in
     c .read-over .ensures
     ∙ ap (λ (u : Spot). readOver (a .asked) (u .before) (u .over)) e

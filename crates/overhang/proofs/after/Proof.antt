@@ -1,4 +1,4 @@
--- The sum of the call below, over the held number.
+-- The sum of the call below, over the clamped number.
 use mathlib.Core.Path.{_≡_, ap, _∙_}
 use lib.IntN.{_+ℤ_}
 use mir.Syntax.{w32}

@@ -1,4 +1,4 @@
--- Each way out is one of the definition's ways, on the side that the strand chooses; a held one is the general walk's.
+-- Each way out is one of the definition's ways, on the side that the strand chooses; a clamped one is the general walk's.
 use Prim.Native.Nat.{ℕ}
 use mathlib.Core.Path.{_≡_, refl, sym, ap, _∙_}
 use mathlib.Core.List.{[]}
@@ -7,7 +7,7 @@ use mir.Val.{SFits}
 use Rattle.lists.specs.Lists.{facing}
 use Rattle.overhang.specs.Reach.{upTo}
 use Rattle.overhang.specs.Overhang.{overhangOf}
-use Rattle.overhang.specs.Sides.{clipGap}
+use Rattle.overhang.specs.InnerSides.{clipGap}
 use Rattle.overhang.proofs.OverhangLaws.{differ, of-places, of-lists, short, away, free}
 use borrow.Author.Needs.{needs}
 use Rattle.overhang.proofs.lent_overhang.Statement.{statement}
@@ -81,8 +81,8 @@ returns-2 c =
 meeting-requires : tie.Need-meeting-requires
 meeting-requires c κs = search needs
 
-is-held-requires : tie.Need-is-held-requires
-is-held-requires c κs = search needs
+is-clamped-requires : tie.Need-is-clamped-requires
+is-clamped-requires c κs = search needs
 
 lent-requires : tie.Need-lent-requires
 lent-requires c κs = search needs
@@ -129,7 +129,7 @@ returns-4 c =
     let other = k .lent-extent2 .ensures in
     placed k _
     (free _ _ xs ys _ _ (own .0 .1) (other .0 .1) _ (a .reverse) _ (sym (c .before .before .before .before .before .before .before .before .before .before .before .stops-short .ensures) ∙ c .before .before .before .before .before .before .before .before .before .before .if1 .left) (sym (c .before .before .before .before .before .before .before .before .before .stops-short2 .ensures) ∙ c .before .before .before .before .before .before .before .before .if2 .left) (c .before .before .before .before .before .before .before .meeting .ensures)
-    _ _ (own .1 .0) (other .1 .0) (met (c .before .before .before .before .before .before .before)) (starts (k .before)) (starts-2 k) (c .before .before .before .before .before .before .is-held .ensures (c .before .before .before .before .before .if3 .left))
+    _ _ (own .1 .0) (other .1 .0) (met (c .before .before .before .before .before .before .before)) (starts (k .before)) (starts-2 k) (c .before .before .before .before .before .before .is-clamped .ensures (c .before .before .before .before .before .if3 .left))
     (differ (c .more2 .ensures) (c .before .before .lent-within .ensures ∙ ap (upTo 0 (facing (a .reverse) xs)) (c .before .before .before .before .room-past .ensures)) (c .before .lent-within2 .ensures ∙ ap (upTo 0 (facing (a .reverse) ys)) (c .before .before .before .room-past2 .ensures))))
 
 pub lent-overhang-spec : {M : Type 1} → statement M
@@ -147,7 +147,7 @@ lent-overhang-spec =
     stops-short-requires-2
     returns-2
     meeting-requires
-    is-held-requires
+    is-clamped-requires
     lent-requires
     lent-requires-2
     slice-aggregate-overhang

@@ -7,7 +7,7 @@ use Rattle.lists.specs.Lists.{facing}
 use Rattle.oplist.specs.Ops.{opsOf}
 use Rattle.overhang.specs.Reach.{upTo}
 use Rattle.overhang.specs.Overhang.{overhangOf}
-use Rattle.overhang.specs.Sides.{clipGap}
+use Rattle.overhang.specs.InnerSides.{clipGap}
 use Rattle.overhang.proofs.OverhangLaws.{differ, of-places, short, away, shared, free}
 use borrow.Author.Needs.{needs}
 use Rattle.overhang.proofs.overhang.Statement.{statement}
@@ -81,14 +81,14 @@ returns-2 c =
 meeting-requires : tie.Need-meeting-requires
 meeting-requires c κs = search needs
 
-is-held-requires : tie.Need-is-held-requires
-is-held-requires c κs = search needs
+is-clamped-requires : tie.Need-is-clamped-requires
+is-clamped-requires c κs = search needs
 
-held-past-requires : tie.Need-held-past-requires
-held-past-requires c κs = search needs
+clamped-past-requires : tie.Need-clamped-past-requires
+clamped-past-requires c κs = search needs
 
-held-past-requires-2 : tie.Need-held-past-requires-2
-held-past-requires-2 c κs = search needs
+clamped-past-requires-2 : tie.Need-clamped-past-requires-2
+clamped-past-requires-2 c κs = search needs
 
 more-requires-2 : tie.Need-more-requires-2
 more-requires-2 c κs = search needs
@@ -103,7 +103,7 @@ returns-3 c =
     let other = k .extent-of2 .ensures in
     placed k _
     (shared _ _ xs ys _ _ (own .0 .1) (other .0 .1) _ (a .reverse) _ (sym (c .before .before .before .before .before .before .before .before .before .stops-short .ensures) ∙ c .before .before .before .before .before .before .before .before .if1 .left) (sym (c .before .before .before .before .before .before .before .stops-short2 .ensures) ∙ c .before .before .before .before .before .before .if2 .left) (c .before .before .before .before .before .meeting .ensures)
-    (differ (c .more2 .ensures) (c .before .held-past2 .ensures) (c .before .before .held-past .ensures)))
+    (differ (c .more2 .ensures) (c .before .clamped-past2 .ensures) (c .before .before .clamped-past .ensures)))
 
 room-past-requires : tie.Need-room-past-requires
 room-past-requires c κs = search needs
@@ -130,7 +130,7 @@ returns-4 c =
     let other = k .extent-of2 .ensures in
     placed k _
     (free _ _ xs ys _ _ (own .0 .1) (other .0 .1) _ (a .reverse) _ (sym (c .before .before .before .before .before .before .before .before .before .before .before .stops-short .ensures) ∙ c .before .before .before .before .before .before .before .before .before .before .if1 .left) (sym (c .before .before .before .before .before .before .before .before .before .stops-short2 .ensures) ∙ c .before .before .before .before .before .before .before .before .if2 .left) (c .before .before .before .before .before .before .before .meeting .ensures)
-    _ _ (own .1 .0) (other .1 .0) (met (c .before .before .before .before .before .before .before)) (starts (k .before)) (starts-2 k) (c .before .before .before .before .before .before .is-held .ensures (c .before .before .before .before .before .if3 .left))
+    _ _ (own .1 .0) (other .1 .0) (met (c .before .before .before .before .before .before .before)) (starts (k .before)) (starts-2 k) (c .before .before .before .before .before .before .is-clamped .ensures (c .before .before .before .before .before .if3 .left))
     (differ (c .more3 .ensures) (c .before .before .within .ensures ∙ ap (upTo 0 (facing (a .reverse) xs)) (c .before .before .before .before .room-past .ensures)) (c .before .within2 .ensures ∙ ap (upTo 0 (facing (a .reverse) ys)) (c .before .before .before .room-past2 .ensures))))
 
 pub overhang-spec : {M : Type 1} → statement M
@@ -148,9 +148,9 @@ overhang-spec =
     stops-short-requires-2
     returns-2
     meeting-requires
-    is-held-requires
-    held-past-requires
-    held-past-requires-2
+    is-clamped-requires
+    clamped-past-requires
+    clamped-past-requires-2
     more-requires-2
     returns-3
     room-past-requires

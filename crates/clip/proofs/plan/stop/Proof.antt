@@ -3,7 +3,7 @@ use Prim.Native.Nat.{ℕ, _+_, _<_}
 use mathlib.Core.Path.{ap, _∙_}
 use native.Mathlib.Omega.{arith}
 use borrow.Author.Needs.{needs}
-use Rattle.clip.specs.Plan.{takenOf}
+use Rattle.clip.specs.InnerPlan.{takenOf}
 use Rattle.clip.proofs.CodeLaws.{read-le}
 use Rattle.clip.proofs.RuleLaws.{goes-short, stop-none, stop-whole, stop-cut}
 use Rattle.clip.proofs.plan.stop.Statement.{statement}

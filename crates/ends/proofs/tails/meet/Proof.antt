@@ -3,7 +3,7 @@ use mathlib.Core.Path.{_≡_, sym, _∙_}
 use mathlib.Core.Bool.{true}
 use mathlib.Core.List.{List, _∷_}
 use Prim.Native.Nat.{ℕ, _+_, max}
-use Rattle.ends.specs.Tails.{met}
+use Rattle.ends.specs.InnerTails.{met}
 use native.Mathlib.Omega.{arith}
 use borrow.Author.Tests.{not-true, not-false}
 use Rattle.ends.proofs.TailLaws.{meets-ref, meets-other, meets-early, meets-clip, no-clip, clip-len}

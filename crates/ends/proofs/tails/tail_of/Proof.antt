@@ -6,7 +6,7 @@ use lib.ListN.{drop}
 use borrow.Author.Needs.{needs}
 use Rattle.lists.proofs.Walks.{step, done}
 use Rattle.oplist.specs.Ops.{opsOf}
-use Rattle.ends.specs.Tails.{Met, met}
+use Rattle.ends.specs.InnerTails.{Met, met}
 use Rattle.ends.proofs.TailLaws.{fresh, met-all, met-none}
 use Rattle.ends.proofs.tails.tail_of.Statement.{statement}
 use Rattle.ends.proofs.tails.tail_of.Tie as tie

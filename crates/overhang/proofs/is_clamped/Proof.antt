@@ -8,8 +8,8 @@ use borrow.Author.Tests.{leb-false}
 use Rattle.signed.specs.Whole.{raised}
 use Rattle.lists.proofs.Absurd.{false-true}
 use borrow.Author.Needs.{needs}
-use Rattle.overhang.proofs.is_held.Statement.{statement}
-use Rattle.overhang.proofs.is_held.Tie as tie
+use Rattle.overhang.proofs.is_clamped.Statement.{statement}
+use Rattle.overhang.proofs.is_clamped.Tie as tie
 
 target-is : (c : tie.After-raise) → c .raise .result ≡ raised (c .before .before .args .target .0)
 target-is c =
@@ -48,8 +48,8 @@ returns-4 c =
     let h = leb-false (raised (a .other .start .0) + a .other .refs) _ (sym (c .ends-by2 .ensures) ∙ e) in
     (record { before-last = l; reaches = λ _. omega (arith, target-is k, g) }, record { before-last = l; reaches = λ _. omega (arith, target-is k, h) })
 
-pub is-held-spec : {M : Type 1} → statement M
-is-held-spec =
+pub is-clamped-spec : {M : Type 1} → statement M
+is-clamped-spec =
     tie.close
     (tie.spec
     raise-requires

@@ -26,11 +26,11 @@ meetAt reverse p e m f = cond reverse (laterOf p m) (earlierOf e f)
 abbrev pub pastOf : Bool → ℤ → ℤ → List ℕ → ℕ
 pastOf reverse t p xs = cond reverse (basesUpTo 0 t p xs) (basesPast t p xs)
 
--- the reference bases past a position, of n from p on; exact where no position is held
+-- the reference bases past a position, of n from p on; exact where no position is clamped
 abbrev pub roomPast : Bool → ℤ → ℤ → ℕ → ℕ
 roomPast reverse t p n = cond reverse (raised t - raised p) (raised p + n - (raised t + 1))
 
--- no position up to t is held within an i32, and a forward read reaches past t
+-- no position up to t is clamped within an i32, and a forward read reaches past t
 pub record Free (reverse : Bool) (t p : ℤ) (n : ℕ) : Type 0 where
   pub before-last : raised t < 4294967295
   pub reaches : reverse ≡ false → raised t < raised p + n

@@ -1,8 +1,8 @@
 -- The strand chooses the side.
 use Rattle.overhang.proofs.OverhangLaws.{differ}
 use borrow.Author.Needs.{needs}
-use Rattle.overhang.proofs.held_past.Statement.{statement}
-use Rattle.overhang.proofs.held_past.Tie as tie
+use Rattle.overhang.proofs.clamped_past.Statement.{statement}
+use Rattle.overhang.proofs.clamped_past.Tie as tie
 
 bases-up-to-requires : tie.Need-bases-up-to-requires
 bases-up-to-requires c κs = search needs
@@ -22,8 +22,8 @@ more-requires c κs = search needs
 returns-2 : tie.Need-returns-2
 returns-2 c = simp (c .before .before .before .if1 .left) (differ (c .more .ensures) (c .before .before .sums .ensures .0 .1) (c .before .bases-up-to2 .ensures))
 
-pub held-past-spec : {M : Type 1} → statement M
-held-past-spec =
+pub clamped-past-spec : {M : Type 1} → statement M
+clamped-past-spec =
     tie.close
     (tie.spec
     bases-up-to-requires
