@@ -10,20 +10,8 @@ use Rattle.sam.specs.Op.{codeOf, isQuery, queryLen, refLen}
 use Rattle.answers.specs.Answers.{Told, answered, refused, some, none}
 use Rattle.answers.specs.declared.Refusal.the-variants.{TooManyOps, BadStart}
 use Rattle.oplist.specs.Ops.{mostOps}
-use Rattle.lookup.specs.declared.Over as TheOver
-use Rattle.lookup.specs.declared.Over.the-variants as Code
-use Rattle.lookup.specs.declared.Spot as TheSpot
 use Rattle.lookup.specs.declared.Found.{Found}
 use Rattle.lookup.specs.declared.Found.the-variants.{At, Nothing, Refused}
-
--- what the code's words mean
-abbrev pub overOf : TheOver.Over → Over
-overOf Code.Base = Base
-overOf Code.Gap = Gap
-overOf Code.Off = Off
-
-abbrev pub spotOf : TheSpot.Spot → Spot
-spotOf s = record { before = s .before; over = overOf (s .over) }
 
 -- the op that decides: the one that holds reference base k of those from it on
 abbrev pub decides : ℕ → ℕ → Bool

@@ -2,7 +2,8 @@
 ghost use mathlib.Core.Path.{_≡_};
 ghost use Prim.Native.Nat.{_≤_, max};
 ghost use Rattle.oplist.specs.Ops.{opsOf};
-ghost use Rattle.lookup.specs.Lookup.{spotOf, overOf, look, lookup, readOver};
+ghost use Rattle.lookup.specs.Lookup.{look, lookup, readOver};
+ghost use Rattle.lookup.specs.InnerLookup.{spotOf, overOf};
 use answers::Refusal;
 use oplist::Ops;
 

@@ -31,28 +31,29 @@ use Rattle.strict_text.specs.declared.Measured.the-variants as Measured
 use Rattle.strict_text.proofs.PassLaws.{ops-bad, ops-some}
 use Rattle.pairs.specs.Pairs.{isFrWithMate, isPrimaryFr}
 use Rattle.overhang.specs.Overhang.{overhangOf}
-use Rattle.overlap.specs.declared.Placed.{Placed}
-use Rattle.overlap.specs.declared.Placed.the-variants as Placed
+use Rattle.overlap.specs.declared.PairPlaces.{PairPlaces}
+use Rattle.overlap.specs.declared.PairPlaces.the-variants as PairPlaces
 use Rattle.overlap.specs.declared.Overhang.{Overhang}
 use Rattle.overlap.specs.declared.Overhang.the-variants as Overhang
-use Rattle.overlap.specs.Overlap.{bothPlaces, placedPair, isOver, basesAt, overhangAt, pairOverhang, isNo, isFrBy, pastMateCigar, pastMateRecord, listLeft, pairListLeft, pastMateText}
+use Rattle.overlap.specs.Overlap.{bothPlaces, placedPair, isOver, basesAt, overhangAt, pairOverhang, isFrBy, pastMateCigar, pastMateRecord, listLeft, pairListLeft, pastMateText}
+use Rattle.overlap.specs.InnerOverlap.{isNo}
 
 -- ---- where the two lie
 
 module _ (fr : Bool) (b : List ℕ) (m : ℤ) where
-  pub apart : fr ≡ false → Placed.Apart ≡ placedPair fr b m
+  pub apart : fr ≡ false → PairPlaces.Apart ≡ placedPair fr b m
   unfolding placedPair
   apart e = simp e
 
-  pub together : {r : Placed} {x y : Place1} → fr ≡ true → x ≡ oneBased (record { 0 = posOf b }) → y ≡ oneBased (record { 0 = m }) → r ≡ bothPlaces x y → r ≡ placedPair fr b m
+  pub together : {r : PairPlaces} {x y : Place1} → fr ≡ true → x ≡ oneBased (record { 0 = posOf b }) → y ≡ oneBased (record { 0 = m }) → r ≡ bothPlaces x y → r ≡ placedPair fr b m
   unfolding placedPair
   together e p q h = simp e (rw (← p, ← q) h)
 
 module _ {r : ℕ} (b ys : List ℕ) (p : Pos1) (m : Pos1) where
-  pub bases-are : {f : Bool} {xs zs : List ℕ} → f ≡ isReverse (flagsOf b) → xs ≡ recordOps b → zs ≡ ys → r ≡ overhangOf f (p .0) xs (m .0) zs → r ≡ basesAt (Placed.At p m) b ys
+  pub bases-are : {f : Bool} {xs zs : List ℕ} → f ≡ isReverse (flagsOf b) → xs ≡ recordOps b → zs ≡ ys → r ≡ overhangOf f (p .0) xs (m .0) zs → r ≡ basesAt (PairPlaces.At p m) b ys
   bases-are e x z h = rw (← e, ← x, ← z) h
 
-module _ (p : Placed) (b ys : List ℕ) where
+module _ (p : PairPlaces) (b ys : List ℕ) where
   pub over : isOver p ≡ true → Count.Refused Overflow ≡ overhangAt p b ys
   unfolding overhangAt
   over e = simp e
@@ -144,7 +145,7 @@ module _ (b s d : List ℕ) where
       text-left fr k f = simp (le-ltb (length b) 32 h, text-taken s n z e, le-ltb mostOps (length (textOps s)) (omega (arith, text-count s n z e)), text-span s n z e) (rw f)
 
 -- 4, 6, or the list
-module _ (p : Placed) (b xs d : List ℕ) where
+module _ (p : PairPlaces) (b xs d : List ℕ) where
   pub list-over : isOver p ≡ true → listLeft p b xs d ≡ keeps (Overhang.Refused Overflow) d
   unfolding listLeft
   list-over o = simp o

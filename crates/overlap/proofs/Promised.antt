@@ -22,29 +22,19 @@ use Rattle.strict_text.specs.Parsed.{strict}
 use Rattle.pairs.specs.Pairs.{isPrimaryFr}
 use Rattle.overhang.specs.Overhang.{overhangOf, basesExtending}
 use Rattle.overhang.proofs.Most.{overhang-most}
-use Rattle.overlap.specs.declared.Placed.{Placed}
-use Rattle.overlap.specs.declared.Placed.the-variants as Placed
+use Rattle.overlap.specs.declared.PairPlaces.{PairPlaces}
+use Rattle.overlap.specs.declared.PairPlaces.the-variants as PairPlaces
 use Rattle.overlap.specs.declared.Overhang.{Overhang}
 use Rattle.overlap.specs.declared.Overhang.the-variants as Overhang
+use Rattle.overlap.specs.Bound.{Within, WithinText}
 use Rattle.overlap.specs.Overlap.{placedPair, isOver, basesAt, overhangAt, pairOverhang, isFrBy, pastMateCigar, pastMateRecord, listLeft, pairListLeft, pastMateText}
 
--- ---- the bound
+bases-most : (p : PairPlaces) (b ys : List ℕ) → basesAt p b ys ≤ sumOf queryLen (recordOps b)
+bases-most PairPlaces.Apart b ys = omega arith
+bases-most (PairPlaces.At p m) b ys = overhang-most (isReverse (flagsOf b)) (p .0) (recordOps b) (m .0) ys
+bases-most PairPlaces.Over b ys = omega arith
 
--- an answer is at most so many
-abbrev pub Within : Count → ℕ → Type 0
-Within (Count.Number n) most = n ≤ most
-Within (Count.Refused r) most = Unit {0}
-
-abbrev pub WithinText : Overhang → ℕ → Type 0
-WithinText (Overhang.Bases n k) most = n ≤ most
-WithinText (Overhang.Refused r) most = Unit {0}
-
-bases-most : (p : Placed) (b ys : List ℕ) → basesAt p b ys ≤ sumOf queryLen (recordOps b)
-bases-most Placed.Apart b ys = omega arith
-bases-most (Placed.At p m) b ys = overhang-most (isReverse (flagsOf b)) (p .0) (recordOps b) (m .0) ys
-bases-most Placed.Over b ys = omega arith
-
-at-most : (p : Placed) (b ys : List ℕ) → Within (overhangAt p b ys) (sumOf queryLen (recordOps b))
+at-most : (p : PairPlaces) (b ys : List ℕ) → Within (overhangAt p b ys) (sumOf queryLen (recordOps b))
 unfolding overhangAt
 at-most p b ys = go (isOver p)
   where
@@ -88,7 +78,7 @@ left-most : (fr : Flag) (b xs d : List ℕ) → WithinText (pairListLeft fr b xs
 unfolding listLeft
 left-most (Flag.Is fr) b xs d = go (isOver (placedPair fr b (matePosOf b))) (ltb (length d) (length xs))
   where
-    p : Placed
+    p : PairPlaces
     p = placedPair fr b (matePosOf b)
 
     done : Outcome Overhang

@@ -1,1 +1,3 @@
 pub mod Overlap
+pub mod Bound
+pub mod InnerOverlap

@@ -26,45 +26,40 @@ use Rattle.strict_text.specs.Valid.{validMapped}
 use Rattle.strict_text.specs.Parsed.{strict}
 use Rattle.pairs.specs.Pairs.{isFrWithMate, isPrimaryFr}
 use Rattle.overhang.specs.Overhang.{overhangOf}
-use Rattle.overlap.specs.declared.Placed.{Placed}
-use Rattle.overlap.specs.declared.Placed.the-variants as Placed
+use Rattle.overlap.specs.declared.PairPlaces.{PairPlaces}
+use Rattle.overlap.specs.declared.PairPlaces.the-variants as PairPlaces
 use Rattle.overlap.specs.declared.Overhang.{Overhang}
 use Rattle.overlap.specs.declared.Overhang.the-variants as Overhang
 
 -- of an FR pair, the read's and the mate's place counted from 1; either sum may overflow
-abbrev pub bothPlaces : Place1 → Place1 → Placed
-bothPlaces (Place1.At p) (Place1.At m) = Placed.At p m
-bothPlaces (Place1.At p) (Place1.Refused r) = Placed.Over
-bothPlaces (Place1.Refused r) m = Placed.Over
+abbrev pub bothPlaces : Place1 → Place1 → PairPlaces
+bothPlaces (Place1.At p) (Place1.At m) = PairPlaces.At p m
+bothPlaces (Place1.At p) (Place1.Refused r) = PairPlaces.Over
+bothPlaces (Place1.Refused r) m = PairPlaces.Over
 
 -- whether the pair is FR, and the mate's place as a record has it
-unfoldable pub placedPair : Bool → List ℕ → ℤ → Placed
-placedPair fr b m = cond fr (bothPlaces (oneBased (record { 0 = posOf b })) (oneBased (record { 0 = m }))) Placed.Apart
+unfoldable pub placedPair : Bool → List ℕ → ℤ → PairPlaces
+placedPair fr b m = cond fr (bothPlaces (oneBased (record { 0 = posOf b })) (oneBased (record { 0 = m }))) PairPlaces.Apart
 
-abbrev pub isOver : Placed → Bool
-isOver Placed.Apart = false
-isOver (Placed.At p m) = false
-isOver Placed.Over = true
+abbrev pub isOver : PairPlaces → Bool
+isOver PairPlaces.Apart = false
+isOver (PairPlaces.At p m) = false
+isOver PairPlaces.Over = true
 
 -- 0 unless the pair is FR; else the geometry of the read's ops and the mate's
-abbrev pub basesAt : Placed → List ℕ → List ℕ → ℕ
-basesAt Placed.Apart b ys = 0
-basesAt (Placed.At p m) b ys = overhangOf (isReverse (flagsOf b)) (p .0) (recordOps b) (m .0) ys
-basesAt Placed.Over b ys = 0
+abbrev pub basesAt : PairPlaces → List ℕ → List ℕ → ℕ
+basesAt PairPlaces.Apart b ys = 0
+basesAt (PairPlaces.At p m) b ys = overhangOf (isReverse (flagsOf b)) (p .0) (recordOps b) (m .0) ys
+basesAt PairPlaces.Over b ys = 0
 
 -- 4
-unfoldable pub overhangAt : Placed → List ℕ → List ℕ → Count
+unfoldable pub overhangAt : PairPlaces → List ℕ → List ℕ → Count
 overhangAt p b ys = cond (isOver p) (Count.Refused Overflow) (Count.Number (basesAt p b ys))
 
 -- the same by the pair test, whose refusal is passed on
 abbrev pub pairOverhang : Flag → List ℕ → ℤ → List ℕ → Count
 pairOverhang (Flag.Is fr) b m ys = overhangAt (placedPair fr b m) b ys
 pairOverhang (Flag.Refused r) b m ys = Count.Refused r
-
--- the pair test answers no
-abbrev pub isNo : Flag → Bool
-isNo (Flag.Is fr) = not fr
-isNo (Flag.Refused r) = false
 
 -- the pair test by the mate's ops
 abbrev pub isFrBy : List ℕ → List ℕ → Flag
@@ -85,7 +80,7 @@ pastMateRecord b m =
     (pairOverhang (isPrimaryFr b m) b (posOf m) (recordOps m)))
 
 -- mate text, with room d for its ops xs: 4, 6
-unfoldable pub listLeft : Placed → List ℕ → List ℕ → List ℕ → Outcome Overhang
+unfoldable pub listLeft : PairPlaces → List ℕ → List ℕ → List ℕ → Outcome Overhang
 listLeft p b xs d =
     cond (isOver p) (keeps (Overhang.Refused Overflow) d)
     (cond (ltb (length d) (length xs)) (keeps (Overhang.Refused NoRoom) d)

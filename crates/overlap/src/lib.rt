@@ -6,7 +6,8 @@ ghost use Rattle.answers.specs.Settled.{Settled};
 ghost use Rattle.oplist.specs.Ops.{mostOps, opsOf};
 ghost use Rattle.sam.specs.Record.{matePosOf};
 ghost use Rattle.strict_text.specs.Text.{textOps};
-ghost use Rattle.overlap.specs.Overlap.{bothPlaces, placedPair, isOver, basesAt, overhangAt, pairOverhang, isNo, listLeft, pastMateCigar, pastMateRecord, pastMateText};
+ghost use Rattle.overlap.specs.Overlap.{bothPlaces, placedPair, isOver, basesAt, overhangAt, pairOverhang, listLeft, pastMateCigar, pastMateRecord, pastMateText};
+ghost use Rattle.overlap.specs.InnerOverlap.{isNo};
 use answers::Count;
 use answers::Flag;
 use answers::Pos0;
@@ -17,7 +18,7 @@ use oplist::Ops;
 use strict_text::Measured;
 
 // Where a read and its mate lie, counted from 1; or they are no FR pair, or a place overflows.
-pub enum Placed {
+pub enum PairPlaces {
     Apart,
     At(Pos1, Pos1),
     Over,
@@ -29,24 +30,24 @@ pub enum Overhang {
     Refused(Refusal),
 }
 
-fn both_places(own: Place1, mate: Place1) -> Placed
+fn both_places(own: Place1, mate: Place1) -> PairPlaces
     ensures { λ r. ⌜ r ≡ bothPlaces own mate ⌝ }
 {
     let Place1::At(p) = own else {
-        return Placed::Over;
+        return PairPlaces::Over;
     };
     let Place1::At(m) = mate else {
-        return Placed::Over;
+        return PairPlaces::Over;
     };
-    Placed::At(p, m)
+    PairPlaces::At(p, m)
 }
 
-fn placed_pair(fr: bool, bam: &[u8], mate: Pos0) -> Placed
+fn placed_pair(fr: bool, bam: &[u8], mate: Pos0) -> PairPlaces
     requires { ⌜ 32 ≤ length (now bam) ⌝ }
     ensures { λ r. ⌜ r ≡ placedPair fr (now (bam .entry)) (mate .0) ⌝ }
 {
     if !fr {
-        return Placed::Apart;
+        return PairPlaces::Apart;
     }
     both_places(
         ends::one_based(Pos0(little::i32_at(bam, 4))),
@@ -54,24 +55,24 @@ fn placed_pair(fr: bool, bam: &[u8], mate: Pos0) -> Placed
     )
 }
 
-fn is_over(placed: Placed) -> bool
+fn is_over(placed: PairPlaces) -> bool
     ensures { λ r. ⌜ r ≡ isOver placed ⌝ }
 {
     match placed {
-        Placed::Apart => false,
-        Placed::At(_, _) => false,
-        Placed::Over => true,
+        PairPlaces::Apart => false,
+        PairPlaces::At(_, _) => false,
+        PairPlaces::Over => true,
     }
 }
 
 // The overhang of a record that lies so to its mate.
-fn bases_at(placed: Placed, bam: &[u8], words: &[u32], rec: &[u8], list: Ops) -> u64
+fn bases_at(placed: PairPlaces, bam: &[u8], words: &[u32], rec: &[u8], list: Ops) -> u64
     requires { ⌜ 32 ≤ length (now bam) ⌝ }
     ensures { λ r. ⌜ r ≡ basesAt placed (now (bam .entry)) (opsOf (now (words .entry)) (now (rec .entry)) list) ⌝ }
 {
     match placed {
-        Placed::Apart => 0,
-        Placed::At(p, m) => {
+        PairPlaces::Apart => 0,
+        PairPlaces::At(p, m) => {
             let reverse = fields::is_reverse(little::u16_at(bam, 14));
             overhang::overhang(
                 reverse,
@@ -85,11 +86,11 @@ fn bases_at(placed: Placed, bam: &[u8], words: &[u32], rec: &[u8], list: Ops) ->
                 list,
             )
         }
-        Placed::Over => 0,
+        PairPlaces::Over => 0,
     }
 }
 
-fn overhang_at(placed: Placed, bam: &[u8], words: &[u32], rec: &[u8], list: Ops) -> Count
+fn overhang_at(placed: PairPlaces, bam: &[u8], words: &[u32], rec: &[u8], list: Ops) -> Count
     requires { ⌜ 32 ≤ length (now bam) ⌝ }
     ensures { λ r. ⌜ r ≡ overhangAt placed (now (bam .entry)) (opsOf (now (words .entry)) (now (rec .entry)) list) ⌝ }
 {

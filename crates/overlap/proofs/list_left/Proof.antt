@@ -13,7 +13,7 @@ use Rattle.sam.specs.Record.{matePosOf}
 use Rattle.answers.proofs.Unique.{settled, outcome}
 use Rattle.oplist.proofs.OpsLaws.{out-is}
 use Rattle.strict_text.specs.Text.{textOps}
-use Rattle.overlap.specs.declared.Placed.{Placed}
+use Rattle.overlap.specs.declared.PairPlaces.{PairPlaces}
 use Rattle.overlap.specs.declared.Overhang.the-variants as Overhang
 use Rattle.overlap.specs.Overlap.{placedPair, basesAt, listLeft}
 use Rattle.overlap.proofs.CallLaws.{list-over, list-room, list-is, take-splice}
@@ -36,7 +36,7 @@ module _ (q : tie.After-placed-pair) where
   lie =
       let i = q .before .i32-at .result in
       let e : toZ w32 (ofZ w32 i) ≡ i = search needs in
-      ap (λ (p : Placed). listLeft p b xs d) (sym (q .placed-pair .ensures ∙ ap (placedPair (q .before .before .before .before .before .args .fr) b) (e ∙ q .before .i32-at .ensures)))
+      ap (λ (p : PairPlaces). listLeft p b xs d) (sym (q .placed-pair .ensures ∙ ap (placedPair (q .before .before .before .before .before .args .fr) b) (e ∙ q .before .i32-at .ensures)))
 
   count : length xs ≡ q .before .before .before .before .before .args .n
   count = q .before .before .before .before .before .pre .1

@@ -12,7 +12,8 @@ use Rattle.signed.specs.Whole.{clamp32}
 use Rattle.sam.specs.Op.{refLen}
 use Rattle.strict_text.specs.Valid.{validMapped}
 use Rattle.pairs.specs.Pairs.{isFrWithMate}
-use Rattle.overlap.specs.Overlap.{isNo, isFrBy}
+use Rattle.overlap.specs.Overlap.{isFrBy}
+use Rattle.overlap.specs.InnerOverlap.{isNo}
 use Rattle.overlap.proofs.CallLaws.{cigar-short, cigar-many, cigar-apart, cigar-bad, cigar-is}
 use borrow.Author.Needs.{needs}
 use Rattle.overlap.proofs.num_bases_extending_past_mate_cigar_raw.Statement.{statement}

@@ -3,7 +3,7 @@ use mathlib.Core.Path.{sym, ap, _∙_}
 use denote.Ref.{now}
 use Rattle.answers.specs.declared.Flag.{Flag}
 use Rattle.oplist.specs.Ops.{opsOf}
-use Rattle.overlap.specs.declared.Placed.{Placed}
+use Rattle.overlap.specs.declared.PairPlaces.{PairPlaces}
 use Rattle.overlap.specs.Overlap.{overhangAt, pairOverhang}
 use borrow.Author.Needs.{needs}
 use Rattle.overlap.proofs.pair_overhang.Statement.{statement}
@@ -26,7 +26,7 @@ returns c = let k = c .before .before .before in
     let a = k .before .before .before .before .before .args in
     let ys = opsOf (now (a .words)) (now (a .rec)) (a .list) in
     c .overhang-at .ensures
-    ∙ ap (λ (p : Placed). overhangAt p (now (a .bam)) ys) (c .before .placed-pair .ensures)
+    ∙ ap (λ (p : PairPlaces). overhangAt p (now (a .bam)) ys) (c .before .placed-pair .ensures)
     ∙ ap (λ (f : Flag). pairOverhang f (now (a .bam)) (a .mate .0) ys) (sym (k .fr .given .1))
 
 returns-2 : tie.Need-returns-2
