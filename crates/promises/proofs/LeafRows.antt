@@ -9,7 +9,7 @@ use lib.Dec.{T, ltb, eqb}
 use lib.Signed.{ltZ}
 use Rattle.lists.specs.Lists.{sumOf}
 use Rattle.sam.specs.Op.{refLen, queryLen}
-use Rattle.sam.specs.Record.{opsStart, opCountOf, opsEnd, posOf, recordOps, isShort}
+use Rattle.sam.specs.Record.{refIdOf, posOf, nameLenOf, storedBinOf, opCountOf, flagsOf, seqLenOf, mateRefIdOf, matePosOf, templateLenOf, opsStart, opsEnd, recordOps, isShort}
 use Rattle.oplist.specs.Ops.{mostOps}
 use Rattle.answers.specs.Answers.{Told, answered, tellInt, tellNat, tellCount}
 use Rattle.answers.specs.declared.Refusal.the-variants.{ShortRecord, AreaOverrun, TooManyOps, Overflow, NoRoom, BadLength}
@@ -36,12 +36,42 @@ use Rattle.promises.proofs.RowLaws.{number-alone, answer, row, row-eith
 
 -- ---- fields
 
--- each signed field: `ref_id`, `pos`, `mate_ref_id`, `mate_pos`, `template_length`; and each unsigned one: `l_read_name`, `bin`, `n_cigar_op`, `flags`, `l_seq`
-pub int-field : (f : List ℕ → ℤ) (b : List ℕ) → Gives (tellInt (intField f b)) (recordRows b)
+-- any signed and any unsigned field
+int-field : (f : List ℕ → ℤ) (b : List ℕ) → Gives (tellInt (intField f b)) (recordRows b)
 int-field f b = row tellInt (isShort b) (Int.Refused ShortRecord) (Int.Number (f b)) 1 refl (answer refl refl)
 
-pub nat-field : (f : List ℕ → ℕ) (b : List ℕ) → Gives (tellNat (natField f b)) (recordRows b)
+nat-field : (f : List ℕ → ℕ) (b : List ℕ) → Gives (tellNat (natField f b)) (recordRows b)
 nat-field f b = row tellNat (isShort b) (Nat.Refused ShortRecord) (Nat.Number (f b)) 1 refl (answer refl refl)
+
+pub ref-id : (b : List ℕ) → Gives (tellInt (intField refIdOf b)) (recordRows b)
+ref-id = int-field refIdOf
+
+pub pos-rows : (b : List ℕ) → Gives (tellInt (intField posOf b)) (recordRows b)
+pos-rows = int-field posOf
+
+pub l-read-name : (b : List ℕ) → Gives (tellNat (natField nameLenOf b)) (recordRows b)
+l-read-name = nat-field nameLenOf
+
+pub bin-rows : (b : List ℕ) → Gives (tellNat (natField storedBinOf b)) (recordRows b)
+bin-rows = nat-field storedBinOf
+
+pub n-cigar-op : (b : List ℕ) → Gives (tellNat (natField opCountOf b)) (recordRows b)
+n-cigar-op = nat-field opCountOf
+
+pub flags : (b : List ℕ) → Gives (tellNat (natField flagsOf b)) (recordRows b)
+flags = nat-field flagsOf
+
+pub l-seq : (b : List ℕ) → Gives (tellNat (natField seqLenOf b)) (recordRows b)
+l-seq = nat-field seqLenOf
+
+pub mate-ref-id : (b : List ℕ) → Gives (tellInt (intField mateRefIdOf b)) (recordRows b)
+mate-ref-id = int-field mateRefIdOf
+
+pub mate-pos : (b : List ℕ) → Gives (tellInt (intField matePosOf b)) (recordRows b)
+mate-pos = int-field matePosOf
+
+pub template-length : (b : List ℕ) → Gives (tellInt (intField templateLenOf b)) (recordRows b)
+template-length = int-field templateLenOf
 
 pub cigar-raw-bytes : (b : List ℕ) → Gives (tellArea (cigarArea b)) (recordRows b)
 unfolding cigarArea

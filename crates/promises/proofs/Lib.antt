@@ -9,4 +9,5 @@ pub mod Settles
 pub mod Demand3
 pub mod RoundTrip
 pub mod SamLaws
+pub mod ReadLaws
 pub mod Marked

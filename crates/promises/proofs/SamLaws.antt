@@ -28,7 +28,7 @@ use Rattle.promises.proofs.RoundTrip as Round
 use Rattle.mate_text.specs.Readers.{Agree}
 use Rattle.mate_text.proofs.Agree as Mate
 use Rattle.lookup.specs.Lookup.{lookup}
-use Rattle.lookup.specs.Meaning.{Reads}
+use Rattle.lookup.specs.Meaning.{InBounds, Reads}
 use Rattle.lookup.specs.declared.Found.{Found}
 use Rattle.lookup.proofs.LookupLaws as Looked
 use Rattle.bin.specs.Bin.{binOf, low16, reg2bin}
@@ -53,10 +53,10 @@ pub reference-length : (xs : List ℕ) → sumOf refLen xs ≡ refs (columns xs)
 reference-length xs = Length.reference-length xs
 
 -- lookup answers the query base in the column of a reference base, and no other answer does
-pub lookup-means : (xs : List ℕ) (start at : ℕ) (asked : Bool) → Looked.Taken xs start → Reads (columns xs) start at asked (lookup xs start at asked)
+pub lookup-means : (xs : List ℕ) (start at : ℕ) (asked : Bool) → InBounds xs start → Reads (columns xs) start at asked (lookup xs start at asked)
 lookup-means xs start at asked t = Looked.lookup-means xs start at asked t
 
-pub lookup-only : (xs : List ℕ) (start at : ℕ) (asked : Bool) → Looked.Taken xs start → (r : Found) → Reads (columns xs) start at asked r → r ≡ lookup xs start at asked
+pub lookup-only : (xs : List ℕ) (start at : ℕ) (asked : Bool) → InBounds xs start → (r : Found) → Reads (columns xs) start at asked r → r ≡ lookup xs start at asked
 lookup-only xs start at asked t r s = Looked.lookup-only xs start at asked t r s
 
 -- ---- text

@@ -135,9 +135,9 @@ endSums false at xs =
     let clips = pos (leadingClips xs) in
     clips ∷ (at -ℤ clips) ∷ []
 endSums true at xs =
-    let length = pos (sumOf refLen xs) in
+    let refs = pos (sumOf refLen xs) in
     let clips = pos (trailingClips xs) in
-    length ∷ (at +ℤ length) ∷ pos (greatestRun xs) ∷ (at +ℤ length +ℤ clips) ∷ (at +ℤ length +ℤ clips -ℤ pos 1) ∷ []
+    refs ∷ (at +ℤ refs) ∷ pos (greatestRun xs) ∷ (at +ℤ refs +ℤ clips) ∷ (at +ℤ refs +ℤ clips -ℤ pos 1) ∷ []
 
 -- `unclipped_5prime_from_raw_bam`: of a mapped record that has ops, "from `pos` + 1"
 abbrev pub unclippedRows : List ℕ → List Row

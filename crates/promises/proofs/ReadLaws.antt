@@ -1,0 +1,101 @@
+-- What document 01 promises of ends, pair tests and overhangs beside the answers. Each line is a theorem of the crate that it is cited from, over the definitions that the contracts use.
+use Prim.Native.Nat.{ℕ, _+_, _≤_}
+use mathlib.Core.Path.{_≡_}
+use mathlib.Core.Bool.{Bool, true, false}
+use mathlib.Core.List.{List, _∷_, _++_}
+use lib.IntN.{ℤ, pos, _+ℤ_, _-ℤ_}
+use lib.ListN.{take}
+use lib.Signed.{ltZ, leZ}
+use mir.Syntax.{w32}
+use mir.Val.{SFits}
+use Rattle.lists.specs.Lists.{sumOf}
+use Rattle.signed.specs.declared.Sum.the-variants as Sum
+use Rattle.sam.specs.Op.{queryLen}
+use Rattle.sam.specs.Columns.{Column, Spot, columns, queries, refs, refOf, Seen}
+use Rattle.sam.specs.Record.{flagsOf, templateLenOf, isReverse, isShort, recordOps}
+use Rattle.clip_runs.specs.Clips.{leadingClips, trailingClips}
+use Rattle.ends.specs.Ends.{unclippedStart, unclippedEnd}
+use Rattle.ends.specs.Tails.{greatestRun, Reached}
+use Rattle.ends.proofs.Meaning as Ends
+use Rattle.ends.proofs.RunMost as Runs
+use Rattle.pairs.specs.Pairs.{oppositePair, frPair, primaryFrPair}
+use Rattle.pairs.specs.Needed.{SamePair, SameReverse}
+use Rattle.pairs.proofs.Needed as Pairs
+use Rattle.overhang.specs.Reach.{basesUpTo, onBase, Unclamped}
+use Rattle.overhang.specs.Overhang.{endOf, softStart, softEnd, basesPast, basesExtending}
+use Rattle.overhang.proofs.Meaning as Counts
+use Rattle.overhang.proofs.Gaps as Gaps
+use Rattle.overlap.specs.Overlap.{pastMateCigar, pastMateRecord, pastMateText}
+use Rattle.overlap.specs.Bound.{Within, WithinText}
+use Rattle.overlap.proofs.Promised as Most
+
+-- ---- ends: a place that was not refused is the plain sum
+
+-- "forward less the leading S and H"
+pub start-is : (at : ℤ) (xs : List ℕ) (z : ℤ) → unclippedStart at xs ≡ Sum.Number z → at -ℤ pos (leadingClips xs) ≡ z
+start-is at xs z e = Ends.start-is at xs z e
+
+-- "reverse plus reference length plus clips after the last reference op, less 1"; the reference length is the count of reference bases in the columns
+pub end-is : (at : ℤ) (xs : List ℕ) (z : ℤ) → unclippedEnd at xs ≡ Sum.Number z → at +ℤ pos (refs (columns xs)) +ℤ pos (trailingClips xs) -ℤ pos 1 ≡ z
+end-is at xs z e = Ends.end-is at xs z e
+
+-- 4 "where Rust with overflow checks stops": its one sum of clips, after any number of ops, is at most the greatest run, and comes to it
+pub run-most : (xs : List ℕ) (i : ℕ) → trailingClips (take i xs) ≤ greatestRun xs
+run-most xs i = Runs.run-most xs i
+
+pub run-reached : (xs : List ℕ) → Reached xs
+run-reached xs = Runs.run-reached xs
+
+-- ---- pair tests
+
+-- an answer needs only the fields that document 01 names: two records that agree in them, both long enough or both too short, have the same answer
+pub opposite-only : (a b : List ℕ) → isShort a ≡ isShort b → SamePair a b → oppositePair a ≡ oppositePair b
+opposite-only a b l s = Pairs.opposite-only a b l s
+
+-- a reverse record needs no template length
+pub reverse-only : (a b : List ℕ) → isShort a ≡ isShort b → SamePair a b → isReverse (flagsOf a) ≡ true → SameReverse a b → frPair a ≡ frPair b
+reverse-only a b l s r t = Pairs.reverse-only a b l s r t
+
+-- a forward one nothing but the template length
+pub forward-only : (a b : List ℕ) → isShort a ≡ isShort b → SamePair a b → isReverse (flagsOf a) ≡ false → templateLenOf a ≡ templateLenOf b → frPair a ≡ frPair b
+forward-only a b l s r t = Pairs.forward-only a b l s r t
+
+-- which of two records comes first plays no part
+pub symmetric : (a b : List ℕ) → primaryFrPair a b ≡ primaryFrPair b a
+symmetric a b = Pairs.symmetric a b
+
+-- ---- "An overhang never exceeds the read's query length", of each call
+
+pub ops-most : (reverse : Bool) (p : ℤ) (xs : List ℕ) (m : ℤ) (ys : List ℕ) → Within (basesExtending reverse p xs m ys) (sumOf queryLen xs)
+ops-most reverse p xs m ys = Most.ops-most reverse p xs m ys
+
+pub cigar-most : (b ys : List ℕ) → Within (pastMateCigar b ys) (sumOf queryLen (recordOps b))
+cigar-most b ys = Most.cigar-most b ys
+
+pub record-most : (b m : List ℕ) → Within (pastMateRecord b m) (sumOf queryLen (recordOps b))
+record-most b m = Most.record-most b m
+
+pub text-most : (b s d : List ℕ) → WithinText (pastMateText b s d .answer) (sumOf queryLen (recordOps b))
+text-most b s d = Most.text-most b s d
+
+-- ---- what the overhang's counts mean
+
+-- the gap of a read that stops short is never negative
+pub gap-forward : (p m : ℤ) (xs ys : List ℕ) → ltZ (endOf p xs) m ≡ true → leZ (endOf p xs) (softEnd m ys) ≡ true
+gap-forward p m xs ys t = Gaps.gap-forward p m xs ys t
+
+pub gap-reverse : (p m : ℤ) (xs ys : List ℕ) → SFits w32 p → SFits w32 m → ltZ (endOf m ys) p ≡ true → leZ (softStart m ys) p ≡ true
+gap-reverse p m xs ys f g t = Gaps.gap-reverse p m xs ys f g t
+
+-- an alignment from p on, and a target t, k positions after p, with no position clamped
+module _ (t p : ℤ) (k : ℕ) (xs : List ℕ) (f : SFits w32 t) (g : SFits w32 p) (e : t ≡ p +ℤ pos k) (u : Unclamped t p xs) where
+  -- the count is of the query bases before the target's column, and the one in it if on is 1
+  pub bases-up-to-seen : (on : ℕ) (s : Spot) → on ≤ 1 → Seen (columns xs) k s → basesUpTo on t p xs ≡ s .before + onBase on (s .over)
+  bases-up-to-seen on s h S = Counts.bases-up-to-seen t p k xs f g e u on s h S
+
+  -- the query bases before the target are those of the columns on its left, and those past it of the columns on its right
+  pub before-left : (left right : List Column) (c : Column) → refs left ≡ k → refOf c ≡ 1 → columns xs ≡ left ++ (c ∷ right) → basesUpTo 0 t p xs ≡ queries left
+  before-left left right c l r d = Counts.before-left t p k xs f g e u left right l c r d
+
+  pub past-right : (left right : List Column) (c : Column) → refs left ≡ k → refOf c ≡ 1 → columns xs ≡ left ++ (c ∷ right) → basesPast t p xs ≡ queries right
+  past-right left right c l r d = Counts.past-right t p k xs f g e u left right l c r d
