@@ -1,8 +1,8 @@
 // Runs each method of the view on document 01's record, in reverse, unmapped and at the ends of the range, and on short and damaged records. A record has five lines:
 // its fields; the part that holds its ops, and the number beside it; lengths and ends; its text, in 12 places; and its ops clipped at the start by 25, at the end by 5 and by 0, in 3 places.
 mod asked;
-
-use shown::record;
+mod record;
+mod shown;
 
 // Document 01's record up to its ops, with other numbers in the fields that it does not name: 5S20M2D5M, name `r`, l_seq 30.
 fn example(pos: u32, flags: u32) -> [u8; 96] {

@@ -2,8 +2,8 @@
 use native.Mathlib.Omega.{arith}
 use lib.ListN.{length-take}
 use borrow.Author.Needs.{needs}
-use Rattle.shown.proofs.record.cut.Statement.{statement}
-use Rattle.shown.proofs.record.cut.Tie as tie
+use Rattle.run_view.proofs.record.cut.Statement.{statement}
+use Rattle.run_view.proofs.record.cut.Tie as tie
 
 slice-aggregate-result : tie.Need-slice-aggregate-result
 slice-aggregate-result c = search needs

@@ -21,7 +21,7 @@ pub fn new(pos: u32, flags: u32, n_cigar_op: u32) -> [u8; 96] {
 }
 
 // Op i stored; the record as it is past its room.
-pub fn with_op(record: [u8; 96], i: usize, op: u32) -> [u8; 96] {
+fn with_op(record: [u8; 96], i: usize, op: u32) -> [u8; 96] {
     if 14 < i {
         return record;
     }

@@ -2,8 +2,8 @@
 use Prim.Native.Nat.{_≤_, _-_}
 use borrow.Author.Needs.{needs}
 use lib.ListN.{length}
-use Rattle.shown.proofs.bytes.Statement.{statement}
-use Rattle.shown.proofs.bytes.Tie as tie
+use Rattle.run_view.proofs.shown.bytes.Statement.{statement}
+use Rattle.run_view.proofs.shown.bytes.Tie as tie
 
 abbrev Inv-loop : tie.InvT-loop
 Inv-loop part i₀ i = i ≤ length part

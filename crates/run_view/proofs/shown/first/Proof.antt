@@ -2,8 +2,8 @@
 use native.Mathlib.Omega.{arith}
 use lib.ListN.{length-take}
 use borrow.Author.Needs.{needs}
-use Rattle.shown.proofs.first.Statement.{statement}
-use Rattle.shown.proofs.first.Tie as tie
+use Rattle.run_view.proofs.shown.first.Statement.{statement}
+use Rattle.run_view.proofs.shown.first.Tie as tie
 
 slice-aggregate-list : tie.Need-slice-aggregate-list
 slice-aggregate-list c = simp length-take (omega arith)

@@ -2,8 +2,8 @@
 use Prim.Native.Nat.{_≤_, _-_}
 use borrow.Author.Needs.{needs}
 use lib.ListN.{length}
-use Rattle.shown.proofs.list.Statement.{statement}
-use Rattle.shown.proofs.list.Tie as tie
+use Rattle.run_view.proofs.shown.list.Statement.{statement}
+use Rattle.run_view.proofs.shown.list.Tie as tie
 
 abbrev Inv-loop : tie.InvT-loop
 Inv-loop words i₀ i = i ≤ length words

@@ -1,8 +1,5 @@
-// Prints answers, and makes records, for the programs that run examples.
-pub mod record;
-
+// Prints answers.
 use answers::Count;
-use answers::Flag;
 use answers::Int;
 use answers::Nat;
 use answers::Refusal;
@@ -33,7 +30,7 @@ pub fn integer(n: i32) {
     }
 }
 
-pub fn refused(why: Refusal) {
+fn refused(why: Refusal) {
     text(b"refused ");
     natural(answers::number(why) as u64);
 }
@@ -56,19 +53,6 @@ pub fn count(answer: Count) {
     match answer {
         Count::Number(n) => natural(n),
         Count::Refused(why) => refused(why),
-    }
-}
-
-pub fn flag(answer: Flag) {
-    match answer {
-        Flag::Is(yes) => {
-            if yes {
-                text(b"yes");
-            } else {
-                text(b"no");
-            }
-        }
-        Flag::Refused(why) => refused(why),
     }
 }
 
@@ -111,7 +95,7 @@ fn op(word: u32) {
 }
 
 // Ops as text, `.` for none.
-pub fn list(words: &[u32]) {
+fn list(words: &[u32]) {
     if words.len() == 0 {
         text(b".");
     }
@@ -123,7 +107,7 @@ pub fn list(words: &[u32]) {
 }
 
 // The first n ops of a list.
-pub fn first(words: &[u32], n: usize) {
+fn first(words: &[u32], n: usize) {
     if n <= words.len() {
         list(&words[..n]);
     }
