@@ -1,2 +1,3 @@
 pub mod HeadLaws
 pub mod WrittenLaws
+pub mod Examples

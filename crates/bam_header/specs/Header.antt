@@ -18,25 +18,25 @@ unfoldable pub isBam : List ℕ → Bool
 isBam s = cond (ltb (length s) 4) false (eqb (byteAt s 0) 66 && (eqb (byteAt s 1) 65 && (eqb (byteAt s 2) 77 && eqb (byteAt s 3) 1)))
 
 -- so many bytes, whatever they are, and what follows them
-unfoldable pub past : ℕ → (List ℕ → Head) → List ℕ → Head
-past size f s = cond (ltb (length s) size) CutShort (f (drop size s))
+unfoldable pub pastBytes : ℕ → (List ℕ → Head) → List ℕ → Head
+pastBytes size f s = cond (ltb (length s) size) CutShort (f (drop size s))
 
 -- a number, and what follows it
-unfoldable pub number : (ℕ → List ℕ → Head) → List ℕ → Head
-number f s = cond (ltb (length s) 4) CutShort (f (le32 s 0) (drop 4 s))
+unfoldable pub pastNumber : (ℕ → List ℕ → Head) → List ℕ → Head
+pastNumber f s = cond (ltb (length s) 4) CutShort (f (le32 s 0) (drop 4 s))
 
 -- "l_name; name; l_ref", so many times, and the records
 unfoldable pub references : ℕ → List ℕ → Head
 references zero s = Records s
-references (suc n) s = number (λ size. past size (past 4 (references n))) s
+references (suc n) s = pastNumber (λ size. pastBytes size (pastBytes 4 (references n))) s
 
 -- "n_ref"
 unfoldable pub counted : List ℕ → Head
-counted s = number references s
+counted s = pastNumber references s
 
 -- "l_text; text"
 unfoldable pub texted : List ℕ → Head
-texted s = number (λ size. past size counted) s
+texted s = pastNumber (λ size. pastBytes size counted) s
 
 -- a whole stream
 unfoldable pub headOf : List ℕ → Head

@@ -1,3 +1,4 @@
 pub mod Header
+pub mod Converted
 pub mod Inner
 pub mod Written

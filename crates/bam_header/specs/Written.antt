@@ -21,10 +21,10 @@ allOf [] = []
 allOf (r ∷ rs) = reference r ++ allOf rs
 
 -- "magic; l_text; text; n_ref", and the references
-unfoldable pub written : List ℕ → List Reference → List ℕ
-written text refs = 66 ∷ 65 ∷ 77 ∷ 1 ∷ (uint32 (length text) ++ (text ++ (uint32 (length refs) ++ allOf refs)))
+unfoldable pub headBytes : List ℕ → List Reference → List ℕ
+headBytes text refs = 66 ∷ 65 ∷ 77 ∷ 1 ∷ (uint32 (length text) ++ (text ++ (uint32 (length refs) ++ allOf refs)))
 
 -- the sizes of names are numbers of 32 bits
-abbrev pub Small : List Reference → Type 0
-Small [] = Unit
-Small (r ∷ rs) = (length (r .name) < 4294967296) × Small rs
+abbrev pub SmallNames : List Reference → Type 0
+SmallNames [] = Unit
+SmallNames (r ∷ rs) = (length (r .name) < 4294967296) × SmallNames rs

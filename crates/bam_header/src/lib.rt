@@ -5,25 +5,25 @@ ghost use mathlib.Core.List.{List};
 ghost use Prim.Native.Nat.{ℕ, _<_, min};
 ghost use lib.ListN.{length};
 ghost use Rattle.bam_header.specs.Header.{isBam, texted};
-ghost use Rattle.bam_header.specs.Inner.{isRecords, fromPlace, behindNumber, isReady, isBegun, Gone, Went};
+ghost use Rattle.bam_header.specs.Inner.{isRecords, fromPlace, behindNumber, isReady, isBegun, HeadGone, HeadWent};
 
 // What comes next in a head: the size of its text, the number of its references, or the references that are left, each behind its name's size.
-pub enum Part {
+pub enum HeadPart {
     TextSize,
     Count,
     Names(u32),
 }
 
 // Where a head was left: so many bytes are to be skipped before that part.
-pub struct Place {
+pub struct HeadPlace {
     pub skip: u64,
-    pub part: Part,
+    pub part: HeadPart,
 }
 
 // How far a block of input went: the bytes used, and the place behind them.
 pub struct Step {
     pub used: usize,
-    pub place: Place,
+    pub place: HeadPlace,
 }
 
 // Whether a stream begins as a BAM stream does.
@@ -46,28 +46,28 @@ pub fn magic(s: &[u8]) -> bool
 }
 
 // The place behind the magic.
-pub fn start() -> Place
+pub fn start() -> HeadPlace
     ensures { λ r. ⌜ ((s : List ℕ) → fromPlace r s ≡ texted s) ⌝ }
 {
-    Place {
+    HeadPlace {
         skip: 0,
-        part: Part::TextSize,
+        part: HeadPart::TextSize,
     }
 }
 
 // Whether a part is the records themselves.
-fn is_records(part: Part) -> bool
+fn is_records(part: HeadPart) -> bool
     ensures { λ r. ⌜ r ≡ isRecords part ⌝ }
 {
     match part {
-        Part::TextSize => false,
-        Part::Count => false,
-        Part::Names(left) => left == 0,
+        HeadPart::TextSize => false,
+        HeadPart::Count => false,
+        HeadPart::Names(left) => left == 0,
     }
 }
 
 // Whether the records begin here.
-pub fn begun(p: Place) -> bool
+pub fn begun(p: HeadPlace) -> bool
     ensures { λ r. ⌜ r ≡ isBegun p ⌝ }
 {
     if 0 < p.skip {
@@ -78,7 +78,7 @@ pub fn begun(p: Place) -> bool
 }
 
 // Whether n bytes at hand are enough to go on.
-fn ready(p: Place, n: usize) -> bool
+fn ready(p: HeadPlace, n: usize) -> bool
     ensures { λ r. ⌜ r ≡ isReady p n ⌝ }
 {
     if 0 < p.skip {
@@ -98,22 +98,22 @@ fn wide(x: u32) -> u64
 }
 
 // The place behind a number: a text is skipped, and a name with the length behind it.
-fn behind_number(part: Part, number: u32) -> Place
+fn behind_number(part: HeadPart, number: u32) -> HeadPlace
     requires { ⌜ isRecords part ≡ false ⌝ }
     ensures { λ r. ⌜ r ≡ behindNumber part number ⌝ }
 {
     match part {
-        Part::TextSize => Place {
+        HeadPart::TextSize => HeadPlace {
             skip: wide(number),
-            part: Part::Count,
+            part: HeadPart::Count,
         },
-        Part::Count => Place {
+        HeadPart::Count => HeadPlace {
             skip: 0,
-            part: Part::Names(number),
+            part: HeadPart::Names(number),
         },
-        Part::Names(left) => Place {
+        HeadPart::Names(left) => HeadPlace {
             skip: wide(number) + 4,
-            part: Part::Names(left - 1),
+            part: HeadPart::Names(left - 1),
         },
     }
 }
@@ -129,9 +129,9 @@ fn skipped(skip: u64, n: usize) -> usize
 }
 
 // One turn: bytes are skipped, or a number is read.
-fn turn(s: &[u8], p: Place) -> Step
+fn turn(s: &[u8], p: HeadPlace) -> Step
     requires { ⌜ isReady p (length (now s)) ≡ true ⌝ }
-    ensures { λ r. ⌜ Gone (now (s .entry)) p r ⌝ }
+    ensures { λ r. ⌜ HeadGone (now (s .entry)) p r ⌝ }
     ensures { λ r. ⌜ 0 < r .used ⌝ }
 {
     let part = p.part;
@@ -139,7 +139,7 @@ fn turn(s: &[u8], p: Place) -> Step
         let n = skipped(p.skip, s.len());
         return Step {
             used: n,
-            place: Place {
+            place: HeadPlace {
                 skip: p.skip - n as u64,
                 part: part,
             },
@@ -153,8 +153,8 @@ fn turn(s: &[u8], p: Place) -> Step
 }
 
 // Goes as far as the bytes at hand go.
-pub fn read_on(s: &[u8], from: Place) -> Step
-    ensures { λ r. ⌜ Went (now (s .entry)) from r ⌝ }
+pub fn read_on(s: &[u8], from: HeadPlace) -> Step
+    ensures { λ r. ⌜ HeadWent (now (s .entry)) from r ⌝ }
 {
     let mut used: usize = 0;
     let mut place = from;

@@ -1,2 +1,1 @@
-pub mod ConvertedLaws
 pub mod RunLaws

@@ -8,76 +8,76 @@ use lib.ListN.{length, take, drop}
 use Rattle.blocks.specs.Fill.{Filled, Gathers, First}
 use Rattle.blocks.specs.declared.Read.{Read}
 use Rattle.bam_header.specs.Header.{isBam, texted}
-use Rattle.bam_header.specs.Inner.{fromPlace, isBegun, Went}
-use Rattle.bam_header.specs.declared.Place.{Place}
-use Rattle.bam_to_cgr.specs.Converted.{cgrMark}
-use Rattle.bam_to_cgr.specs.declared.State.{State}
+use Rattle.bam_header.specs.Inner.{fromPlace, isBegun, HeadWent}
+use Rattle.bam_header.specs.declared.HeadPlace.{HeadPlace}
+use Rattle.bam_header.specs.Converted.{cgrMark}
+use Rattle.bam_to_cgr.specs.declared.BamState.{BamState}
 use Rattle.bam_to_cgr.specs.declared.Word.{Word}
 use Rattle.bam_to_cgr.specs.declared.Word.the-variants.{Nothing, HeadCut, Unread, Unwritten}
 
 -- the bytes at hand that are not used
-abbrev pub left : State → List ℕ → List ℕ
+abbrev pub left : BamState → List ℕ → List ℕ
 left s block = drop (s .used) (take (s .have) block)
 
 -- A turn: what is left moves to the front, a read into the room behind it, and from the place before them the bytes at hand go as far as they go.
-pub record Turned (s : State) (block : List ℕ) (r : State) (block' : List ℕ) : Type 0 where
+pub record BamTurn (s : BamState) (block : List ℕ) (r : BamState) (block' : List ℕ) : Type 0 where
   pub moved : List ℕ
   pub front : take (s .have - s .used) moved ≡ take (s .have - s .used) (drop (s .used) block)
   pub room : s .have < s .used + 65536
   pub filled : Filled moved (s .have - s .used) (record { have = r .have; none = r .ended; failed = r .failed }) block'
-  pub went : Went (take (r .have) block') (s .place) (record { used = r .used; place = r .place })
+  pub went : HeadWent (take (r .have) block') (s .place) (record { used = r .used; place = r .place })
   pub same : r .marked ≡ s .marked
 
 -- those that its read gave, behind the bytes that were left
-abbrev pub given : State → State → List ℕ → List ℕ
-given s r block' = drop (s .have - s .used) (take (r .have) block')
+abbrev pub readIn : BamState → BamState → List ℕ → List ℕ
+readIn s r block' = drop (s .have - s .used) (take (r .have) block')
 
 -- What is due first where the records begin, the mark or what is left behind it, and the state behind its write.
-abbrev pub partOf : State → List ℕ → List ℕ
+abbrev pub partOf : BamState → List ℕ → List ℕ
 partOf s block = cond (s .marked) (left s block) cgrMark
 
-abbrev pub behindOf : State → State
+abbrev pub behindOf : BamState → BamState
 behindOf s = record { place = s .place; have = s .have; used = cond (s .marked) (s .have) (s .used); failed = s .failed; ended = s .ended; marked = true }
 
 -- All that is due after a turn: nothing in the head; the mark, once, and what is left. And the state behind the writes.
-abbrev pub dueOf : State → List ℕ → List ℕ
-dueOf s block = cond (isBegun (s .place)) (cond (s .marked) [] cgrMark ++ left s block) []
+abbrev pub dueBytes : BamState → List ℕ → List ℕ
+dueBytes s block = cond (isBegun (s .place)) (cond (s .marked) [] cgrMark ++ left s block) []
 
-abbrev pub relievedOf : State → State
-relievedOf s = cond (isBegun (s .place)) (record { place = s .place; have = s .have; used = s .have; failed = s .failed; ended = s .ended; marked = true }) s
+abbrev pub behindAll : BamState → BamState
+behindAll s = cond (isBegun (s .place)) (record { place = s .place; have = s .have; used = s .have; failed = s .failed; ended = s .ended; marked = true }) s
 
 -- the state before the first turn: the magic is used
-abbrev pub begun : Place → ℕ → State
-begun p have = record { place = p; have = have; used = 4; failed = false; ended = false; marked = false }
+abbrev pub headStart : HeadPlace → ℕ → BamState
+headStart p have = record { place = p; have = have; used = 4; failed = false; ended = false; marked = false }
 
 -- The first reads brought the magic. Then turn after turn, each a read and writes: all bytes that were read so far, and all that were written.
-pub data Ran : List ℕ → List ℕ → State → List ℕ → Type 0 where
-  starts : {read block : List ℕ} {r : Read} {p : Place}
+pub data BamRan : List ℕ → List ℕ → BamState → List ℕ → Type 0 where
+  starts : {read block : List ℕ} {r : Read} {p : HeadPlace}
       → Gathers read r block
       → isBam (take (r .have) block) ≡ true
       → ((ys : List ℕ) → fromPlace p ys ≡ texted ys)
-      → Ran read [] (begun p (r .have)) block
-  turns : {read written block block' : List ℕ} {s r : State}
-      → Ran read written s block
+      → BamRan read [] (headStart p (r .have)) block
+  turns : {read written block block' : List ℕ} {s r : BamState}
+      → BamRan read written s block
       → s .ended ≡ false
-      → Turned s block r block'
-      → Ran (read ++ given s r block') (written ++ dueOf r block') (relievedOf r) block'
+      → BamTurn s block r block'
+      → BamRan (read ++ readIn s r block') (written ++ dueBytes r block') (behindAll r) block'
 
 -- the program came here so; it ends where a read gave none, or behind 2^47 bytes
-pub record Came (s : State) (block : List ℕ) : Type 0 where
+pub record BamCame (s : BamState) (block : List ℕ) : Type 0 where
   pub read : List ℕ
   pub written : List ℕ
-  pub ran : Ran read written s block
+  pub ran : BamRan read written s block
   pub last : s .ended ≡ false → 140737488355328 ≤ length read
 
 -- What the program has written at its end of a stream: its turns', or nothing where the magic is another. Where a read gave none the stream is what was read.
 pub data Wrote : List ℕ → List ℕ → Type 0 where
-  ended : {stream written block : List ℕ} {s : State} → Ran stream written s block → s .ended ≡ true → Wrote stream written
+  ended : {stream written block : List ℕ} {s : BamState} → BamRan stream written s block → s .ended ≡ true → Wrote stream written
   refused : {block : List ℕ} {r : Read} (ys : List ℕ) (f : First 4 r block) → isBam (take (r .have) block) ≡ false → (r .none ≡ true → ys ≡ []) → Wrote (f .read ++ ys) []
 
 -- What is said on standard error at the end: of a write or a read that failed, or else of what the stream lacks.
 abbrev pub wordOf : Bool → Bool → Word → Word
 wordOf ok failed lack = cond ok (cond failed Unread lack) Unwritten
 
-abbrev pub lackOf : State → Word
+abbrev pub lackOf : BamState → Word
 lackOf s = cond (isBegun (s .place)) Nothing HeadCut

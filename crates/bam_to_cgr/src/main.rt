@@ -7,18 +7,18 @@ ghost use lib.ListN.{length, take};
 ghost use Rattle.blocks.specs.Fill.{First};
 ghost use Rattle.bam_header.specs.Header.{isBam};
 ghost use Rattle.bam_header.specs.Inner.{isBegun};
-ghost use Rattle.bam_to_cgr.specs.Converted.{cgrMark};
-ghost use Rattle.bam_to_cgr.specs.Run.{Turned, partOf, behindOf, relievedOf, Came, wordOf, lackOf};
+ghost use Rattle.bam_header.specs.Converted.{cgrMark};
+ghost use Rattle.bam_to_cgr.specs.Run.{BamTurn, partOf, behindOf, behindAll, BamCame, wordOf, lackOf};
 ghost use Rattle.bam_to_cgr.specs.declared.Word.the-variants.{NotBam};
-use bam_header::Place;
+use bam_header::HeadPlace;
 use blocks::Read;
 
 // No stream takes so many turns; each reads at least a byte.
 const MOST_TURNS: u64 = 140737488355328;
 
 // Where a stream was left: the place in its head, the bytes at hand and how many of them are used, whether a read failed or gave none, and whether the mark is written.
-struct State {
-    place: Place,
+struct BamState {
+    place: HeadPlace,
     have: usize,
     used: usize,
     failed: bool,
@@ -27,8 +27,8 @@ struct State {
 }
 
 // The state behind a write, and whether it went well.
-struct Behind {
-    state: State,
+struct BamBehind {
+    state: BamState,
     ok: bool,
 }
 
@@ -49,11 +49,11 @@ fn mark() -> [u8; 5]
 }
 
 // Reads behind the bytes that are left, and goes as far in the head as they go; where the records begin none of them is used.
-fn turn(s: State, block: &mut [u8]) -> State
+fn turn(s: BamState, block: &mut [u8]) -> BamState
     requires { ⌜ 65536 ≡ length (now block) ⌝ }
     requires { ⌜ (s .used ≤ s .have) × (s .have ≤ 65536) × (s .have < s .used + 65536) ⌝ }
     ensures { λ r. ⌜ (r .used ≤ r .have) × (r .have ≤ 65536) ⌝ }
-    ensures { λ r. ⌜ Turned s (now (block .entry)) r (now (block .exit)) ⌝ }
+    ensures { λ r. ⌜ BamTurn s (now (block .entry)) r (now (block .exit)) ⌝ }
 {
     let left = s.have - s.used;
     blocks::shift(block, s.used, s.have);
@@ -62,7 +62,7 @@ fn turn(s: State, block: &mut [u8]) -> State
     let place = s.place;
     let step = bam_header::read_on(&block[..have], place);
     let behind = step.place;
-    State {
+    BamState {
         place: behind,
         have: have,
         used: step.used,
@@ -73,7 +73,7 @@ fn turn(s: State, block: &mut [u8]) -> State
 }
 
 // The state behind the write of what is due first.
-fn behind_part(s: State) -> State
+fn behind_part(s: BamState) -> BamState
     ensures { λ r. ⌜ r ≡ behindOf s ⌝ }
 {
     let place = s.place;
@@ -81,7 +81,7 @@ fn behind_part(s: State) -> State
     if s.marked {
         used = s.have;
     }
-    State {
+    BamState {
         place: place,
         have: s.have,
         used: used,
@@ -92,21 +92,21 @@ fn behind_part(s: State) -> State
 }
 
 // Hands over what is due first, the mark or what is left behind it; the state behind it comes from here alone.
-fn write(s: State, block: &[u8], part: &[u8]) -> Behind
+fn write(s: BamState, block: &[u8], part: &[u8]) -> BamBehind
     requires { ⌜ isBegun (s .place) ≡ true ⌝ }
     requires { ⌜ now part ≡ partOf s (now block) ⌝ }
     ensures { λ r. ⌜ r .state ≡ behindOf s ⌝ }
 {
     let ok = io::write_all(1, part);
     let state = behind_part(s);
-    Behind {
+    BamBehind {
         state: state,
         ok: ok,
     }
 }
 
 // What is left, behind the mark.
-fn write_left(s: State, block: &[u8]) -> Behind
+fn write_left(s: BamState, block: &[u8]) -> BamBehind
     requires { ⌜ isBegun (s .place) ≡ true ⌝ }
     requires { ⌜ s .marked ≡ true ⌝ }
     requires { ⌜ (s .used ≤ s .have) × (s .have ≤ length (now block)) ⌝ }
@@ -118,13 +118,13 @@ fn write_left(s: State, block: &[u8]) -> Behind
 }
 
 // All that is due: nothing in the head; the mark, once, and what is left.
-fn write_due(s: State, block: &[u8]) -> Behind
+fn write_due(s: BamState, block: &[u8]) -> BamBehind
     requires { ⌜ (s .used ≤ s .have) × (s .have ≤ length (now block)) ⌝ }
-    ensures { λ r. ⌜ (r .ok ≡ true → r .state ≡ relievedOf s) ⌝ }
+    ensures { λ r. ⌜ (r .ok ≡ true → r .state ≡ behindAll s) ⌝ }
 {
     let place = s.place;
     if !bam_header::begun(place) {
-        return Behind { state: s, ok: true };
+        return BamBehind { state: s, ok: true };
     }
     if s.marked {
         return write_left(s, block);
@@ -138,13 +138,13 @@ fn write_due(s: State, block: &[u8]) -> Behind
 }
 
 // A stream that begins with the magic, of which the first bytes are at hand.
-fn convert(first: Read, block: &mut [u8]) -> Behind
+fn convert(first: Read, block: &mut [u8]) -> BamBehind
     requires { ⌜ 65536 ≡ length (now block) ⌝ }
     requires { ⌜ First 4 first (now block) × (isBam (take (first .have) (now block)) ≡ true) ⌝ }
-    ensures { λ r. ⌜ (r .ok ≡ true → Came (r .state) (now (block .exit))) ⌝ }
+    ensures { λ r. ⌜ (r .ok ≡ true → BamCame (r .state) (now (block .exit))) ⌝ }
 {
     let start = bam_header::start();
-    let mut s = State {
+    let mut s = BamState {
         place: start,
         have: first.have,
         used: 4,
@@ -165,7 +165,7 @@ fn convert(first: Read, block: &mut [u8]) -> Behind
         }
         turns += 1;
     }
-    Behind { state: s, ok: true }
+    BamBehind { state: s, ok: true }
 }
 
 // The word for a write or a read that failed, or else for what the stream lacks.
@@ -182,7 +182,7 @@ fn end_word(ok: bool, failed: bool, lack: Word) -> Word
 }
 
 // What a stream with the magic lacks at its end.
-fn lack(s: State) -> Word
+fn lack(s: BamState) -> Word
     ensures { λ r. ⌜ r ≡ lackOf s ⌝ }
 {
     let place = s.place;
@@ -211,7 +211,7 @@ fn refuse(first: Read, part: &[u8], w: Word) -> bool
 }
 
 // The end of a stream with the magic.
-fn finish(end: Behind, w: Word) -> bool
+fn finish(end: BamBehind, w: Word) -> bool
     requires { ⌜ w ≡ wordOf (end .ok) (end .state .failed) (lackOf (end .state)) ⌝ }
 {
     say(w)

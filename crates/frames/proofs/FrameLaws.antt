@@ -16,8 +16,8 @@ use Rattle.lines.specs.Line.{lineOf}
 use Rattle.puts.specs.Puts.{Put}
 use Rattle.frames.specs.Stream.{nextIn, soFar, closing, lastWord, Reports, Reports.line, Reports.over, Reports.short, Reports.none}
 use Rattle.frames.specs.Inner.{Gone, Went, goesOn}
-use Rattle.frames.specs.declared.Next.{Next}
-use Rattle.frames.specs.declared.Next.the-variants.{Record, TooLong, CutShort, End, More}
+use Rattle.frames.specs.declared.NextFrame.{NextFrame}
+use Rattle.frames.specs.declared.NextFrame.the-variants.{Record, TooLong, CutShort, End, More}
 use Rattle.frames.specs.declared.Block.{Block}
 
 -- ---- a record that is next
@@ -53,7 +53,7 @@ next-more s ys size e =
     let w = f .whole in
     next-record (s ++ ys) size (omega arith) (f .is ∙ sym (front-number s ys (omega arith))) (f .small)
 
-pub far-record : (whole : Bool) (n : Next) (size : ℕ) → soFar whole n ≡ Record size → n ≡ Record size
+pub far-record : (whole : Bool) (n : NextFrame) (size : ℕ) → soFar whole n ≡ Record size → n ≡ Record size
 far-record true n size e = e
 far-record false (Record k) size e = e
 far-record false TooLong size e = let z : _≡_ {A = ℕ} 0 1 = cc in absurd (omega arith)
@@ -90,7 +90,7 @@ ends-there failed whole n s ys f h = go whole f (nextIn s) refl h
     all : ys ≡ [] → s ≡ s ++ ys
     all e = sym (ap (λ (l : List ℕ). s ++ l) e ∙ append-nil s)
 
-    go : (b : Bool) → (b ≡ true → ys ≡ []) → (w : Next) → nextIn s ≡ w → goesOn (soFar b w) ≡ false → Reports failed n (s ++ ys) (closing (lastWord failed (soFar b w)) n)
+    go : (b : Bool) → (b ≡ true → ys ≡ []) → (w : NextFrame) → nextIn s ≡ w → goesOn (soFar b w) ≡ false → Reports failed n (s ++ ys) (closing (lastWord failed (soFar b w)) n)
     go true f (Record k) e h = let z : _≡_ {A = ℕ} 0 1 = cc in absurd (omega arith)
     go true f TooLong e h = Reports.over (over-more s ys e)
     go true f CutShort e h = subst (λ (l : List ℕ). Reports failed n l (closing CutShort n)) (all (f refl)) (Reports.short e)
@@ -183,7 +183,7 @@ module _ (s : List ℕ) (used size : ℕ) (e : nextIn (drop used s) ≡ Record s
 pub went-on : {s d d' : List ℕ} {whole : Bool} {records at : ℕ} {r : Block} → Went s whole records d at r d' → at ≤ 65280 → goesOn (r .next) ≡ true → (whole ≡ true) ⊎ (32772 ≤ length s) → 0 < r .used
 went-on {s} {whole = whole} {at = at} {r} w h e k = go (r .next) refl e (r .used) refl
   where
-    go : (x : Next) → r .next ≡ x → goesOn x ≡ true → (n : ℕ) → r .used ≡ n → 0 < n
+    go : (x : NextFrame) → r .next ≡ x → goesOn x ≡ true → (n : ℕ) → r .used ≡ n → 0 < n
     go x p q (suc n) u = omega arith
     go (Record size) p q zero u = let l = w .gone .earned (omega (arith, w .full size p)) in absurd (omega arith)
     go TooLong p q zero u = let z : _≡_ {A = ℕ} 0 1 = cc in absurd (omega arith)

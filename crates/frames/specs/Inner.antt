@@ -5,8 +5,8 @@ use mathlib.Core.Bool.{Bool, true, false}
 use mathlib.Core.List.{List, _++_}
 use lib.ListN.{length, take, drop}
 use Rattle.frames.specs.Stream.{nextIn, soFar, Reports}
-use Rattle.frames.specs.declared.Next.{Next}
-use Rattle.frames.specs.declared.Next.the-variants.{Record, TooLong, CutShort, End, More}
+use Rattle.frames.specs.declared.NextFrame.{NextFrame}
+use Rattle.frames.specs.declared.NextFrame.the-variants.{Record, TooLong, CutShort, End, More}
 use Rattle.frames.specs.declared.Block.{Block}
 
 -- Of bytes s at hand so many are used, and their records' lines are put from place at on: whatever follows s, and whatever t is printed of the rest,
@@ -27,7 +27,7 @@ pub record Went (s : List ℕ) (whole : Bool) (records : ℕ) (d : List ℕ) (at
   pub next : r .next ≡ soFar whole (nextIn (drop (r .used) s))
   pub full : (size : ℕ) → r .next ≡ Record size → 65280 < r .put
 
-abbrev pub goesOn : Next → Bool
+abbrev pub goesOn : NextFrame → Bool
 goesOn (Record size) = true
 goesOn More = true
 goesOn TooLong = false

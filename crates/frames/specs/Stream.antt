@@ -9,15 +9,15 @@ use lib.ListN.{length, take, drop}
 use Rattle.sam.specs.Record.{byteAt, le16, le32}
 use Rattle.decimal.specs.Decimal.{decimal}
 use Rattle.lines.specs.Line.{lineOf}
-use Rattle.frames.specs.declared.Next.{Next}
-use Rattle.frames.specs.declared.Next.the-variants.{Record, TooLong, CutShort, End, More}
+use Rattle.frames.specs.declared.NextFrame.{NextFrame}
+use Rattle.frames.specs.declared.NextFrame.the-variants.{Record, TooLong, CutShort, End, More}
 
 -- "`CGR`, version 1 as a little-endian u16"
 unfoldable pub isMarked : List ℕ → Bool
 isMarked s = cond (ltb (length s) 5) false (eqb (byteAt s 0) 67 && (eqb (byteAt s 1) 71 && (eqb (byteAt s 2) 82 && eqb (le16 s 3) 1)))
 
 -- what comes next, s being all that is left of the stream
-unfoldable pub nextIn : List ℕ → Next
+unfoldable pub nextIn : List ℕ → NextFrame
 nextIn s =
     cond (eqb (length s) 0) End
     (cond (ltb (length s) 4) CutShort
@@ -26,7 +26,7 @@ nextIn s =
     (Record (le32 s 0)))))
 
 -- the same where only a first part of the rest may be at hand: the end and a cut are not decided before all is
-abbrev pub soFar : Bool → Next → Next
+abbrev pub soFar : Bool → NextFrame → NextFrame
 soFar true n = n
 soFar false (Record size) = Record size
 soFar false TooLong = TooLong
@@ -39,18 +39,18 @@ unfoldable pub recordsLine : ℕ → List ℕ
 recordsLine n = (114 ∷ 101 ∷ 99 ∷ 111 ∷ 114 ∷ 100 ∷ 115 ∷ 32 ∷ []) ++ (decimal n ++ (10 ∷ []))
 
 -- "too long", "cut short", or nothing at the end of the stream
-abbrev pub closingWord : Next → List ℕ
+abbrev pub closingWord : NextFrame → List ℕ
 closingWord TooLong = 116 ∷ 111 ∷ 111 ∷ 32 ∷ 108 ∷ 111 ∷ 110 ∷ 103 ∷ 10 ∷ []
 closingWord CutShort = 99 ∷ 117 ∷ 116 ∷ 32 ∷ 115 ∷ 104 ∷ 111 ∷ 114 ∷ 116 ∷ 10 ∷ []
 closingWord End = []
 closingWord (Record size) = []
 closingWord More = []
 
-unfoldable pub closing : Next → ℕ → List ℕ
+unfoldable pub closing : NextFrame → ℕ → List ℕ
 closing w n = closingWord w ++ recordsLine n
 
 -- the end of what was read is not the stream's where a read failed: the stream is cut there
-abbrev pub lastWord : Bool → Next → Next
+abbrev pub lastWord : Bool → NextFrame → NextFrame
 lastWord failed (Record size) = Record size
 lastWord failed TooLong = TooLong
 lastWord failed CutShort = CutShort

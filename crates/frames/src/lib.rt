@@ -13,7 +13,7 @@ pub const MOST_BYTES: u32 = 32768;
 pub const FULL: usize = 65280;
 
 // What comes next in a stream: a record of so many bytes behind its size, one of the ways to end, or more of it has to be read first.
-pub enum Next {
+pub enum NextFrame {
     Record(usize),
     TooLong,
     CutShort,
@@ -26,7 +26,7 @@ pub struct Block {
     pub used: usize,
     pub records: u64,
     pub put: usize,
-    pub next: Next,
+    pub next: NextFrame,
 }
 
 // Whether a stream begins with its mark and version.
@@ -49,43 +49,43 @@ pub fn marked(s: &[u8]) -> bool
 }
 
 // What comes next where all that is left is at hand.
-fn next_in(s: &[u8]) -> Next
+fn next_in(s: &[u8]) -> NextFrame
     ensures { λ r. ⌜ r ≡ nextIn (now (s .entry)) ⌝ }
 {
     if s.len() == 0 {
-        return Next::End;
+        return NextFrame::End;
     }
     if s.len() < 4 {
-        return Next::CutShort;
+        return NextFrame::CutShort;
     }
     let size = little::u32_at(s, 0);
     if MOST_BYTES < size {
-        return Next::TooLong;
+        return NextFrame::TooLong;
     }
     let n = size as usize;
     if s.len() < 4 + n {
-        return Next::CutShort;
+        return NextFrame::CutShort;
     }
-    Next::Record(n)
+    NextFrame::Record(n)
 }
 
-fn so_far(whole: bool, n: Next) -> Next
+fn so_far(whole: bool, n: NextFrame) -> NextFrame
     ensures { λ r. ⌜ r ≡ soFar whole n ⌝ }
 {
     if whole {
         return n;
     }
     match n {
-        Next::Record(size) => Next::Record(size),
-        Next::TooLong => Next::TooLong,
-        Next::CutShort => Next::More,
-        Next::End => Next::More,
-        Next::More => Next::More,
+        NextFrame::Record(size) => NextFrame::Record(size),
+        NextFrame::TooLong => NextFrame::TooLong,
+        NextFrame::CutShort => NextFrame::More,
+        NextFrame::End => NextFrame::More,
+        NextFrame::More => NextFrame::More,
     }
 }
 
 // What comes next, of the bytes at hand; `whole` if they are all that is left.
-pub fn comes_next(s: &[u8], whole: bool) -> Next
+pub fn comes_next(s: &[u8], whole: bool) -> NextFrame
     ensures { λ r. ⌜ r ≡ soFar whole (nextIn (now (s .entry))) ⌝ }
 {
     so_far(whole, next_in(s))
@@ -103,7 +103,7 @@ pub fn lines_at_hand(s: &[u8], whole: bool, records: u64, out: &mut [u8], at: us
     let mut put = at;
     while put <= FULL {
         let next = comes_next(&s[used..], whole);
-        let Next::Record(size) = next else {
+        let NextFrame::Record(size) = next else {
             return Block {
                 used: used,
                 records: n,
@@ -126,35 +126,35 @@ pub fn lines_at_hand(s: &[u8], whole: bool, records: u64, out: &mut [u8], at: us
 }
 
 // Whether reading goes on.
-pub fn goes_on(next: Next) -> bool
+pub fn goes_on(next: NextFrame) -> bool
     ensures { λ r. ⌜ r ≡ goesOn next ⌝ }
 {
     match next {
-        Next::Record(_) => true,
-        Next::More => true,
-        Next::TooLong => false,
-        Next::CutShort => false,
-        Next::End => false,
+        NextFrame::Record(_) => true,
+        NextFrame::More => true,
+        NextFrame::TooLong => false,
+        NextFrame::CutShort => false,
+        NextFrame::End => false,
     }
 }
 
 // The word for a stream that could not be read to its end.
-fn put_word(next: Next, out: &mut [u8], at: usize) -> usize
+fn put_word(next: NextFrame, out: &mut [u8], at: usize) -> usize
     requires { ⌜ at + 10 ≤ length (now out) ⌝ }
     ensures { λ r. ⌜ Put (now (out .entry)) at (closingWord next) r (now (out .exit)) ⌝ }
     ensures { λ r. ⌜ r ≤ at + 10 ⌝ }
 {
     match next {
-        Next::TooLong => puts::put_bytes(b"too long\n", out, at),
-        Next::CutShort => puts::put_bytes(b"cut short\n", out, at),
-        Next::End => at,
-        Next::Record(_) => at,
-        Next::More => at,
+        NextFrame::TooLong => puts::put_bytes(b"too long\n", out, at),
+        NextFrame::CutShort => puts::put_bytes(b"cut short\n", out, at),
+        NextFrame::End => at,
+        NextFrame::Record(_) => at,
+        NextFrame::More => at,
     }
 }
 
 // The last lines.
-pub fn close(next: Next, records: u64, out: &mut [u8], at: usize) -> usize
+pub fn close(next: NextFrame, records: u64, out: &mut [u8], at: usize) -> usize
     requires { ⌜ at + 39 ≤ length (now out) ⌝ }
     ensures { λ r. ⌜ Put (now (out .entry)) at (closing next records) r (now (out .exit)) ⌝ }
     ensures { λ r. ⌜ r ≤ at + 39 ⌝ }

@@ -36,7 +36,7 @@ use Rattle.puts.specs.Puts.{Put, signedDecimal}
 use Rattle.puts.proofs.PutLaws.{put-then, put-as, put-dropped}
 use Rattle.lines.specs.Line.{textRoom, textTold, refsTold, fiveTold, binTold, refusalOf, shown, orStar, oneIf, tabbed, refusedFields, lineOf}
 use Rattle.lines.specs.Inner.{rowOf, figuresOf, rowFields}
-use Rattle.lines.specs.declared.Row.{Row}
+use Rattle.lines.specs.declared.LineRow.{LineRow}
 use Rattle.lines.specs.declared.Figures.the-variants as Figures
 use Rattle.answers.proofs.Numbers.{not-zero}
 use Rattle.lines.proofs.OrderLaws.{any-room, text-refused, text-shown, firstGiven, query-is, refusal-long, refusal-short}
@@ -158,7 +158,7 @@ row-refused (Int.Number z) q (Place1.Refused r) k s w e = let g : r ≡ w = cc i
 row-refused (Int.Number z) q (Place1.At p) (Nat.Refused r) s w e = let g : r ≡ w = cc in ap numberOf g
 row-refused (Int.Number z) q (Place1.At p) (Nat.Number m) s w e = never (cc)
 
-row-given : (i : Int) (q : ℕ) (u : Place1) (k : Nat) (s : Bool) (w : Row) → rowOf i q u k s ≡ Figures.Row w
+row-given : (i : Int) (q : ℕ) (u : Place1) (k : Nat) (s : Bool) (w : LineRow) → rowOf i q u k s ≡ Figures.Row w
     → firstGiven 0 (tellInt i .number) (tellPlace1 u .number) (tellNat k .number) ≡ 0
 unfolding rowOf
 row-given (Int.Refused r) q u k s w e = never (cc)
@@ -166,14 +166,14 @@ row-given (Int.Number z) q (Place1.Refused r) k s w e = never (cc)
 row-given (Int.Number z) q (Place1.At p) (Nat.Refused r) s w e = never (cc)
 row-given (Int.Number z) q (Place1.At p) (Nat.Number m) s w e = refl
 
-row-shown : (i : Int) (q : ℕ) (u : Place1) (k : Nat) (s : Bool) (w : Row) → rowOf i q u k s ≡ Figures.Row w
+row-shown : (i : Int) (q : ℕ) (u : Place1) (k : Nat) (s : Bool) (w : LineRow) → rowOf i q u k s ≡ Figures.Row w
     → shown (tellInt i) ∷ decimal q ∷ shown (tellPlace1 u) ∷ shown (tellNat k) ∷ decimal (oneIf s) ∷ [] ≡ rowFields w
 unfolding rowOf signedDecimal
 row-shown (Int.Refused r) q u k s w e = never (cc)
 row-shown (Int.Number z) q (Place1.Refused r) k s w e = never (cc)
 row-shown (Int.Number z) q (Place1.At p) (Nat.Refused r) s w e = never (cc)
 row-shown (Int.Number z) q (Place1.At p) (Nat.Number m) s w e =
-    let g : _≡_ {A = Row} (record { refs = z; query = q; five = p .0; bin = m; same = s }) w = cc in ap rowFields g
+    let g : _≡_ {A = LineRow} (record { refs = z; query = q; five = p .0; bin = m; same = s }) w = cc in ap rowFields g
 
 module _ (n : ℕ) (b : List ℕ) (h : 32 ≤ length b) (k : ℕ) (e : printed b textRoom .answer ≡ Count.Number k) where
   given : refusalOf b ≡ firstGiven 0 (refsTold b .number) (fiveTold b .number) (binTold b .number)
@@ -184,7 +184,7 @@ module _ (n : ℕ) (b : List ℕ) (h : 32 ≤ length b) (k : ℕ) (e : printed b
   unfolding figuresOf
   line-no-row w f = refused-line n b w (given ∙ row-refused (checkedRefLength b) _ (asRust (unclippedOf b)) (recordBin b) _ w f)
 
-  pub line-row : (w : Row) → figuresOf b ≡ Figures.Row w → lineOf n b ≡ decimal n ++ ((9 ∷ orStar (textOf (recordOps b))) ++ tabbed (rowFields w))
+  pub line-row : (w : LineRow) → figuresOf b ≡ Figures.Row w → lineOf n b ≡ decimal n ++ ((9 ∷ orStar (textOf (recordOps b))) ++ tabbed (rowFields w))
   unfolding figuresOf lineOf tabbed signedDecimal
   line-row w f =
       let z : refusalOf b ≡ 0 = given ∙ row-given (checkedRefLength b) _ (asRust (unclippedOf b)) (recordBin b) _ w f in

@@ -22,7 +22,7 @@ use Rattle.decimal.specs.Decimal.{decimal}
 use Rattle.print.specs.Text.{textOf, printed}
 use Rattle.puts.specs.Puts.{Put, signedDecimal}
 use Rattle.lines.specs.Line.{textRoom, orStar, oneIf}
-use Rattle.lines.specs.declared.Row.{Row}
+use Rattle.lines.specs.declared.LineRow.{LineRow}
 use Rattle.lines.specs.declared.Figures.{Figures}
 use Rattle.lines.specs.declared.Figures.the-variants as Figures
 use Rattle.lines.specs.declared.Text.{Text}
@@ -40,7 +40,7 @@ figuresOf b =
     rowOf (checkedRefLength b) (sumOf queryLen (recordOps b)) (asRust (unclippedOf b)) (recordBin b) (eqb (sumOf queryLen (recordOps b)) (seqLenOf b))
 
 -- the fields behind the text
-abbrev pub rowFields : Row → List (List ℕ)
+abbrev pub rowFields : LineRow → List (List ℕ)
 rowFields w = signedDecimal (w .refs) ∷ decimal (w .query) ∷ signedDecimal (w .five) ∷ decimal (w .bin) ∷ decimal (oneIf (w .same)) ∷ []
 
 -- a tab and the text, or `*`; or why not, with nothing changed before the place

@@ -15,7 +15,7 @@ use ends::Place1;
 pub const TEXT_ROOM: usize = 65536;
 
 // What the line has behind the text.
-pub struct Row {
+pub struct LineRow {
     pub refs: i32,
     pub query: u64,
     pub five: i32,
@@ -24,7 +24,7 @@ pub struct Row {
 }
 
 pub enum Figures {
-    Row(Row),
+    Row(LineRow),
     Refused(Refusal),
 }
 
@@ -62,7 +62,7 @@ fn row_of(rec: &[u8]) -> Figures
         Place1::Refused(why) => Figures::Refused(why),
         Place1::At(five) => match bin::bin_from_raw_bam(rec) {
             Nat::Refused(why) => Figures::Refused(why),
-            Nat::Number(bin) => Figures::Row(Row {
+            Nat::Number(bin) => Figures::Row(LineRow {
                 refs: total.refs as i32,
                 query: query,
                 five: five.0,
@@ -91,7 +91,7 @@ fn put_text(rec: &[u8], out: &mut [u8], at: usize) -> Text
     }
 }
 
-fn put_row(row: Row, out: &mut [u8], at: usize) -> usize
+fn put_row(row: LineRow, out: &mut [u8], at: usize) -> usize
     requires { ⌜ at + 108 ≤ length (now out) ⌝ }
     ensures { λ r. ⌜ Put (now (out .entry)) at (tabbed (rowFields row)) r (now (out .exit)) ⌝ }
     ensures { λ r. ⌜ r ≤ at + 108 ⌝ }

@@ -14,17 +14,17 @@ use Rattle.blocks.specs.Fill.{Gathers, First}
 use Rattle.blocks.specs.declared.Read.{Read}
 use Rattle.blocks.proofs.BlockLaws.{drop-take, gathered}
 use Rattle.frames.specs.Stream.{isMarked, Reports, badInput, Prints}
-use Rattle.report.specs.Run.{atHand, waiting, begun, Refilled, given, Turned, added, dueOf, relievedOf, Ran, Ran.starts, Ran.turns, Came}
+use Rattle.report.specs.Run.{atHand, waiting, begun, Refilled, readBehind, Turned, added, dueOf, relievedOf, Ran, Ran.starts, Ran.turns, Came}
 use Rattle.report.specs.declared.State.{State}
 use Rattle.report.proofs.TurnLaws.{grown}
 
 -- ---- one turn
 
-given-behind : {s r : State} {block block' : List ℕ} → Refilled s block r block' → atHand r block' ≡ atHand s block ++ given s r block'
+given-behind : {s r : State} {block block' : List ℕ} → Refilled s block r block' → atHand r block' ≡ atHand s block ++ readBehind s r block'
 given-behind {s} {r} {block} {block'} f =
     let g = grown f in
     sym (take-append-drop (s .have) (atHand r block'))
-    ∙ ap (λ (l : List ℕ). l ++ given s r block') (take-take (s .have) (r .have) block' (g .grows) ∙ g .kept)
+    ∙ ap (λ (l : List ℕ). l ++ readBehind s r block') (take-take (s .have) (r .have) block' (g .grows) ∙ g .kept)
 
 added-behind : {s r : State} {block block' out out' : List ℕ} → Turned s block out r block' out' → waiting r out' ≡ waiting s out ++ added s r out'
 added-behind {s} {r} {out' = out'} w = sym (take-append-drop (s .put) (waiting r out')) ∙ ap (λ (l : List ℕ). l ++ added s r out') (w .kept)
@@ -59,10 +59,10 @@ module _ {s s₁ s₂ : State} {block block₁ block₂ out out₁ : List ℕ} (
   waited = added-behind w ∙ ap (λ (k : ℕ). take k out ++ added s₁ s₂ out₁) (grown f .put)
 
   -- what is printed of the bytes at hand behind the read is printed of those before it, with the read behind them
-  before-read : (failed : Bool) (ys t : List ℕ) → Reports failed (s₁ .records) (atHand s₁ block₁ ++ ys) t → Reports failed (s .records) (atHand s block ++ (given s s₁ block₁ ++ ys)) t
+  before-read : (failed : Bool) (ys t : List ℕ) → Reports failed (s₁ .records) (atHand s₁ block₁ ++ ys) t → Reports failed (s .records) (atHand s block ++ (readBehind s s₁ block₁ ++ ys)) t
   before-read failed ys t p =
-      subst (λ (n : ℕ). Reports failed n (atHand s block ++ (given s s₁ block₁ ++ ys)) t) (grown f .records)
-      (subst (λ (l : List ℕ). Reports failed (s₁ .records) l t) (ap (λ (l : List ℕ). l ++ ys) (given-behind f) ∙ append-assoc (atHand s block) (given s s₁ block₁) ys) p)
+      subst (λ (n : ℕ). Reports failed n (atHand s block ++ (readBehind s s₁ block₁ ++ ys)) t) (grown f .records)
+      (subst (λ (l : List ℕ). Reports failed (s₁ .records) l t) (ap (λ (l : List ℕ). l ++ ys) (given-behind f) ∙ append-assoc (atHand s block) (readBehind s s₁ block₁) ys) p)
 
   regroup : (written t : List ℕ) → written ++ (waiting s out ++ (added s₁ s₂ out₁ ++ t)) ≡ written ++ take (dueOf s₂) out₁ ++ (waiting (relievedOf s₂) out₁ ++ t)
   regroup written t =
@@ -112,36 +112,36 @@ module _ {read block : List ℕ} {r : Read} (g : Gathers read r block) (m : isMa
 -- a run goes on from a marked stream
 marked : {read written block out : List ℕ} {s : State} → Ran read written s block out → (ys : List ℕ) → isMarked (read ++ ys) ≡ true
 marked (starts {read} g m moved) ys = same-mark read ys (mark-first g m) ∙ ap isMarked (sym (gathered g)) ∙ m
-marked (turns {read} {block₁ = block₁} {s = s} {s₁} ran on f w) ys = ap isMarked (append-assoc read (given s s₁ block₁) ys) ∙ marked ran (given s s₁ block₁ ++ ys)
+marked (turns {read} {block₁ = block₁} {s = s} {s₁} ran on f w) ys = ap isMarked (append-assoc read (readBehind s s₁ block₁) ys) ∙ marked ran (readBehind s s₁ block₁ ++ ys)
 
 -- whatever follows, and whatever t is printed of the rest: what was written, what waits and t are printed of all
 pub so-far : {read written block out : List ℕ} {s : State} → Ran read written s block out → s .going ≡ true → (failed : Bool) (ys t : List ℕ) → Reports failed (s .records) (atHand s block ++ ys) t
     → Reports failed 0 (drop 5 (read ++ ys)) (written ++ (waiting s out ++ t))
 so-far (starts {block₁ = block₁} g m moved) e failed ys t p = subst (λ (l : List ℕ). Reports failed 0 l t) (behind-mark g m block₁ ys moved) p
 so-far (turns {read} {written} {block₁ = block₁} {out₁ = out₁} {s = s} {s₁} {s₂} ran on f w) e failed ys t p =
-    subst (λ (l : List ℕ). Reports failed 0 (drop 5 l) (written ++ take (dueOf s₂) out₁ ++ (waiting (relievedOf s₂) out₁ ++ t))) (sym (append-assoc read (given s s₁ block₁) ys))
-    (subst (λ (l : List ℕ). Reports failed 0 (drop 5 (read ++ (given s s₁ block₁ ++ ys))) l) (regroup f w written t)
-    (so-far ran on failed (given s s₁ block₁ ++ ys) (added s₁ s₂ out₁ ++ t) (before-read f w failed ys (added s₁ s₂ out₁ ++ t) (w .goes e failed ys t p))))
+    subst (λ (l : List ℕ). Reports failed 0 (drop 5 l) (written ++ take (dueOf s₂) out₁ ++ (waiting (relievedOf s₂) out₁ ++ t))) (sym (append-assoc read (readBehind s s₁ block₁) ys))
+    (subst (λ (l : List ℕ). Reports failed 0 (drop 5 (read ++ (readBehind s s₁ block₁ ++ ys))) l) (regroup f w written t)
+    (so-far ran on failed (readBehind s s₁ block₁ ++ ys) (added s₁ s₂ out₁ ++ t) (before-read f w failed ys (added s₁ s₂ out₁ ++ t) (w .goes e failed ys t p))))
 
 -- at the end: where a read gave nothing, nothing follows
 pub printed : {read written block out : List ℕ} {s : State} → Ran read written s block out → s .going ≡ false → (ys : List ℕ) → (s .whole ≡ true → ys ≡ [])
     → Reports (s .failed) 0 (drop 5 (read ++ ys)) written
 printed (starts g m moved) e ys none = let z : _≡_ {A = ℕ} 0 1 = cc in absurd (omega arith)
 printed (turns {read} {written} {block₁ = block₁} {out = out} {out₁} {s} {s₁} {s₂} ran on f w) e ys none =
-    subst (λ (b : Bool). Reports b 0 (drop 5 (read ++ given s s₁ block₁ ++ ys)) (written ++ take (dueOf s₂) out₁)) (sym (w .same .1))
-    (subst (λ (l : List ℕ). Reports (s₁ .failed) 0 (drop 5 l) (written ++ take (dueOf s₂) out₁)) (sym (append-assoc read (given s s₁ block₁) ys))
-    (subst (λ (l : List ℕ). Reports (s₁ .failed) 0 (drop 5 (read ++ (given s s₁ block₁ ++ ys))) (written ++ l)) (sym (ap (λ (k : ℕ). take k out₁) (due-last s₂ e) ∙ waited f w))
-    (so-far ran on (s₁ .failed) (given s s₁ block₁ ++ ys) (added s₁ s₂ out₁) (before-read f w (s₁ .failed) ys (added s₁ s₂ out₁) (w .ends e ys (λ h. none (w .same .0 ∙ h)))))))
+    subst (λ (b : Bool). Reports b 0 (drop 5 (read ++ readBehind s s₁ block₁ ++ ys)) (written ++ take (dueOf s₂) out₁)) (sym (w .same .1))
+    (subst (λ (l : List ℕ). Reports (s₁ .failed) 0 (drop 5 l) (written ++ take (dueOf s₂) out₁)) (sym (append-assoc read (readBehind s s₁ block₁) ys))
+    (subst (λ (l : List ℕ). Reports (s₁ .failed) 0 (drop 5 (read ++ (readBehind s s₁ block₁ ++ ys))) (written ++ l)) (sym (ap (λ (k : ℕ). take k out₁) (due-last s₂ e) ∙ waited f w))
+    (so-far ran on (s₁ .failed) (readBehind s s₁ block₁ ++ ys) (added s₁ s₂ out₁) (before-read f w (s₁ .failed) ys (added s₁ s₂ out₁) (w .ends e ys (λ h. none (w .same .0 ∙ h)))))))
 
 -- each turn reads a byte, or uses one
 pub turn-paid : {s s₁ s₂ : State} {block block₁ block₂ out out₁ : List ℕ} (k n : ℕ) → Refilled s block s₁ block₁ → Turned s₁ block₁ out s₂ block₂ out₁ → s₂ .going ≡ true → s₂ .have ≤ s₁ .have
-    → s₁ .have ≤ length block₁ → k + s .have ≤ 2 * n → k + 1 + s₂ .have ≤ 2 * (n + length (given s s₁ block₁))
+    → s₁ .have ≤ length block₁ → k + s .have ≤ 2 * n → k + 1 + s₂ .have ≤ 2 * (n + length (readBehind s s₁ block₁))
 turn-paid {s} {s₁} {s₂} {block₁ = block₁} k n f w e less fits h = go (grown f .more)
   where
-    l : length (given s s₁ block₁) ≡ s₁ .have - s .have
+    l : length (readBehind s s₁ block₁) ≡ s₁ .have - s .have
     l = length-drop (s .have) (take (s₁ .have) block₁) ∙ ap (λ (k : ℕ). k - s .have) (length-take-le (s₁ .have) block₁ fits)
 
-    go : ((s₁ .whole ≡ true) ⊎ (32772 ≤ s₁ .have)) ⊎ (s .have < s₁ .have) → k + 1 + s₂ .have ≤ 2 * (n + length (given s s₁ block₁))
+    go : ((s₁ .whole ≡ true) ⊎ (32772 ≤ s₁ .have)) ⊎ (s .have < s₁ .have) → k + 1 + s₂ .have ≤ 2 * (n + length (readBehind s s₁ block₁))
     go (inl q) = omega (arith, w .uses e q, grown f .grows, l)
     go (inr q) = omega (arith, grown f .grows, l)
 
@@ -165,7 +165,7 @@ module _ {s s₁ s₂ r : State} {block block₁ block₂ out out₁ : List ℕ}
       let h : s₂ .going ≡ true = sym (ap (λ (q : State). q .going) e) ∙ g in
       subst (λ (q : State). Along (n + 1) q block₂ out₁) (sym e)
       (record {
-        read = a .read ++ given s s₁ block₁;
+        read = a .read ++ readBehind s s₁ block₁;
         written = a .written ++ take (dueOf s₂) out₁;
         ran = turns (a .ran) (a .on) f w;
         on = h;
@@ -174,9 +174,9 @@ module _ {s s₁ s₂ r : State} {block block₁ block₂ out out₁ : List ℕ}
 
   pub along-off : r .going ≡ false → Came r block₂ out₁
   along-off g = record {
-    read = a .read ++ given s s₁ block₁;
+    read = a .read ++ readBehind s s₁ block₁;
     written = a .written ++ take (dueOf s₂) out₁;
-    ran = subst (λ (q : State). Ran (a .read ++ given s s₁ block₁) (a .written ++ take (dueOf s₂) out₁) q block₂ out₁) (sym e) (turns (a .ran) (a .on) f w);
+    ran = subst (λ (q : State). Ran (a .read ++ readBehind s s₁ block₁) (a .written ++ take (dueOf s₂) out₁) q block₂ out₁) (sym e) (turns (a .ran) (a .on) f w);
     last = λ h. let z : _≡_ {A = ℕ} 0 1 = cc in absurd (omega arith);
   }
 

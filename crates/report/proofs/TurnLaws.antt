@@ -11,7 +11,7 @@ use Rattle.blocks.proofs.BlockLaws.{drop-take, fill-more, fill-some}
 use Rattle.puts.specs.Puts.{Put}
 use Rattle.frames.specs.Stream.{closing, lastWord, Reports}
 use Rattle.frames.specs.Inner.{Went, goesOn}
-use Rattle.frames.specs.declared.Next.{Next}
+use Rattle.frames.specs.declared.NextFrame.{NextFrame}
 use Rattle.frames.specs.declared.Block.{Block}
 use Rattle.frames.proofs.FrameLaws.{ends-there, went-on}
 use Rattle.report.specs.Run.{atHand, Enough, Refilled, Refilled.enough, Refilled.reads, Turned}
@@ -74,6 +74,6 @@ module _ (s : State) (block out : List ℕ) (w : Block) (out₁ : List ℕ) (wen
             subst (λ (l : List ℕ). Reports (s .failed) (s .records) (take (s .have) block ++ ys) l)
             (sym (ap (drop (s .put)) m ∙ drop-append-le (s .put) (take (w .put) out₁) last (omega arith)))
             (g .lines (s .failed) ys last
-            (subst (λ (x : Next). Reports (s .failed) (w .records) (drop (w .used) (take (s .have) block) ++ ys) (closing (lastWord (s .failed) x) (w .records))) (sym (went .next))
+            (subst (λ (x : NextFrame). Reports (s .failed) (w .records) (drop (w .used) (take (s .have) block) ++ ys) (closing (lastWord (s .failed) x) (w .records))) (sym (went .next))
             (ends-there (s .failed) (s .whole) (w .records) (drop (w .used) (take (s .have) block)) ys none (sym (ap goesOn (went .next)) ∙ off))));
       }

@@ -1,6 +1,6 @@
 -- A run of the program, turn by turn, over the bytes that its reads gave and the bytes that it handed to be written. The kit's contracts say nothing of a file's bytes. So it is assumed, and not proved,
 -- what `blocks` says of a read, and that what is handed to `write_all` is written where it answers true.
-use Prim.Native.Nat.{ℕ, _+_, _-_, _≤_, _<_}
+use Prim.Native.Nat.{ℕ, _-_, _≤_, _<_}
 use mathlib.Core.Path.{_≡_}
 use mathlib.Core.Bool.{Bool, true, false, cond}
 use mathlib.Core.Logic.{_⊎_}
@@ -35,8 +35,8 @@ pub data Refilled (s : State) (block : List ℕ) : State → List ℕ → Type 0
   enough : Enough s → Refilled s block s block
   reads : {r : Read} {block' : List ℕ} → s .have < 32772 → Filled block (s .have) r block' → Refilled s block (behindRead s r) block'
 
-abbrev pub given : State → State → List ℕ → List ℕ
-given s r block' = drop (s .have) (atHand r block')
+abbrev pub readBehind : State → State → List ℕ → List ℕ
+readBehind s r block' = drop (s .have) (atHand r block')
 
 -- A turn: lines are put behind those that wait. Whatever follows the bytes at hand, nothing where they are all that is left: where reading goes on, and t is printed of the rest, these
 -- lines and t are printed of all; where it ends, these lines are.
@@ -70,7 +70,7 @@ pub data Ran : List ℕ → List ℕ → State → List ℕ → List ℕ → Typ
       → s .going ≡ true
       → Refilled s block s₁ block₁
       → Turned s₁ block₁ out s₂ block₂ out₁
-      → Ran (read ++ given s s₁ block₁) (written ++ take (dueOf s₂) out₁) (relievedOf s₂) block₂ out₁
+      → Ran (read ++ readBehind s s₁ block₁) (written ++ take (dueOf s₂) out₁) (relievedOf s₂) block₂ out₁
 
 -- the program came here so; it ends behind the last lines, or behind 2^46 bytes
 pub record Came (s : State) (block out : List ℕ) : Type 0 where

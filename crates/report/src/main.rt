@@ -8,7 +8,7 @@ ghost use Rattle.blocks.specs.Fill.{First};
 ghost use Rattle.frames.specs.Stream.{isMarked, lastWord, badInput};
 ghost use Rattle.report.specs.Run.{begun, Refilled, Turned, dueOf, relievedOf, Came};
 use blocks::Read;
-use frames::Next;
+use frames::NextFrame;
 
 // The most bytes that a record and its size take: with so many at hand none has to be read.
 const ENOUGH: usize = 32772;
@@ -85,20 +85,20 @@ fn refill(s: State, block: &mut [u8]) -> State
 }
 
 // What a stream ends with: the end of what was read is a cut where a read failed.
-fn last_word(failed: bool, next: Next) -> Next
+fn last_word(failed: bool, next: NextFrame) -> NextFrame
     ensures { λ r. ⌜ r ≡ lastWord failed next ⌝ }
 {
     match next {
-        Next::Record(size) => Next::Record(size),
-        Next::TooLong => Next::TooLong,
-        Next::CutShort => Next::CutShort,
-        Next::End => {
+        NextFrame::Record(size) => NextFrame::Record(size),
+        NextFrame::TooLong => NextFrame::TooLong,
+        NextFrame::CutShort => NextFrame::CutShort,
+        NextFrame::End => {
             if failed {
-                return Next::CutShort;
+                return NextFrame::CutShort;
             }
-            Next::End
+            NextFrame::End
         }
-        Next::More => Next::More,
+        NextFrame::More => NextFrame::More,
     }
 }
 

@@ -6,13 +6,13 @@ use native.Mathlib.Omega.{arith}
 use lib.ListN.{length, take, drop, length-drop}
 use lib.Seq.{take-all}
 use borrow.Author.Tests.{not-true, not-false}
-use Rattle.bam_header.specs.Inner.{Gone, isReady}
+use Rattle.bam_header.specs.Inner.{HeadGone, isReady}
 use Rattle.bam_header.proofs.HeadLaws.{gone-start, gone-turn, went}
 use Rattle.bam_header.proofs.read_on.Statement.{statement}
 use Rattle.bam_header.proofs.read_on.Tie as tie
 
 abbrev Inv-loop : tie.InvT-loop
-Inv-loop s used₀ place₀ used place = Gone s place₀ (record { used = used; place = place })
+Inv-loop s used₀ place₀ used place = HeadGone s place₀ (record { used = used; place = place })
 
 abbrev μ-loop : tie.MeasureT-loop
 μ-loop s used₀ place₀ used place = length s - used
@@ -57,11 +57,11 @@ turn-requires c κs =
 
 reached : (c : tie.After-turn Inv-loop μ-loop)
     → (let l = c .before .before .before .before in
-    Gone (l .before .before .args .s .now) (l .before .before .args .from) (record { used = l .loop .used + c .turn .result .used; place = c .turn .result .place }))
+    HeadGone (l .before .before .args .s .now) (l .before .before .args .from) (record { used = l .loop .used + c .turn .result .used; place = c .turn .result .place }))
 reached c =
     let l = c .before .before .before .before in
     let a = l .before .before .args in
-    let g = subst (λ (t : List ℕ). Gone t (l .loop .place) (c .turn .result)) (all-of (a .s .now) (l .loop .used)) (c .turn .ensures .0) in
+    let g = subst (λ (t : List ℕ). HeadGone t (l .loop .place) (c .turn .result)) (all-of (a .s .now) (l .loop .used)) (c .turn .ensures .0) in
     gone-turn (a .s .now) (a .from) (l .loop .place) (l .loop .used) (c .turn .result) (l .loop .inv) g
 
 add-used : tie.Need-add-used Inv-loop μ-loop

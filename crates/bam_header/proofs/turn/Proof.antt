@@ -5,9 +5,9 @@ use mathlib.Core.List.{_++_}
 use native.Mathlib.Omega.{arith}
 use lib.ListN.{length, drop}
 use Rattle.sam.specs.Record.{le32}
-use Rattle.bam_header.specs.Header.{past}
+use Rattle.bam_header.specs.Header.{pastBytes}
 use Rattle.bam_header.specs.Inner.{fromPart, fromPlace, behindNumber}
-use Rattle.bam_header.specs.declared.Place.{Place}
+use Rattle.bam_header.specs.declared.HeadPlace.{HeadPlace}
 use Rattle.bam_header.proofs.HeadLaws.{past-none, past-some, part-in, ready-skip, ready-number}
 use borrow.Author.Needs.{needs}
 use Rattle.bam_header.proofs.turn.Statement.{statement}
@@ -50,10 +50,10 @@ returns-2 c =
       record {
         within = r .1;
         same = λ ys.
-            ap (λ (k : ℕ). past k (fromPart (p .part)) (s ++ ys)) z
+            ap (λ (k : ℕ). pastBytes k (fromPart (p .part)) (s ++ ys)) z
             ∙ past-none (fromPart (p .part)) (s ++ ys)
             ∙ part-in (p .part) s ys (r .0) (r .1)
-            ∙ ap (λ (q : Place). fromPlace q (drop 4 s ++ ys)) e;
+            ∙ ap (λ (q : HeadPlace). fromPlace q (drop 4 s ++ ys)) e;
       },
       omega arith,
     )

@@ -4,12 +4,12 @@ use mathlib.Core.Path.{_≡_}
 use native.Mathlib.Omega.{arith}
 use lib.ListN.{length}
 use borrow.Author.Tests.{not-true, not-false}
-use Rattle.bam_to_cgr.proofs.RunLaws.{Along, along-start, along-on, along-off, along-last}
+use Rattle.bam_to_cgr.proofs.RunLaws.{BamAlong, along-start, along-on, along-off, along-last}
 use Rattle.bam_to_cgr.proofs.convert.Statement.{statement}
 use Rattle.bam_to_cgr.proofs.convert.Tie as tie
 
 abbrev Inv-loop : tie.InvT-loop
-Inv-loop block₀ s₀ turns₀ block s turns = (65536 ≡ length block) × (turns ≤ 140737488355328) × Along turns s block
+Inv-loop block₀ s₀ turns₀ block s turns = (65536 ≡ length block) × (turns ≤ 140737488355328) × BamAlong turns s block
 
 abbrev μ-loop : tie.MeasureT-loop
 μ-loop block₀ s₀ turns₀ block s turns = 140737488355328 - turns

@@ -7,7 +7,7 @@ use borrow.Author.Tests.{not-true, not-false}
 use borrow.Author.Needs.{needs}
 use Rattle.bam_header.specs.Inner.{isBegun}
 use Rattle.bam_to_cgr.specs.Run.{behindOf}
-use Rattle.bam_to_cgr.specs.declared.State.{State}
+use Rattle.bam_to_cgr.specs.declared.BamState.{BamState}
 use Rattle.bam_to_cgr.proofs.RunLaws.{relieved-not, behind-mark, behind-left, behind-both}
 use Rattle.bam_to_cgr.proofs.write_due.Statement.{statement}
 use Rattle.bam_to_cgr.proofs.write_due.Tie as tie
@@ -47,8 +47,8 @@ write-left-requires-2 c κs =
     let m = w .before .before .before in
     let s = m .before .before .before .before .before .args .s in
     let e = w .write .ensures ∙ behind-mark s (m .if2 .left) in (
-      ap (λ (q : State). isBegun (q .place)) e ∙ begins (m .before),
-      (ap (λ (q : State). q .marked) e, (omega (arith, ap (λ (q : State). q .used) e, ap (λ (q : State). q .have) e), omega (arith, ap (λ (q : State). q .have) e))),
+      ap (λ (q : BamState). isBegun (q .place)) e ∙ begins (m .before),
+      (ap (λ (q : BamState). q .marked) e, (omega (arith, ap (λ (q : BamState). q .used) e, ap (λ (q : BamState). q .have) e), omega (arith, ap (λ (q : BamState). q .have) e))),
     )
 
 returns-4 : tie.Need-returns-4

@@ -12,7 +12,7 @@ use Rattle.lines.specs.Line.{lineOf}
 use Rattle.puts.proofs.PutLaws.{put-as}
 use Rattle.frames.specs.Stream.{nextIn, soFar}
 use Rattle.frames.specs.Inner.{Gone}
-use Rattle.frames.specs.declared.Next.the-variants.{Record}
+use Rattle.frames.specs.declared.NextFrame.the-variants.{Record}
 use Rattle.frames.proofs.FrameLaws.{far-record, gone-start, gone-turn, record-in}
 use Rattle.frames.proofs.lines_at_hand.Statement.{statement}
 use Rattle.frames.proofs.lines_at_hand.Tie as tie

@@ -6,7 +6,7 @@ use lib.ListN.{length-take}
 use borrow.Author.Tests.{not-true, not-false}
 use Rattle.puts.proofs.PutLaws.{put-as}
 use Rattle.frames.specs.Stream.{closing}
-use Rattle.frames.specs.declared.Next.{Next}
+use Rattle.frames.specs.declared.NextFrame.{NextFrame}
 use Rattle.report.proofs.TurnLaws.{within, turned-on, turned-off}
 use borrow.Author.Needs.{needs}
 use Rattle.report.proofs.turn.Statement.{statement}
@@ -52,7 +52,7 @@ returns c =
     let u = used-in l in (
       turned-off (a .s) (a .block .now) (a .out .now) r _ (l .lines-at-hand .ensures) (omega arith) (k .close .result) _ (omega arith)
           (sym (k .before .before .before .before .goes-on .ensures) ∙ not-true _ (k .before .before .before .if1 .taken))
-          (put-as _ (ap (λ (x : Next). closing x (r .records)) (k .before .before .last-word .ensures)) refl refl (k .close .ensures .0)),
+          (put-as _ (ap (λ (x : NextFrame). closing x (r .records)) (k .before .before .last-word .ensures)) refl refl (k .close .ensures .0)),
       (omega arith, omega (arith, g .upto, k .close .ensures .1), omega (arith, g .counted)),
     )
 
