@@ -3,7 +3,8 @@ ghost use mathlib.Core.Path.{_≡_};
 ghost use Rattle.answers.specs.Settled.{Settled};
 ghost use Rattle.answers.specs.Answers.{tellCount, tellFlag};
 ghost use Rattle.print.specs.Text.{printed};
-ghost use Rattle.strict_text.specs.Parsed.{parsed, validity};
+ghost use Rattle.validity.specs.Validity.{validity};
+ghost use Rattle.strict_text.specs.Parsed.{parsed};
 ghost use Rattle.border.specs.Border.{countOf, flagOf, across};
 use border::ToldCount;
 use border::ToldFlag;
@@ -26,5 +27,5 @@ pub extern "C" fn cigar_parse_cigar_string_ops(text: &[u8], out: &mut [u32]) -> 
 pub extern "C" fn cigar_is_valid_mapped_cigar(ops: &[u32]) -> ToldFlag
     ensures { λ r. ⌜ r ≡ flagOf (tellFlag (validity (now (ops .entry)))) ⌝ }
 {
-    border::told_flag(strict_text::is_valid_mapped_cigar(ops))
+    border::told_flag(validity::is_valid_mapped_cigar(ops))
 }

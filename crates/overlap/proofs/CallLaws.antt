@@ -23,9 +23,10 @@ use Rattle.answers.specs.declared.Count.the-variants as Count
 use Rattle.oplist.specs.Ops.{mostOps}
 use Rattle.ends.specs.declared.Place1.{Place1}
 use Rattle.ends.specs.Ends.{oneBased}
-use Rattle.strict_text.specs.Text.{textOps}
-use Rattle.strict_text.specs.Valid.{validMapped}
-use Rattle.strict_text.specs.Parsed.{strict, measuredText}
+use Rattle.text_rules.specs.Text.{textOps}
+use Rattle.text_rules.specs.Valid.{validMapped}
+use Rattle.text_rules.specs.Strict.{strict}
+use Rattle.strict_text.specs.Parsed.{measuredText}
 use Rattle.strict_text.specs.declared.Measured.{Measured}
 use Rattle.strict_text.specs.declared.Measured.the-variants as Measured
 use Rattle.strict_text.proofs.PassLaws.{ops-bad, ops-some}

@@ -16,9 +16,9 @@ use Rattle.answers.specs.declared.Count.the-variants as Count
 use Rattle.answers.specs.declared.Flag.{Flag}
 use Rattle.answers.specs.declared.Flag.the-variants as Flag
 use Rattle.oplist.specs.Ops.{mostOps}
-use Rattle.strict_text.specs.Text.{textOps}
-use Rattle.strict_text.specs.Valid.{validMapped}
-use Rattle.strict_text.specs.Parsed.{strict}
+use Rattle.text_rules.specs.Text.{textOps}
+use Rattle.text_rules.specs.Valid.{validMapped}
+use Rattle.text_rules.specs.Strict.{strict}
 use Rattle.pairs.specs.Pairs.{isPrimaryFr}
 use Rattle.overhang.specs.Overhang.{overhangOf, basesExtending}
 use Rattle.overhang.proofs.Most.{overhang-most}

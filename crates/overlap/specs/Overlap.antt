@@ -21,9 +21,9 @@ use Rattle.oplist.specs.Ops.{mostOps}
 use Rattle.ends.specs.declared.Place1.{Place1}
 use Rattle.ends.specs.declared.Place1.the-variants as Place1
 use Rattle.ends.specs.Ends.{oneBased}
-use Rattle.strict_text.specs.Text.{textOps}
-use Rattle.strict_text.specs.Valid.{validMapped}
-use Rattle.strict_text.specs.Parsed.{strict}
+use Rattle.text_rules.specs.Text.{textOps}
+use Rattle.text_rules.specs.Valid.{validMapped}
+use Rattle.text_rules.specs.Strict.{strict}
 use Rattle.pairs.specs.Pairs.{isFrWithMate, isPrimaryFr}
 use Rattle.overhang.specs.Overhang.{overhangOf}
 use Rattle.overlap.specs.declared.PairPlaces.{PairPlaces}

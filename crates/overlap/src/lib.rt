@@ -5,7 +5,7 @@ ghost use lib.ListN.{length};
 ghost use Rattle.answers.specs.Settled.{Settled};
 ghost use Rattle.oplist.specs.Ops.{mostOps, opsOf};
 ghost use Rattle.sam.specs.Record.{matePosOf};
-ghost use Rattle.strict_text.specs.Text.{textOps};
+ghost use Rattle.text_rules.specs.Text.{textOps};
 ghost use Rattle.overlap.specs.Overlap.{bothPlaces, placedPair, isOver, basesAt, overhangAt, pairOverhang, listLeft, pastMateCigar, pastMateRecord, pastMateText};
 ghost use Rattle.overlap.specs.InnerOverlap.{isNo};
 use answers::Count;
@@ -136,7 +136,7 @@ pub fn num_bases_extending_past_mate_cigar_raw(bam: &[u8], mate_ops: &[u32]) -> 
     if is_no(fr) {
         return Count::Number(0);
     }
-    if !strict_text::valid(mate_ops, &[], list.inside, list.at, list.n) {
+    if !validity::valid(mate_ops, &[], list.inside, list.at, list.n) {
         return Count::Number(0);
     }
     pair_overhang(fr, bam, Pos0(little::i32_at(bam, 24)), mate_ops, &[], list)

@@ -8,14 +8,15 @@ use Rattle.ops.specs.Ops.{isRead, readLen, isClip}
 use Rattle.clip_runs.specs.Clips.{outerHard, nextSoft, inside, leadingClips}
 use Rattle.clip.specs.Clipping.{goes, ends, taking, softOf, upgraded, cutInto, clip}
 use Rattle.clip.specs.Answer.{clippedOps, clippedCount, clippedInto, clippedUpTo}
-use Rattle.strict_text.specs.Text.{place, letterCode, nextOf, rowFrom, opsFrom}
-use Rattle.strict_text.specs.Valid.{isEmpty, allHard, anyRef, each, validMapped}
-use Rattle.strict_text.specs.Parsed.{strict, parsed}
+use Rattle.text_rules.specs.Text.{indexOf, letterCode, effectOf, rowFrom, opsFrom}
+use Rattle.text_rules.specs.Valid.{isEmpty, allHard, anyRef, each, validMapped}
+use Rattle.text_rules.specs.Strict.{strict}
+use Rattle.strict_text.specs.Parsed.{parsed}
 use Rattle.lookup.specs.Lookup.{look, lookup}
 use Rattle.signed.specs.Equal.{eqℤ}
 use Rattle.bin.specs.Bin.{low16, firstAgreed, binTo, reg2bin}
 use Rattle.promises.specs.Marked.{marked, calls, sayings}
 
 pub p1-to-p10 : calls marked ≡ sayings marked
-unfolding splice sumOf isRef isQuery refLen queryLen isRead readLen isClip leading afterLeading goes ends taking softOf upgraded cutInto outerHard nextSoft inside leadingClips clip clippedOps clippedCount clippedInto clippedUpTo place letterCode nextOf rowFrom opsFrom isEmpty allHard anyRef each validMapped strict parsed look lookup checked sideOf eqℤ low16 firstAgreed binTo reg2bin
+unfolding splice sumOf isRef isQuery refLen queryLen isRead readLen isClip leading afterLeading goes ends taking softOf upgraded cutInto outerHard nextSoft inside leadingClips clip clippedOps clippedCount clippedInto clippedUpTo indexOf letterCode effectOf rowFrom opsFrom isEmpty allHard anyRef each validMapped strict parsed look lookup checked sideOf eqℤ low16 firstAgreed binTo reg2bin
 p1-to-p10 = refl

@@ -20,9 +20,9 @@ use Rattle.answers.specs.declared.Flag.the-variants as Flag
 use Rattle.ends.specs.Sums.{both}
 use Rattle.ends.specs.Ends.{toPlace1, oneBased}
 use Rattle.oplist.specs.Ops.{mostOps}
-use Rattle.strict_text.specs.Text.{textOps}
-use Rattle.strict_text.specs.Valid.{validMapped}
-use Rattle.strict_text.specs.Parsed.{strict}
+use Rattle.text_rules.specs.Text.{textOps}
+use Rattle.text_rules.specs.Valid.{validMapped}
+use Rattle.text_rules.specs.Strict.{strict}
 use Rattle.lengths.specs.Lengths.{refLengthOrZero, askedLength}
 use Rattle.pairs.specs.Pairs.{isOpposite, startOf, lastOf, mateStartsBefore, frBy, isFr, areOpposite, isPrimaryFr, oppositePair, frPair, primaryFrPair}
 use Rattle.overhang.specs.Overhang.{basesExtending}

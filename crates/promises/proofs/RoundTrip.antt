@@ -17,13 +17,13 @@ use Rattle.decimal.proofs.Meaning.{decimal-one, decimal-more}
 use Rattle.print.proofs.GrammarLaws.{print-spells}
 use Rattle.sam.proofs.TextLaws.{is-digit}
 use Rattle.sam.specs.Text.{isDigit}
-use Rattle.strict_text.specs.Text.{textOps}
-use Rattle.strict_text.specs.Valid.{validMapped}
-use Rattle.strict_text.specs.Parsed.{strict}
+use Rattle.text_rules.specs.Text.{textOps}
+use Rattle.text_rules.specs.Valid.{validMapped}
+use Rattle.text_rules.specs.Strict.{strict}
 use Rattle.lists.specs.Lists.{Each}
 use Rattle.promises.specs.RoundTrip.{withoutZeros}
-use Rattle.strict_text.proofs.ValidLaws.{valid-mapped}
-use Rattle.strict_text.proofs.GrammarLaws.{letter-digit, accepts, accepted}
+use Rattle.text_rules.proofs.ValidLaws.{valid-mapped}
+use Rattle.text_rules.proofs.GrammarLaws.{letter-digit, accepts, accepted}
 
 -- a list with codes 0 to 8 is printed
 pub printable : (xs : List ℕ) → Each (λ o. codeOf o < 9) xs → anyBad xs ≡ false

@@ -17,12 +17,12 @@ use Rattle.ops.specs.Ops.{letterOf}
 use Rattle.answers.specs.declared.Nat.the-variants.{Number}
 use Rattle.print.specs.Text.{anyBad, textOf}
 use Rattle.print.proofs.GrammarLaws as Printed
-use Rattle.strict_text.specs.Text.{textOps}
-use Rattle.strict_text.specs.Valid.{validMapped}
-use Rattle.strict_text.specs.Parsed.{strict}
-use Rattle.strict_text.specs.Meaning.{Mapped, MappedText}
-use Rattle.strict_text.proofs.GrammarLaws as Strict
-use Rattle.strict_text.proofs.ValidLaws as Valid
+use Rattle.text_rules.specs.Text.{textOps}
+use Rattle.text_rules.specs.Valid.{validMapped}
+use Rattle.text_rules.specs.Strict.{strict}
+use Rattle.text_rules.specs.Meaning.{Mapped, MappedText}
+use Rattle.text_rules.proofs.GrammarLaws as Strict
+use Rattle.text_rules.proofs.ValidLaws as Valid
 use Rattle.promises.specs.RoundTrip.{withoutZeros}
 use Rattle.promises.proofs.RoundTrip as Round
 use Rattle.mate_text.specs.Readers.{Agree}

@@ -13,8 +13,10 @@ use Rattle.answers.specs.declared.Count.{Count}
 use Rattle.answers.specs.declared.Count.the-variants as Count
 use Rattle.answers.specs.declared.Flag.the-variants as Flag
 use Rattle.print.specs.Text.{anyBad, textOf, printed}
-use Rattle.strict_text.specs.Text.{textOps}
-use Rattle.strict_text.specs.Parsed.{strict, parsed, validity}
+use Rattle.text_rules.specs.Text.{textOps}
+use Rattle.text_rules.specs.Strict.{strict}
+use Rattle.validity.specs.Validity.{validity}
+use Rattle.strict_text.specs.Parsed.{parsed}
 use Rattle.promises.specs.Table.{Gives, GivesFilled}
 use Rattle.promises.specs.Rows.{listRows, printRows, textRows}
 use Rattle.promises.proofs.RowLaws.{answer, row, kept-row, last-row}

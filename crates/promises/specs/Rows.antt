@@ -16,9 +16,9 @@ use Rattle.lengths.specs.Lengths.{refLengthOrZero}
 use Rattle.bin.specs.Bin.{spanOf}
 use Rattle.print.specs.Text.{anyBad, textOf}
 use Rattle.oplist.specs.Ops.{mostOps}
-use Rattle.strict_text.specs.Text.{textOps}
-use Rattle.strict_text.specs.Valid.{validMapped}
-use Rattle.strict_text.specs.Parsed.{strict}
+use Rattle.text_rules.specs.Text.{textOps}
+use Rattle.text_rules.specs.Valid.{validMapped}
+use Rattle.text_rules.specs.Strict.{strict}
 use Rattle.ends.specs.Tails.{greatestRun}
 use Rattle.ends.specs.Ends.{noOps}
 use Rattle.clip.specs.Answer.{clippedOps}

@@ -1,4 +1,4 @@
--- The code of a byte from the two words of sixteen codes, and an op of one to three digits: antt computes the first for every byte.
+-- The code of a byte from the two words of sixteen codes, and an op of one-digit to three digits: antt computes the first for every byte.
 use Prim.Native.Nat.{ℕ, _+_, _-_, _*_, _/_, _%_, _^_, _≤_, _<_}
 use mathlib.Core.Path.{_≡_, refl, sym, ap, _∙_, subst}
 use mathlib.Core.Bool.{Bool, true, false, cond}
@@ -9,10 +9,11 @@ use lib.ListN.{length, getD}
 use borrow.Author.Tests.{eqb-true}
 use Rattle.lists.proofs.Tables.{below-at}
 use Rattle.sam.specs.Text.{isDigit}
-use Rattle.strict_text.specs.Text.{letterCode, place, nextOf, Next, Next.Number, Next.Letter}
-use Rattle.strict_text.specs.Pass.{OpAt, codeWord}
+use Rattle.text_rules.specs.Text.{letterCode, indexOf, effectOf, Effect, Effect.Number, Effect.Letter}
+use Rattle.strict_text.specs.InnerPass.{OpAt, codeWord}
 use Rattle.sam.proofs.TextLaws.{a-digit}
-use Rattle.strict_text.proofs.TextLaws.{next-digit, next-letter, Reading, reading, read-digit, read-letter}
+use Rattle.text_rules.proofs.ByteLaws.{byte-digit, byte-letter}
+use Rattle.strict_text.proofs.TextLaws.{Reading, reading, read-digit, read-letter}
 
 -- ---- the letters
 
@@ -20,24 +21,24 @@ abbrev pub codesFrom : ℕ → ℕ
 codesFrom d = codeWord d / 2 ^ (d % 16 * 4) % 16
 
 pub code-below : (b : ℕ) → b < 61 → 9 ≡ letterCode b
-unfolding letterCode place
+unfolding letterCode indexOf
 code-below b h = eqb-true 9 (letterCode b) (below-at (λ d. eqb 9 (letterCode d)) 61 b refl h)
 
 pub code-above : (b : ℕ) → 88 < b → b < 256 → 9 ≡ letterCode b
-unfolding letterCode place
+unfolding letterCode indexOf
 code-above b l h =
     eqb-true 9 (letterCode (89 + (b - 89))) (below-at (λ d. eqb 9 (letterCode (89 + d))) 167 (b - 89) refl (omega arith))
     ∙ ap letterCode {x = 89 + (b - 89)} {y = b} (omega arith)
 
 pub code-between : (b : ℕ) → 61 ≤ b → b ≤ 88 → codesFrom (b - 61) ≡ letterCode b
-unfolding letterCode place
+unfolding letterCode indexOf
 code-between b l h =
     eqb-true (codesFrom (b - 61)) (letterCode (61 + (b - 61))) (below-at (λ d. eqb (codesFrom d) (letterCode (61 + d))) 28 (b - 61) refl (omega arith))
     ∙ ap letterCode {x = 61 + (b - 61)} {y = b} (omega arith)
 
 -- a letter is no digit
-letter-digit : (b : ℕ) → letterCode b ≤ 8 → isDigit b ≡ false
-letter-digit b h = go (isDigit b) refl
+code-no-digit : (b : ℕ) → letterCode b ≤ 8 → isDigit b ≡ false
+code-no-digit b h = go (isDigit b) refl
   where
     go : (t : Bool) → isDigit b ≡ t → t ≡ false
     go true d = let k = a-digit b d in let c = code-below b (omega arith) in absurd (omega arith)
@@ -49,33 +50,33 @@ module _ (s : List ℕ) (at i num b : ℕ) (r : Reading s at i num) (e : b ≡ g
   digit-on : (j v : ℕ) → j ≡ i + 1 → isDigit b ≡ true → v ≡ num * 10 + (b - 48) → v ≤ 268435455 → Reading s at j v
   digit-on j v p d q m =
       subst (λ (k : ℕ). Reading s at k v) (sym p)
-      (read-digit s at i num r v h l (ap (nextOf num) (sym e) ∙ next-digit num b d (omega arith) ∙ ap Next.Number (sym q)))
+      (read-digit s at i num r v h l (ap (effectOf num) (sym e) ∙ byte-digit num b d (omega arith) ∙ ap Effect.Number (sym q)))
 
   letter-on : (len code next : ℕ) → len ≡ num → next ≡ i + 1 → (len ≡ 0 → ⊥) → len ≤ 268435455 → code ≡ letterCode b → code ≤ 8 → OpAt s at len code next
   letter-on len code next p q z m c k =
       subst (λ (n : ℕ). OpAt s at len code n) (sym q)
       (subst (λ (n : ℕ). OpAt s at n code (i + 1)) (sym p)
       (read-letter s at i num r code h l (omega arith) (omega arith) (omega arith)
-      (ap (nextOf num) (sym e) ∙ next-letter num b (letter-digit b (omega arith)) (omega arith) (omega arith) ∙ ap Next.Letter (sym c))))
+      (ap (effectOf num) (sym e) ∙ byte-letter num b (code-no-digit b (omega arith)) (omega arith) (omega arith) ∙ ap Effect.Letter (sym c))))
 
 -- the op at a place with four bytes, by whether the second and the third are digits
 module _ (s : List ℕ) (at first second third : ℕ) (room : at + 4 ≤ length s)
     (e₁ : first ≡ getD s at 0) (e₂ : second ≡ getD s (at + 1) 0) (e₃ : third ≡ getD s (at + 2) 0) (d₁ : isDigit first ≡ true) where
-  one : Reading s at (at + 1) (first - 48)
-  one = let k = a-digit first d₁ in digit-on s at at 0 first (reading s at) e₁ (omega arith) (omega arith) (at + 1) (first - 48) refl d₁ (omega arith) (omega arith)
+  one-digit : Reading s at (at + 1) (first - 48)
+  one-digit = let k = a-digit first d₁ in digit-on s at at 0 first (reading s at) e₁ (omega arith) (omega arith) (at + 1) (first - 48) refl d₁ (omega arith) (omega arith)
 
-  both : isDigit second ≡ true → Reading s at (at + 2) (first * 10 + second - 528)
-  both d₂ =
+  two-digits : isDigit second ≡ true → Reading s at (at + 2) (first * 10 + second - 528)
+  two-digits d₂ =
       let k = a-digit first d₁ in
       let m = a-digit second d₂ in
-      digit-on s at (at + 1) (first - 48) second one e₂ (omega arith) (omega arith) (at + 2) (first * 10 + second - 528) (omega arith) d₂ (omega arith) (omega arith)
+      digit-on s at (at + 1) (first - 48) second one-digit e₂ (omega arith) (omega arith) (at + 2) (first * 10 + second - 528) (omega arith) d₂ (omega arith) (omega arith)
 
-  all : isDigit second ≡ true → isDigit third ≡ true → Reading s at (at + 3) ((first * 10 + second) * 10 + third - 5328)
-  all d₂ d₃ =
+  three-digits : isDigit second ≡ true → isDigit third ≡ true → Reading s at (at + 3) ((first * 10 + second) * 10 + third - 5328)
+  three-digits d₂ d₃ =
       let k = a-digit first d₁ in
       let m = a-digit second d₂ in
       let n = a-digit third d₃ in
-      digit-on s at (at + 2) (first * 10 + second - 528) third (both d₂) e₃ (omega arith) (omega arith) (at + 3) ((first * 10 + second) * 10 + third - 5328) (omega arith) d₃ (omega arith) (omega arith)
+      digit-on s at (at + 2) (first * 10 + second - 528) third (two-digits d₂) e₃ (omega arith) (omega arith) (at + 3) ((first * 10 + second) * 10 + third - 5328) (omega arith) d₃ (omega arith) (omega arith)
 
   pub short-op : (two three : Bool) → isDigit second ≡ two → isDigit third ≡ three
       → (len code next : ℕ) → len ≡ cond two (cond three ((first * 10 + second) * 10 + third - 5328) (first * 10 + second - 528)) (first - 48)
@@ -85,11 +86,11 @@ module _ (s : List ℕ) (at first second third : ℕ) (room : at + 4 ≤ length 
       let a = a-digit first d₁ in
       let m = a-digit second d₂ in
       let n = a-digit third d₃ in
-      letter-on s at (at + 3) _ _ (all d₂ d₃) refl (omega arith) (omega arith) len code next p (omega arith) z (omega arith) c k
+      letter-on s at (at + 3) _ _ (three-digits d₂ d₃) refl (omega arith) (omega arith) len code next p (omega arith) z (omega arith) c k
   short-op true false d₂ d₃ len code next p z c k q =
       let a = a-digit first d₁ in
       let m = a-digit second d₂ in
-      letter-on s at (at + 2) _ third (both d₂) e₃ (omega arith) (omega arith) len code next p (omega arith) z (omega arith) (c ∙ ap letterCode (sym e₃)) k
+      letter-on s at (at + 2) _ third (two-digits d₂) e₃ (omega arith) (omega arith) len code next p (omega arith) z (omega arith) (c ∙ ap letterCode (sym e₃)) k
   short-op false three d₂ d₃ len code next p z c k q =
       let a = a-digit first d₁ in
-      letter-on s at (at + 1) _ second one e₂ (omega arith) (omega arith) len code next p (omega arith) z (omega arith) (c ∙ ap letterCode (sym e₂)) k
+      letter-on s at (at + 1) _ second one-digit e₂ (omega arith) (omega arith) len code next p (omega arith) z (omega arith) (c ∙ ap letterCode (sym e₂)) k

@@ -1,6 +1,2 @@
-pub mod Text
-pub mod Valid
 pub mod Parsed
-pub mod Meaning
-pub mod Class
-pub mod Pass
+pub mod InnerPass

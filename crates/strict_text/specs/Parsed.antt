@@ -1,6 +1,6 @@
--- Document 01, module 5: the strict reader refuses "a list failing `is_valid_mapped_cigar`"; "Order: strict text 5, 3, 6".
+-- Document 01, module 5: "Order: strict text 5, 3, 6".
 use Prim.Native.Nat.{ℕ}
-use mathlib.Core.Bool.{Bool, cond, not, _&&_}
+use mathlib.Core.Bool.{cond, not}
 use mathlib.Core.List.{List}
 use lib.IntN.{pos}
 use lib.ListN.{length}
@@ -13,31 +13,19 @@ use Rattle.answers.specs.Settled.{Outcome, keeps}
 use Rattle.answers.specs.declared.Refusal.the-variants.{NotACigar, TooManyOps, NoRoom}
 use Rattle.answers.specs.declared.Count.{Count}
 use Rattle.answers.specs.declared.Count.the-variants as Count
-use Rattle.answers.specs.declared.Flag.{Flag}
-use Rattle.answers.specs.declared.Flag.the-variants as Flag
-use Rattle.strict_text.specs.Text.{isRow, textOps}
-use Rattle.strict_text.specs.Valid.{validMapped}
+use Rattle.text_rules.specs.Text.{textOps}
+use Rattle.text_rules.specs.Strict.{strict}
 use Rattle.strict_text.specs.declared.Measured.{Measured}
 use Rattle.strict_text.specs.declared.Measured.the-variants as Measured
 
--- the text is one that the strict reader takes
-unfoldable pub strict : List ℕ → Bool
-strict s = isRow s && validMapped (textOps s)
-
 -- the measuring pass: the ops of a valid mapped CIGAR, and its reference length, saturated
 unfoldable pub measuredText : List ℕ → Measured
-unfolding strict
 measuredText s = cond (strict s) (Measured.Ops (length (textOps s)) (clamp32 (pos (sumOf refLen (textOps s))))) Measured.Bad
 
 -- `parse_cigar_string_ops` into lent memory d: 5, 3, 6
 unfoldable pub parsed : List ℕ → List ℕ → Outcome Count
-unfolding strict
 parsed s d =
     cond (not (strict s)) (keeps (Count.Refused NotACigar) d)
     (cond (ltb mostOps (length (textOps s))) (keeps (Count.Refused TooManyOps) d)
     (cond (ltb (length d) (length (textOps s))) (keeps (Count.Refused NoRoom) d)
     (record { answer = Count.Number (length (textOps s)); left = splice d 0 (textOps s) })))
-
--- `is_valid_mapped_cigar` of a lent list: 3
-unfoldable pub validity : List ℕ → Flag
-validity xs = cond (ltb mostOps (length xs)) (Flag.Refused TooManyOps) (Flag.Is (validMapped xs))

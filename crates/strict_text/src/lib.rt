@@ -1,21 +1,18 @@
-// Document 01, module 5: the strict reader of CIGAR text, and whether an op list is a valid mapped CIGAR.
+// Document 01, module 5: the strict reader of CIGAR text.
 ghost use mathlib.Core.Path.{_≡_};
 ghost use mathlib.Core.Bool.{cond};
 ghost use Prim.Native.Nat.{_+_, _≤_, _<_, min};
 ghost use lib.ListN.{length, take};
 ghost use Rattle.lists.specs.Lists.{splice};
 ghost use Rattle.answers.specs.Settled.{Settled};
-ghost use Rattle.oplist.specs.Ops.{opsOf};
 ghost use Rattle.sam.specs.Text.{isDigit};
-ghost use Rattle.strict_text.specs.Text.{letterCode, textOps};
-ghost use Rattle.strict_text.specs.Parsed.{measuredText, parsed, validity};
-ghost use Rattle.strict_text.specs.Valid.{validMapped};
-ghost use Rattle.strict_text.specs.Class.{Class.Reference, Class.Other, Class.Soft, Class.Hard};
-ghost use Rattle.strict_text.specs.Pass.{codeWord, codeClass, isInner, isPast, stepOf, acceptOf, isWrong, refOf, tookOf, endOf, TokenAt, ShortAt};
+ghost use Rattle.text_rules.specs.Text.{letterCode, textOps};
+ghost use Rattle.validity.specs.InnerStages.{codeClass};
+ghost use Rattle.strict_text.specs.Parsed.{measuredText, parsed};
+ghost use Rattle.strict_text.specs.InnerPass.{codeWord, refBasesOf, tookOf, endingOf, TokenAt, ShortAt};
 use answers::Count;
-use answers::Flag;
 use answers::Refusal;
-use oplist::Ops;
+use validity::Stage;
 
 // Of a valid mapped CIGAR its ops, and its reference bases, at most 2^31 - 1; or that it is none.
 pub enum Measured {
@@ -29,27 +26,15 @@ pub enum Token {
     Bad,
 }
 
-// Where the ops so far stand in H? S? inner S? H?: at the start, after H, past the leading clips without a reference op (`Inner`) or with one
-// (`Good`), after the S or the H at the end. `Wrong`: they are no valid mapped CIGAR, whatever follows.
-pub enum Place {
-    Start,
-    AfterHard,
-    Inner,
-    Good,
-    EndSoft,
-    EndHard,
-    Wrong,
-}
-
-// The ops so far: their place, how many they are, and their reference bases, at most 2^31 - 1.
-pub struct Seen {
-    pub place: Place,
+// The ops so far: their stage, how many they are, and their reference bases, at most 2^31 - 1.
+pub struct SoFar {
+    pub stage: Stage,
     pub n: u64,
     pub refs: u32,
 }
 
 pub enum Took {
-    More(Seen),
+    More(SoFar),
     Stop,
 }
 
@@ -189,121 +174,10 @@ fn token_at(short: Token, text: &[u8], at: usize) -> Token
     long_token(text, at)
 }
 
-// Whether a code is an inner op's, which is neither a clip nor unknown: bit c of 463 is code c's.
-fn is_inner(code: u32) -> bool
-    requires { ⌜ code < 16 ⌝ }
-    ensures { λ r. ⌜ r ≡ isInner (codeClass code) ⌝ }
-{
-    (463u32 >> code) % 2 == 1
-}
-
-fn is_past(p: Place) -> bool
-    ensures { λ r. ⌜ r ≡ isPast p ⌝ }
-{
-    match p {
-        Place::Start => false,
-        Place::AfterHard => false,
-        Place::Inner => false,
-        Place::Good => false,
-        Place::EndSoft => true,
-        Place::EndHard => true,
-        Place::Wrong => true,
-    }
-}
-
-fn accept(p: Place) -> bool
-    ensures { λ r. ⌜ r ≡ acceptOf p ⌝ }
-{
-    match p {
-        Place::Good => true,
-        Place::EndSoft => true,
-        Place::EndHard => true,
-        Place::Start => false,
-        Place::AfterHard => false,
-        Place::Inner => false,
-        Place::Wrong => false,
-    }
-}
-
-fn is_wrong(p: Place) -> bool
-    ensures { λ r. ⌜ r ≡ isWrong p ⌝ }
-{
-    match p {
-        Place::Start => false,
-        Place::AfterHard => false,
-        Place::Inner => false,
-        Place::Good => false,
-        Place::EndSoft => false,
-        Place::EndHard => false,
-        Place::Wrong => true,
-    }
-}
-
-// The place after an inner op.
-fn after_inner(p: Place, reference: bool) -> Place
-    ensures { λ r. ⌜ r ≡ stepOf p (cond reference Reference Other) ⌝ }
-{
-    if is_past(p) {
-        return Place::Wrong;
-    }
-    if accept(p) {
-        return Place::Good;
-    }
-    if reference {
-        return Place::Good;
-    }
-    Place::Inner
-}
-
-fn after_soft(p: Place) -> Place
-    ensures { λ r. ⌜ r ≡ stepOf p Soft ⌝ }
-{
-    match p {
-        Place::Start => Place::Inner,
-        Place::AfterHard => Place::Inner,
-        Place::Inner => Place::Wrong,
-        Place::Good => Place::EndSoft,
-        Place::EndSoft => Place::Wrong,
-        Place::EndHard => Place::Wrong,
-        Place::Wrong => Place::Wrong,
-    }
-}
-
-fn after_hard(p: Place) -> Place
-    ensures { λ r. ⌜ r ≡ stepOf p Hard ⌝ }
-{
-    match p {
-        Place::Start => Place::AfterHard,
-        Place::AfterHard => Place::Wrong,
-        Place::Inner => Place::Wrong,
-        Place::Good => Place::EndHard,
-        Place::EndSoft => Place::EndHard,
-        Place::EndHard => Place::Wrong,
-        Place::Wrong => Place::Wrong,
-    }
-}
-
-// The place after an op with a length and this code. Most ops are inner ones, which one test of the code tells.
-fn step(p: Place, code: u32) -> Place
-    requires { ⌜ code < 16 ⌝ }
-    ensures { λ r. ⌜ r ≡ stepOf p (codeClass code) ⌝ }
-{
-    if is_inner(code) {
-        return after_inner(p, ops::consumes_ref(code));
-    }
-    if code == 4 {
-        return after_soft(p);
-    }
-    if code == 5 {
-        return after_hard(p);
-    }
-    Place::Wrong
-}
-
 // The reference bases of an op.
 fn ref_bases(code: u32, len: u32) -> u32
     requires { ⌜ code < 16 ⌝ }
-    ensures { λ r. ⌜ (r ≡ refOf (codeClass code) len) × (r ≤ len) ⌝ }
+    ensures { λ r. ⌜ (r ≡ refBasesOf (codeClass code) len) × (r ≤ len) ⌝ }
 {
     if ops::consumes_ref(code) {
         return len;
@@ -314,7 +188,7 @@ fn ref_bases(code: u32, len: u32) -> u32
 // The reference bases with an op more.
 fn further(refs: u32, code: u32, len: u32) -> u32
     requires { ⌜ (refs ≤ 2147483647) × (len ≤ 268435455) × (code < 16) ⌝ }
-    ensures { λ r. ⌜ r ≡ min (refs + refOf (codeClass code) len) 2147483647 ⌝ }
+    ensures { λ r. ⌜ r ≡ min (refs + refBasesOf (codeClass code) len) 2147483647 ⌝ }
 {
     let sum = refs + ref_bases(code, len);
     if 2147483647 < sum {
@@ -324,28 +198,28 @@ fn further(refs: u32, code: u32, len: u32) -> u32
 }
 
 // One op more.
-fn take_op(seen: Seen, len: u32, code: u32) -> Took
+fn take_op(seen: SoFar, len: u32, code: u32) -> Took
     requires { ⌜ (seen .n < 18446744073709551615) × (seen .refs ≤ 2147483647) × (len ≤ 268435455) × (code < 16) ⌝ }
     ensures { λ r. ⌜ r ≡ tookOf seen len (codeClass code) ⌝ }
 {
-    let p = seen.place;
-    let q = step(p, code);
-    if is_wrong(q) {
+    let p = seen.stage;
+    let q = validity::step(p, code);
+    if validity::is_wrong(q) {
         return Took::Stop;
     }
-    Took::More(Seen {
-        place: q,
+    Took::More(SoFar {
+        stage: q,
         n: seen.n + 1,
         refs: further(seen.refs, code, len),
     })
 }
 
-fn ending(seen: Seen) -> Measured
+fn ending(seen: SoFar) -> Measured
     requires { ⌜ seen .refs ≤ 2147483647 ⌝ }
-    ensures { λ r. ⌜ r ≡ endOf seen ⌝ }
+    ensures { λ r. ⌜ r ≡ endingOf seen ⌝ }
 {
-    let p = seen.place;
-    if accept(p) {
+    let p = seen.stage;
+    if validity::accept(p) {
         return Measured::Ops(seen.n, signed::of_bits(seen.refs));
     }
     Measured::Bad
@@ -355,8 +229,8 @@ fn ending(seen: Seen) -> Measured
 pub fn measure(text: &[u8]) -> Measured
     ensures { λ r. ⌜ r ≡ measuredText (now (text .entry)) ⌝ }
 {
-    let mut seen = Seen {
-        place: Place::Start,
+    let mut seen = SoFar {
+        stage: Stage::Start,
         n: 0,
         refs: 0,
     };
@@ -372,28 +246,6 @@ pub fn measure(text: &[u8]) -> Measured
         i = next;
     }
     ending(seen)
-}
-
-// Whether the ops that lie at a place are a valid mapped CIGAR. The place comes as numbers, which the compiler sees through.
-pub fn valid(words: &[u32], rec: &[u8], inside: bool, at: usize, n: u32) -> bool
-    ensures { λ r. ⌜ r ≡ validMapped (opsOf (now (words .entry)) (now (rec .entry)) (record { inside = inside; at = at; n = n })) ⌝ }
-{
-    let list = Ops { inside, at, n };
-    let count = oplist::count(words, rec, list);
-    let mut p = Place::Start;
-    let mut i: usize = 0;
-    while i < count {
-        let op = oplist::op_at(words, rec, list, i);
-        if op < 16 {
-            return false;
-        }
-        p = step(p, op % 16);
-        if is_wrong(p) {
-            return false;
-        }
-        i += 1;
-    }
-    accept(p)
 }
 
 // Writes the ops of a text, up to its end or its first wrong byte, as far as there is room.
@@ -430,15 +282,4 @@ pub fn parse_cigar_string_ops(text: &[u8], out: &mut [u32]) -> Count
     }
     write_ops(text, out);
     Count::Number(n)
-}
-
-// Whether an op list is a valid mapped CIGAR. Refusal 3.
-pub fn is_valid_mapped_cigar(ops: &[u32]) -> Flag
-    ensures { λ r. ⌜ r ≡ validity (now (ops .entry)) ⌝ }
-{
-    if oplist::MOST_OPS < ops.len() {
-        return Flag::Refused(Refusal::TooManyOps);
-    }
-    let list = oplist::lent(ops);
-    Flag::Is(valid(ops, &[], list.inside, list.at, list.n))
 }

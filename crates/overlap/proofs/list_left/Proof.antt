@@ -12,7 +12,7 @@ use Rattle.lists.specs.Lists.{splice}
 use Rattle.sam.specs.Record.{matePosOf}
 use Rattle.answers.proofs.Unique.{settled, outcome}
 use Rattle.oplist.proofs.OpsLaws.{out-is}
-use Rattle.strict_text.specs.Text.{textOps}
+use Rattle.text_rules.specs.Text.{textOps}
 use Rattle.overlap.specs.declared.PairPlaces.{PairPlaces}
 use Rattle.overlap.specs.declared.Overhang.the-variants as Overhang
 use Rattle.overlap.specs.Overlap.{placedPair, basesAt, listLeft}

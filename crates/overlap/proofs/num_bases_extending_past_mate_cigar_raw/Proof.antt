@@ -10,7 +10,7 @@ use borrow.Author.Tests.{not-true, not-false}
 use Rattle.lists.specs.Lists.{sumOf}
 use Rattle.signed.specs.Whole.{clamp32}
 use Rattle.sam.specs.Op.{refLen}
-use Rattle.strict_text.specs.Valid.{validMapped}
+use Rattle.text_rules.specs.Valid.{validMapped}
 use Rattle.pairs.specs.Pairs.{isFrWithMate}
 use Rattle.overlap.specs.Overlap.{isFrBy}
 use Rattle.overlap.specs.InnerOverlap.{isNo}

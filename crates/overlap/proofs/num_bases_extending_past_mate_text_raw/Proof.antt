@@ -6,7 +6,7 @@ use mir.Val.{toZ, ofZ}
 use Rattle.answers.proofs.Unique.{settled, resettled}
 use Rattle.answers.specs.declared.Flag.{Flag}
 use Rattle.answers.specs.declared.Flag.the-variants as Flag
-use Rattle.strict_text.specs.Text.{textOps}
+use Rattle.text_rules.specs.Text.{textOps}
 use Rattle.strict_text.specs.Parsed.{measuredText}
 use Rattle.strict_text.specs.declared.Measured.the-variants as Measured
 use Rattle.pairs.specs.Pairs.{isFrWithMate}

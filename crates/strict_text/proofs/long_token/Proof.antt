@@ -6,9 +6,10 @@ use native.Mathlib.Omega.{arith}
 use borrow.Author.Tests.{not-true, not-false}
 use lib.ListN.{length, getD}
 use Rattle.sam.specs.Text.{isDigit}
-use Rattle.strict_text.specs.Text.{Next, Next.Letter}
+use Rattle.text_rules.specs.Text.{Effect, Effect.Letter}
 use Rattle.sam.proofs.TextLaws.{a-digit}
-use Rattle.strict_text.proofs.TextLaws.{next-digit, next-over, next-letter, next-zero, next-unknown, Reading, reading, read-bad, read-digit, read-letter, read-end}
+use Rattle.text_rules.proofs.ByteLaws.{byte-digit, byte-over, byte-letter, byte-zero, byte-unknown}
+use Rattle.strict_text.proofs.TextLaws.{Reading, reading, read-bad, read-digit, read-letter, read-end}
 use Rattle.strict_text.proofs.long_token.Statement.{statement}
 use Rattle.strict_text.proofs.long_token.Tie as tie
 
@@ -46,7 +47,7 @@ returns c =
     let l = t .before .before .before .before in
     let a = l .before .before .args in
     read-bad (a .text .now) (a .at) (l .loop .i) (l .loop .num) (l .loop .inv .3) (t .before .before .before .loop-test .taken)
-    (next-zero (l .loop .num) (here l) (letter t) (c .if2 .taken))
+    (byte-zero (l .loop .num) (here l) (letter t) (c .if2 .taken))
 
 returns-2 : tie.Need-returns-2 Inv-loop μ-loop
 returns-2 c =
@@ -55,7 +56,7 @@ returns-2 c =
     let a = l .before .before .args in
     let k = c .before .before .cigar-op-code .ensures in
     read-bad (a .text .now) (a .at) (l .loop .i) (l .loop .num) (l .loop .inv .3) (t .before .before .before .loop-test .taken)
-    (next-unknown (l .loop .num) (here l) (letter t) (omega (arith, k, c .if3 .taken)))
+    (byte-unknown (l .loop .num) (here l) (letter t) (omega (arith, k, c .if3 .taken)))
 
 add-t13 : tie.Need-add-t13 Inv-loop μ-loop
 add-t13 c = omega arith
@@ -69,7 +70,7 @@ returns-3 c =
     let z = c .before .if2 .left in
     read-letter (a .text .now) (a .at) (l .loop .i) (l .loop .num) (l .loop .inv .3) (k .result) (t .before .before .before .loop-test .taken)
     (omega arith) (omega arith) (omega arith) (omega arith)
-    (next-letter (l .loop .num) (here l) (letter t) z (omega (arith, k .ensures)) ∙ ap Next.Letter (sym (k .ensures)))
+    (byte-letter (l .loop .num) (here l) (letter t) z (omega (arith, k .ensures)) ∙ ap Effect.Letter (sym (k .ensures)))
 
 mul-num : tie.Need-mul-num Inv-loop μ-loop
 mul-num c = omega arith
@@ -90,7 +91,7 @@ returns-4 c =
     let a = l .before .before .args in
     let d = a-digit (here l) (digit (w .before)) in
     read-bad (a .text .now) (a .at) (l .loop .i) (l .loop .num) (l .loop .inv .3) (w .before .before .before .before .loop-test .taken)
-    (next-over (l .loop .num) (here l) (digit (w .before)) (omega (arith, w .wide .ensures)))
+    (byte-over (l .loop .num) (here l) (digit (w .before)) (omega (arith, w .wide .ensures)))
 
 add-i : tie.Need-add-i Inv-loop μ-loop
 add-i c = omega arith
@@ -111,7 +112,7 @@ loop-again c =
       omega arith,
       subst (λ (v : ℕ). Reading (a .text .now) (a .at) (l .loop .i + 1) v) e
           (read-digit (a .text .now) (a .at) (l .loop .i) (l .loop .num) (l .loop .inv .3) (l .loop .num * 10 + (here l - 48))
-          (w .before .before .before .before .loop-test .taken) (omega arith) (next-digit (l .loop .num) (here l) (digit (w .before)) m)),
+          (w .before .before .before .before .loop-test .taken) (omega arith) (byte-digit (l .loop .num) (here l) (digit (w .before)) m)),
     )
 
 returns-5 : tie.Need-returns-5 Inv-loop μ-loop

@@ -11,8 +11,9 @@ use Rattle.oplist.specs.Ops.{mostOps}
 use Rattle.lists.specs.Lists.{splice}
 use Rattle.answers.proofs.Unique.{settled, outcome}
 use Rattle.answers.specs.declared.Count.the-variants as Count
-use Rattle.strict_text.specs.Text.{textOps}
-use Rattle.strict_text.specs.Parsed.{strict, measuredText, parsed}
+use Rattle.text_rules.specs.Text.{textOps}
+use Rattle.text_rules.specs.Strict.{strict}
+use Rattle.strict_text.specs.Parsed.{measuredText, parsed}
 use Rattle.strict_text.proofs.PassLaws.{ops-bad, ops-some}
 use Rattle.strict_text.proofs.parse_cigar_string_ops.Statement.{statement}
 use Rattle.strict_text.proofs.parse_cigar_string_ops.Tie as tie

@@ -5,13 +5,14 @@ use mathlib.Core.Bool.{Bool, cond}
 use native.Mathlib.Omega.{arith}
 use borrow.Author.Needs.{needs}
 use Rattle.sam.specs.Op.{isRef}
-use Rattle.strict_text.specs.Pass.{codeClass, refOf}
-use Rattle.strict_text.proofs.ClipLaws.{class-ref}
+use Rattle.validity.specs.InnerStages.{codeClass}
+use Rattle.strict_text.specs.InnerPass.{refBasesOf}
+use Rattle.validity.proofs.StageLaws.{class-ref}
 use Rattle.strict_text.proofs.PassLaws.{ref-by}
 use Rattle.strict_text.proofs.ref_bases.Statement.{statement}
 use Rattle.strict_text.proofs.ref_bases.Tie as tie
 
-bases : (c : tie.After-consumes-ref) → refOf (codeClass (c .before .args .code)) (c .before .args .len) ≡ cond (c .consumes-ref .result) (c .before .args .len) 0
+bases : (c : tie.After-consumes-ref) → refBasesOf (codeClass (c .before .args .code)) (c .before .args .len) ≡ cond (c .consumes-ref .result) (c .before .args .len) 0
 bases c =
     let a = c .before .args in
     ref-by (codeClass (a .code)) (a .len)

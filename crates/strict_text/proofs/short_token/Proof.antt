@@ -7,7 +7,7 @@ use native.Mathlib.Omega.{arith}
 use borrow.Author.Needs.{needs}
 use borrow.Author.Tests.{not-false}
 use Rattle.sam.specs.Text.{isDigit}
-use Rattle.strict_text.specs.Text.{letterCode}
+use Rattle.text_rules.specs.Text.{letterCode}
 use Rattle.sam.proofs.TextLaws.{a-digit}
 use Rattle.strict_text.proofs.LetterLaws.{short-op}
 use Rattle.strict_text.proofs.short_token.Statement.{statement}

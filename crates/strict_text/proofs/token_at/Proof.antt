@@ -1,7 +1,7 @@
 -- The short form where it tells an op.
 use mathlib.Core.Path.{subst}
 use borrow.Author.Needs.{needs}
-use Rattle.strict_text.specs.Pass.{ShortAt}
+use Rattle.strict_text.specs.InnerPass.{ShortAt}
 use Rattle.strict_text.proofs.token_at.Statement.{statement}
 use Rattle.strict_text.proofs.token_at.Tie as tie
 

@@ -7,8 +7,8 @@ use mathlib.Core.Bool.{false}
 use lib.ListN.{length, take, drop, length-set}
 use lib.Seq.{sets}
 use Rattle.lists.specs.Lists.{splice}
-use Rattle.strict_text.specs.Text.{textOps}
-use Rattle.strict_text.specs.Pass.{OpAt, TokenAt}
+use Rattle.text_rules.specs.Text.{textOps}
+use Rattle.strict_text.specs.InnerPass.{OpAt, TokenAt}
 use Rattle.strict_text.proofs.TextLaws.{at-end}
 use Rattle.strict_text.proofs.PutLaws.{put-one, put-none, put-full, put-all}
 use Rattle.strict_text.proofs.write_ops.Statement.{statement}

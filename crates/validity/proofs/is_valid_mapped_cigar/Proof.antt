@@ -3,11 +3,11 @@ use borrow.Author.Needs.{needs}
 use mathlib.Core.Path.{ap, _∙_}
 use borrow.Author.Tests.{lt-ltb, le-ltb}
 use Rattle.oplist.specs.Ops.{mostOps}
-use Rattle.strict_text.specs.Valid.{validMapped}
-use Rattle.strict_text.specs.Parsed.{validity}
+use Rattle.text_rules.specs.Valid.{validMapped}
+use Rattle.validity.specs.Validity.{validity}
 use Rattle.answers.specs.declared.Flag.the-variants as Flag
-use Rattle.strict_text.proofs.is_valid_mapped_cigar.Statement.{statement}
-use Rattle.strict_text.proofs.is_valid_mapped_cigar.Tie as tie
+use Rattle.validity.proofs.is_valid_mapped_cigar.Statement.{statement}
+use Rattle.validity.proofs.is_valid_mapped_cigar.Tie as tie
 
 returns : tie.Need-returns
 unfolding validity

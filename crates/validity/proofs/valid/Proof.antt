@@ -7,17 +7,17 @@ use lib.ListN.{drop}
 use mathlib.Core.List.{List, _∷_}
 use Rattle.lists.proofs.Walks.{step, done}
 use Rattle.oplist.specs.Ops.{opsOf}
-use Rattle.strict_text.specs.Valid.{validMapped}
-use Rattle.strict_text.specs.Pass.{acceptOf}
-use Rattle.strict_text.specs.declared.Place.{Place}
-use Rattle.strict_text.proofs.ClipLaws.{run, valid-run, short-class, unknown-run, long-run}
-use Rattle.strict_text.proofs.PassLaws.{wrong-accept}
-use Rattle.strict_text.proofs.valid.Statement.{statement}
-use Rattle.strict_text.proofs.valid.Tie as tie
+use Rattle.text_rules.specs.Valid.{validMapped}
+use Rattle.validity.specs.InnerStages.{acceptOf}
+use Rattle.validity.specs.declared.Stage.{Stage}
+use Rattle.validity.proofs.StageLaws.{stageAfter, valid-run, short-class, unknown-run, long-run}
+use Rattle.validity.proofs.StageLaws.{wrong-accept}
+use Rattle.validity.proofs.valid.Statement.{statement}
+use Rattle.validity.proofs.valid.Tie as tie
 
 abbrev Inv-loop : tie.InvT-loop
 Inv-loop words rec inside at n list count p₀ i₀ p i =
-    (i ≤ count) × (acceptOf (run p (drop i (opsOf words rec list))) ≡ validMapped (opsOf words rec list))
+    (i ≤ count) × (acceptOf (stageAfter p (drop i (opsOf words rec list))) ≡ validMapped (opsOf words rec list))
 
 abbrev μ-loop : tie.MeasureT-loop
 μ-loop words rec inside at n list count p₀ i₀ p i = count - i
@@ -35,14 +35,14 @@ left c =
     step (ops l) (l .loop .i) (c .op-at .result) (c .op-at .ensures) (omega (arith, l .before .count .ensures))
 
 -- one op on
-turn : (c : tie.After-step Inv-loop μ-loop) → acceptOf (run (c .step .result) (drop (c .before .before .before .before .loop .i + 1) (ops (c .before .before .before .before)))) ≡ validMapped (ops (c .before .before .before .before))
+turn : (c : tie.After-step Inv-loop μ-loop) → acceptOf (stageAfter (c .step .result) (drop (c .before .before .before .before .loop .i + 1) (ops (c .before .before .before .before)))) ≡ validMapped (ops (c .before .before .before .before))
 turn c =
     let o = c .before .before in
     let l = o .before .before in
     let ys = drop (l .loop .i + 1) (ops l) in
-    ap (λ (q : Place). acceptOf (run q ys)) (c .step .ensures)
+    ap (λ (q : Stage). acceptOf (stageAfter q ys)) (c .step .ensures)
     ∙ sym (long-run (l .loop .p) (o .op-at .result) ys (c .before .if1 .left))
-    ∙ ap (λ (xs : List ℕ). acceptOf (run (l .loop .p) xs)) (sym (left o))
+    ∙ ap (λ (xs : List ℕ). acceptOf (stageAfter (l .loop .p) xs)) (sym (left o))
     ∙ l .loop .inv .1
 
 count-requires : tie.Need-count-requires Inv-loop μ-loop
@@ -59,7 +59,7 @@ returns c =
     let o = c .before in
     let l = o .before .before in
     sym (unknown-run (l .loop .p) (o .op-at .result) (drop (l .loop .i + 1) (ops l)) (short-class (o .op-at .result) (omega (arith, c .if1 .taken))))
-    ∙ ap (λ (xs : List ℕ). acceptOf (run (l .loop .p) xs)) (sym (left o))
+    ∙ ap (λ (xs : List ℕ). acceptOf (stageAfter (l .loop .p) xs)) (sym (left o))
     ∙ l .loop .inv .1
 
 step-requires : tie.Need-step-requires Inv-loop μ-loop
@@ -86,11 +86,11 @@ accept-requires : tie.Need-accept-requires Inv-loop μ-loop
 accept-requires c κs = search needs
 
 returns-3 : tie.Need-returns-3 Inv-loop μ-loop
-unfolding run
+unfolding stageAfter
 returns-3 c =
     let l = c .before .before in
     c .accept .ensures
-    ∙ sym (ap (λ (xs : List ℕ). acceptOf (run (l .loop .p) xs)) (done (ops l) (l .loop .i) (omega (arith, l .before .count .ensures))))
+    ∙ sym (ap (λ (xs : List ℕ). acceptOf (stageAfter (l .loop .p) xs)) (done (ops l) (l .loop .i) (omega (arith, l .before .count .ensures))))
     ∙ l .loop .inv .1
 
 pub valid-spec : {M : Type 1} → statement M

@@ -1,13 +1,12 @@
 -- The tests of the code are those of its class.
-use Prim.Native.Nat.{_%_}
 use mathlib.Core.Path.{sym, ap, _∙_}
 use native.Mathlib.Omega.{arith}
 use borrow.Author.Needs.{needs}
-use Rattle.sam.specs.Op.{isRef}
-use Rattle.strict_text.specs.Pass.{stepOf}
-use Rattle.strict_text.proofs.StepLaws.{innerClass, code-inner, code-soft, code-hard, code-rest}
-use Rattle.strict_text.proofs.step.Statement.{statement}
-use Rattle.strict_text.proofs.step.Tie as tie
+use Rattle.sam.specs.Op.{codeOf}
+use Rattle.validity.specs.InnerStages.{stepOf}
+use Rattle.validity.proofs.StepLaws.{innerBy, code-inner, code-soft, code-hard, code-rest}
+use Rattle.validity.proofs.step.Statement.{statement}
+use Rattle.validity.proofs.step.Tie as tie
 
 is-inner-requires : tie.Need-is-inner-requires
 is-inner-requires c κs = search needs
@@ -21,12 +20,10 @@ after-inner-requires c κs = search needs
 returns : tie.Need-returns
 returns c =
     let t = c .before .before in
-    let s = t .before .before in
-    let a = s .args in
+    let a = t .before .before .args in
     c .after-inner .ensures
     ∙ ap (λ k. stepOf (a .p) k)
-    (ap innerClass (c .before .consumes-ref .ensures ∙ ap isRef {x = a .code % 16} {y = a .code} (omega (arith, s .pre)))
-    ∙ code-inner (a .code) (s .pre) (sym (t .before .is-inner .ensures) ∙ t .if1 .taken))
+    (ap innerBy (c .before .consumes-ref .ensures) ∙ code-inner (codeOf (a .op)) (omega arith) (sym (t .before .is-inner .ensures) ∙ t .if1 .taken))
 
 after-soft-requires : tie.Need-after-soft-requires
 after-soft-requires c κs = search needs
@@ -35,7 +32,7 @@ returns-2 : tie.Need-returns-2
 returns-2 c =
     let t = c .before in
     let s = t .before .before .before in
-    c .after-soft .ensures ∙ ap (stepOf (s .args .p)) (code-soft (s .args .code) (s .pre) (t .if2 .taken))
+    c .after-soft .ensures ∙ ap (stepOf (s .args .p)) (code-soft (codeOf (s .args .op)) (omega arith) (t .if2 .taken))
 
 after-hard-requires : tie.Need-after-hard-requires
 after-hard-requires c κs = search needs
@@ -44,13 +41,13 @@ returns-3 : tie.Need-returns-3
 returns-3 c =
     let t = c .before in
     let s = t .before .before .before .before in
-    c .after-hard .ensures ∙ ap (stepOf (s .args .p)) (code-hard (s .args .code) (s .pre) (t .if3 .taken))
+    c .after-hard .ensures ∙ ap (stepOf (s .args .p)) (code-hard (codeOf (s .args .op)) (omega arith) (t .if3 .taken))
 
 returns-4 : tie.Need-returns-4
 returns-4 c =
     let e = c .before .before in
     let s = e .before .before in
-    code-rest (s .args .code) (s .pre) (s .args .p) (sym (e .before .is-inner .ensures) ∙ e .if1 .left) (c .before .if2 .left) (c .if3 .left)
+    code-rest (codeOf (s .args .op)) (omega arith) (s .args .p) (sym (e .before .is-inner .ensures) ∙ e .if1 .left) (c .before .if2 .left) (c .if3 .left)
 
 pub step-spec : {M : Type 1} → statement M
 step-spec =

@@ -1,4 +1,4 @@
--- The places of the pass are those of the clips: its last place accepts just what `is_valid_mapped_cigar` takes.
+-- The stages of the walk are those of the clips: its last stage accepts just what `is_valid_mapped_cigar` takes.
 use Prim.Native.Nat.{ℕ, _≤_, _<_}
 use mathlib.Core.Path.{_≡_, refl, sym, ap, _∙_}
 use mathlib.Core.Bool.{Bool, true, false, cond, not, _&&_, _||_, and-true, and-false}
@@ -10,12 +10,12 @@ use borrow.Author.Tests.{lt-ltb, le-ltb, ltb-true, ltb-false, eqb-true}
 use Rattle.lists.proofs.Absurd.{never}
 use Rattle.lists.proofs.Tables.{below-same}
 use Rattle.sam.specs.Op.{lenOf, codeOf, isRef}
-use Rattle.strict_text.specs.Valid.{isEmpty, isSoft, isHard, allHard, anyRef, each, noZero, hardOutside, softOutside, known, validMapped}
-use Rattle.strict_text.specs.Pass.{codeClass, classOf, stepOf, acceptOf}
-use Rattle.strict_text.specs.Class.{Class, Class.Reference, Class.Other, Class.Soft, Class.Hard, Class.Unknown}
-use Rattle.strict_text.specs.declared.Place.{Place}
-use Rattle.strict_text.specs.declared.Place.the-variants.{Start, AfterHard, Inner, Good, EndSoft, EndHard, Wrong}
-use Rattle.strict_text.proofs.TextLaws.{both}
+use Rattle.text_rules.specs.Valid.{isEmpty, softOp, hardOp, allHard, anyRef, each, noZero, hardOutside, softOutside, inTable, validMapped}
+use Rattle.validity.specs.InnerStages.{codeClass, classOf, stepOf, acceptOf, isWrong}
+use Rattle.validity.specs.InnerClass.{Class, Class.Reference, Class.Other, Class.Soft, Class.Hard, Class.Unknown}
+use Rattle.validity.specs.declared.Stage.{Stage}
+use Rattle.validity.specs.declared.Stage.the-variants.{Start, AfterHard, Inner, Good, EndSoft, EndHard, Wrong}
+use Rattle.text_rules.proofs.ValidLaws.{split-and}
 
 -- ---- the rules, without the ops on the left
 
@@ -24,10 +24,10 @@ plain [] = true
 plain (o ∷ xs) = (ltb 0 (lenOf o) && ltb (codeOf o) 9) && plain xs
 
 -- `first`: no op came before; `hard`: only H came before
-unfoldable placed : Bool → Bool → List ℕ → Bool
-placed first hard [] = true
-placed first hard (o ∷ xs) =
-    (cond (isHard o) (first || isEmpty xs) true && cond (isSoft o) (hard || allHard xs) true) && placed false (hard && isHard o) xs
+unfoldable placedFrom : Bool → Bool → List ℕ → Bool
+placedFrom first hard [] = true
+placedFrom first hard (o ∷ xs) =
+    (cond (hardOp o) (first || isEmpty xs) true && cond (softOp o) (hard || allHard xs) true) && placedFrom false (hard && hardOp o) xs
 
 and-swap : (a b c d : Bool) → ((a && b) && (c && d)) ≡ ((a && c) && (b && d))
 and-swap true true true d = refl
@@ -36,29 +36,29 @@ and-swap true false true d = refl
 and-swap true false false d = refl
 and-swap false b c d = refl
 
-each-plain : (xs left : List ℕ) → (each noZero left xs && each known left xs) ≡ plain xs
+each-plain : (xs left : List ℕ) → (each noZero left xs && each inTable left xs) ≡ plain xs
 unfolding each plain
 each-plain [] left = refl
 each-plain (o ∷ xs) left =
     let more = left ++ (o ∷ []) in
-    and-swap (ltb 0 (lenOf o)) (each noZero more xs) (ltb (codeOf o) 9) (each known more xs) ∙ rw (each-plain xs more)
+    and-swap (ltb 0 (lenOf o)) (each noZero more xs) (ltb (codeOf o) 9) (each inTable more xs) ∙ rw (each-plain xs more)
 
 empty-more : (left : List ℕ) (o : ℕ) → isEmpty (left ++ (o ∷ [])) ≡ false
 unfolding isEmpty
 empty-more [] o = refl
 empty-more (x ∷ left) o = refl
 
-hard-more : (left : List ℕ) (o : ℕ) → allHard (left ++ (o ∷ [])) ≡ (allHard left && isHard o)
+hard-more : (left : List ℕ) (o : ℕ) → allHard (left ++ (o ∷ [])) ≡ (allHard left && hardOp o)
 unfolding allHard
-hard-more [] o = and-true (isHard o)
-hard-more (x ∷ left) o = ap (λ (t : Bool). isHard x && t) (hard-more left o) ∙ and-three (isHard x) (allHard left) (isHard o)
+hard-more [] o = and-true (hardOp o)
+hard-more (x ∷ left) o = ap (λ (t : Bool). hardOp x && t) (hard-more left o) ∙ and-three (hardOp x) (allHard left) (hardOp o)
   where
     and-three : (a b c : Bool) → (a && (b && c)) ≡ ((a && b) && c)
     and-three true b c = refl
     and-three false b c = refl
 
-each-placed : (xs left : List ℕ) → (each hardOutside left xs && each softOutside left xs) ≡ placed (isEmpty left) (allHard left) xs
-unfolding each placed
+each-placed : (xs left : List ℕ) → (each hardOutside left xs && each softOutside left xs) ≡ placedFrom (isEmpty left) (allHard left) xs
+unfolding each placedFrom
 each-placed [] left = refl
 each-placed (o ∷ xs) left =
     let more = left ++ (o ∷ []) in
@@ -72,10 +72,10 @@ regroup true true false s k r = sym (and-false k)
 regroup true true true false k r = sym (and-false k)
 regroup true true true true k r = refl
 
-valid-is : (xs : List ℕ) → validMapped xs ≡ (not (isEmpty xs) && (plain xs && (placed true true xs && anyRef xs)))
+valid-is : (xs : List ℕ) → validMapped xs ≡ (not (isEmpty xs) && (plain xs && (placedFrom true true xs && anyRef xs)))
 unfolding validMapped isEmpty allHard
 valid-is xs =
-    regroup (not (isEmpty xs)) (each noZero [] xs) (each hardOutside [] xs) (each softOutside [] xs) (each known [] xs) (anyRef xs)
+    regroup (not (isEmpty xs)) (each noZero [] xs) (each hardOutside [] xs) (each softOutside [] xs) (each inTable [] xs) (anyRef xs)
     ∙ rw (each-plain xs [], each-placed xs [])
 
 -- ---- the class of an op, as the rules' tests
@@ -149,18 +149,27 @@ odd-class o h = go (ltb o 16)
     go true = refl
     go false = sym (has-is 4 (codeClass (codeOf o)) (class-known (codeOf o) (omega arith) ∙ lt-ltb 8 (codeOf o) (omega arith)))
 
--- ---- the pass by its last place
+-- ---- the walk by its last stage
 
-unfoldable pub run : Place → List ℕ → Place
-run p [] = p
-run p (o ∷ xs) = run (stepOf p (classOf o)) xs
+unfoldable pub stageAfter : Stage → List ℕ → Stage
+stageAfter p [] = p
+stageAfter p (o ∷ xs) = stageAfter (stepOf p (classOf o)) xs
 
-pub wrong-run : (xs : List ℕ) → acceptOf (run Wrong xs) ≡ false
-unfolding run
+pub wrong-run : (xs : List ℕ) → acceptOf (stageAfter Wrong xs) ≡ false
+unfolding stageAfter
 wrong-run [] = refl
 wrong-run (o ∷ xs) = wrong-run xs
 
-pub step-unknown : (p : Place) → stepOf p Unknown ≡ Wrong
+pub wrong-accept : (q : Stage) (xs : List ℕ) → isWrong q ≡ true → acceptOf (stageAfter q xs) ≡ false
+wrong-accept Start xs e = never (cc)
+wrong-accept AfterHard xs e = never (cc)
+wrong-accept Inner xs e = never (cc)
+wrong-accept Good xs e = never (cc)
+wrong-accept EndSoft xs e = never (cc)
+wrong-accept EndHard xs e = never (cc)
+wrong-accept Wrong xs e = wrong-run xs
+
+pub step-unknown : (p : Stage) → stepOf p Unknown ≡ Wrong
 step-unknown Start = refl
 step-unknown AfterHard = refl
 step-unknown Inner = refl
@@ -169,37 +178,37 @@ step-unknown EndSoft = refl
 step-unknown EndHard = refl
 step-unknown Wrong = refl
 
-pub unknown-run : (p : Place) (o : ℕ) (xs : List ℕ) → classOf o ≡ Unknown → acceptOf (run p (o ∷ xs)) ≡ false
-unfolding run
+pub unknown-run : (p : Stage) (o : ℕ) (xs : List ℕ) → classOf o ≡ Unknown → acceptOf (stageAfter p (o ∷ xs)) ≡ false
+unfolding stageAfter
 unknown-run p o xs e = rw (e, step-unknown p) (wrong-run xs)
 
-pub long-run : (p : Place) (o : ℕ) (xs : List ℕ) → 16 ≤ o → acceptOf (run p (o ∷ xs)) ≡ acceptOf (run (stepOf p (codeClass (codeOf o))) xs)
-unfolding run
-long-run p o xs h = ap (λ (k : Class). acceptOf (run (stepOf p k) xs)) (long-class o (omega arith))
+pub long-run : (p : Stage) (o : ℕ) (xs : List ℕ) → 16 ≤ o → acceptOf (stageAfter p (o ∷ xs)) ≡ acceptOf (stageAfter (stepOf p (codeClass (codeOf o))) xs)
+unfolding stageAfter
+long-run p o xs h = ap (λ (k : Class). acceptOf (stageAfter (stepOf p k) xs)) (long-class o (omega arith))
 
-odd-run : (xs : List ℕ) (p : Place) → plain xs ≡ false → acceptOf (run p xs) ≡ false
-unfolding plain run
+odd-run : (xs : List ℕ) (p : Stage) → plain xs ≡ false → acceptOf (stageAfter p xs) ≡ false
+unfolding plain stageAfter
 odd-run [] p e = never (cc)
 odd-run (o ∷ xs) p e = go (ltb 0 (lenOf o)) (ltb (codeOf o) 9) refl refl e (odd-run xs (stepOf p (classOf o)))
   where
     go : (a b : Bool) → ltb 0 (lenOf o) ≡ a → ltb (codeOf o) 9 ≡ b → ((a && b) && plain xs) ≡ false
-        → (plain xs ≡ false → acceptOf (run (stepOf p (classOf o)) xs) ≡ false) → acceptOf (run p (o ∷ xs)) ≡ false
+        → (plain xs ≡ false → acceptOf (stageAfter (stepOf p (classOf o)) xs) ≡ false) → acceptOf (stageAfter p (o ∷ xs)) ≡ false
     go true true q r t ih = ih t
     go true false q r t ih = unknown-run p o xs (odd-class o (ltb-false (codeOf o) 9 r))
     go false b q r t ih = let h = ltb-false 0 (lenOf o) q in unknown-run p o xs (short-class o (omega arith))
 
--- what each place asks of the ops that are left
+-- what each stage asks of the ops that are left
 record States (xs : List ℕ) : Type 0 where
-  start : acceptOf (run Start xs) ≡ (placed true true xs && anyRef xs)
-  afterHard : acceptOf (run AfterHard xs) ≡ (placed false true xs && anyRef xs)
-  inner : acceptOf (run Inner xs) ≡ (placed false false xs && anyRef xs)
-  good : acceptOf (run Good xs) ≡ placed false false xs
-  endSoft : acceptOf (run EndSoft xs) ≡ (allHard xs && placed false false xs)
-  endHard : acceptOf (run EndHard xs) ≡ isEmpty xs
-  wrong : acceptOf (run Wrong xs) ≡ false
+  start : acceptOf (stageAfter Start xs) ≡ (placedFrom true true xs && anyRef xs)
+  afterHard : acceptOf (stageAfter AfterHard xs) ≡ (placedFrom false true xs && anyRef xs)
+  inner : acceptOf (stageAfter Inner xs) ≡ (placedFrom false false xs && anyRef xs)
+  good : acceptOf (stageAfter Good xs) ≡ placedFrom false false xs
+  endSoft : acceptOf (stageAfter EndSoft xs) ≡ (allHard xs && placedFrom false false xs)
+  endHard : acceptOf (stageAfter EndHard xs) ≡ isEmpty xs
+  wrong : acceptOf (stageAfter Wrong xs) ≡ false
   noRef : (allHard xs && anyRef xs) ≡ false
   emptyRef : (isEmpty xs && anyRef xs) ≡ false
-  emptyPlaced : (isEmpty xs && placed false false xs) ≡ isEmpty xs
+  emptyPlaced : (isEmpty xs && placedFrom false false xs) ≡ isEmpty xs
   emptyHard : (allHard xs && isEmpty xs) ≡ isEmpty xs
 
 -- three tests in a row, of which the outer two exclude each other
@@ -209,8 +218,8 @@ and-skip true false c e = refl
 and-skip false b c e = refl
 
 module _ (o : ℕ) (xs : List ℕ) (r : States xs) where
-  cons : (c : Class) → classOf o ≡ c → isRef (codeOf o) ≡ refB c → isSoft o ≡ softB c → isHard o ≡ hardB c → unknownB c ≡ false → States (o ∷ xs)
-  unfolding run placed anyRef allHard isEmpty
+  cons : (c : Class) → classOf o ≡ c → isRef (codeOf o) ≡ refB c → softOp o ≡ softB c → hardOp o ≡ hardB c → unknownB c ≡ false → States (o ∷ xs)
+  unfolding stageAfter placedFrom anyRef allHard isEmpty
   cons Reference k er es eh u = record {
     start = simp (k, er, es, eh, r .good, and-true);
     afterHard = simp (k, er, es, eh, r .good, and-true);
@@ -240,7 +249,7 @@ module _ (o : ℕ) (xs : List ℕ) (r : States xs) where
   cons Soft k er es eh u = record {
     start = simp (k, er, es, eh, r .inner);
     afterHard = simp (k, er, es, eh, r .inner);
-    inner = simp (k, er, es, eh, r .wrong, and-skip (allHard xs) (placed false false xs) (anyRef xs) (r .noRef));
+    inner = simp (k, er, es, eh, r .wrong, and-skip (allHard xs) (placedFrom false false xs) (anyRef xs) (r .noRef));
     good = simp (k, es, eh, r .endSoft);
     endSoft = simp (k, eh, r .wrong);
     endHard = simp (k, r .wrong);
@@ -252,8 +261,8 @@ module _ (o : ℕ) (xs : List ℕ) (r : States xs) where
   }
   cons Hard k er es eh u = record {
     start = simp (k, er, es, eh, r .afterHard);
-    afterHard = simp (k, er, es, eh, r .wrong, and-true, and-skip (isEmpty xs) (placed false true xs) (anyRef xs) (r .emptyRef));
-    inner = simp (k, er, es, eh, r .wrong, and-true, and-skip (isEmpty xs) (placed false false xs) (anyRef xs) (r .emptyRef));
+    afterHard = simp (k, er, es, eh, r .wrong, and-true, and-skip (isEmpty xs) (placedFrom false true xs) (anyRef xs) (r .emptyRef));
+    inner = simp (k, er, es, eh, r .wrong, and-true, and-skip (isEmpty xs) (placedFrom false false xs) (anyRef xs) (r .emptyRef));
     good = simp (k, es, eh, r .endHard, and-true, r .emptyPlaced);
     endSoft = simp (k, es, eh, r .endHard, and-true, r .emptyPlaced, r .emptyHard);
     endHard = simp (k, r .wrong);
@@ -266,23 +275,23 @@ module _ (o : ℕ) (xs : List ℕ) (r : States xs) where
   cons Unknown k er es eh u = never (cc)
 
 states : (xs : List ℕ) → plain xs ≡ true → States xs
-unfolding run placed anyRef allHard isEmpty plain
+unfolding stageAfter placedFrom anyRef allHard isEmpty plain
 states [] e = record { start = refl; afterHard = refl; inner = refl; good = refl; endSoft = refl; endHard = refl; wrong = refl; noRef = refl; emptyRef = refl; emptyPlaced = refl; emptyHard = refl }
 states (o ∷ xs) e =
-    let h = both (ltb 0 (lenOf o) && ltb (codeOf o) 9) (plain xs) e in
-    let k = both (ltb 0 (lenOf o)) (ltb (codeOf o) 9) (h .0) in
+    let h = split-and (ltb 0 (lenOf o) && ltb (codeOf o) 9) (plain xs) e in
+    let k = split-and (ltb 0 (lenOf o)) (ltb (codeOf o) 9) (h .0) in
     let low : codeOf o < 9 = ltb-true (codeOf o) 9 (k .1) in
     let c : codeOf o < 16 = omega arith in
     cons o xs (states xs (h .1)) (codeClass (codeOf o)) (long-class o (ltb-true 0 (lenOf o) (k .0)))
     (sym (class-ref (codeOf o) c)) (sym (class-soft (codeOf o) c)) (sym (class-hard (codeOf o) c))
     (class-known (codeOf o) c ∙ le-ltb 8 (codeOf o) (omega arith))
 
--- the last place accepts just what the rules take
-pub valid-run : (xs : List ℕ) → acceptOf (run Start xs) ≡ validMapped xs
-unfolding run isEmpty plain placed anyRef
+-- the last stage accepts just what the rules take
+pub valid-run : (xs : List ℕ) → acceptOf (stageAfter Start xs) ≡ validMapped xs
+unfolding stageAfter isEmpty plain placedFrom anyRef
 valid-run [] = sym (valid-is [])
 valid-run (o ∷ xs) = go (plain (o ∷ xs)) refl ∙ sym (valid-is (o ∷ xs))
   where
-    go : (t : Bool) → plain (o ∷ xs) ≡ t → acceptOf (run Start (o ∷ xs)) ≡ (not (isEmpty (o ∷ xs)) && (plain (o ∷ xs) && (placed true true (o ∷ xs) && anyRef (o ∷ xs))))
+    go : (t : Bool) → plain (o ∷ xs) ≡ t → acceptOf (stageAfter Start (o ∷ xs)) ≡ (not (isEmpty (o ∷ xs)) && (plain (o ∷ xs) && (placedFrom true true (o ∷ xs) && anyRef (o ∷ xs))))
     go true e = states (o ∷ xs) e .start ∙ rw e refl
     go false e = odd-run (o ∷ xs) Start e ∙ rw e refl

@@ -9,10 +9,13 @@ use borrow.Author.Tests.{lt-ltb, ltb-true, eq-eqb, eqb-true}
 use Rattle.lists.proofs.Absurd.{never}
 use Rattle.sam.specs.Op.{lenOf, codeOf, isRef}
 use Rattle.sam.specs.Placement.{AllHard, WellPlaced}
-use Rattle.strict_text.specs.Valid.{isEmpty, isSoft, isHard, allHard, anyRef, each, noZero, hardOutside, softOutside, known, validMapped}
+use Rattle.text_rules.specs.Valid.{isEmpty, softOp, hardOp, allHard, anyRef, each, noZero, hardOutside, softOutside, inTable, validMapped}
 use Rattle.lists.specs.Lists.{Each}
-use Rattle.strict_text.specs.Meaning.{HasReference, Mapped}
-use Rattle.strict_text.proofs.TextLaws.{both}
+use Rattle.text_rules.specs.Meaning.{HasReference, Mapped}
+
+pub split-and : (a b : Bool) → (a && b) ≡ true → (a ≡ true) × (b ≡ true)
+split-and true b e = (refl, e)
+split-and false b e = never (cc)
 
 -- ---- a rule at each op
 
@@ -30,12 +33,12 @@ module _ (rule : List ℕ → ℕ → List ℕ → Bool) where
   each-at (x ∷ xs) left h [] o r e =
       let p : x ≡ o = cc in
       let q : xs ≡ r = cc in
-      rw (append-nil left, ← p, ← q) (both (rule left x xs) _ h .0)
+      rw (append-nil left, ← p, ← q) (split-and (rule left x xs) _ h .0)
   each-at (x ∷ xs) left h (y ∷ l) o r e =
       let p : x ≡ y = cc in
       let q : xs ≡ l ++ (o ∷ r) = cc in
       subst (λ (m : List ℕ). rule m o r ≡ true) (append-assoc left (x ∷ []) l ∙ ap (λ (z : ℕ). left ++ (z ∷ l)) p)
-      (each-at xs (left ++ (x ∷ [])) (both (rule left x xs) _ h .1) l o r q)
+      (each-at xs (left ++ (x ∷ [])) (split-and (rule left x xs) _ h .1) l o r q)
 
   pub at-each : (xs left : List ℕ) → ((l : List ℕ) (o : ℕ) (r : List ℕ) → xs ≡ l ++ (o ∷ r) → rule (left ++ l) o r ≡ true) → each rule left xs ≡ true
   unfolding each
@@ -50,7 +53,7 @@ module _ (test : ℕ → Bool) (P : ℕ → Type 0) where
   pub each-all : ((o : ℕ) → test o ≡ true → P o) → (xs left : List ℕ) → each (λ l o r. test o) left xs ≡ true → Each P xs
   unfolding each
   each-all f [] left h = tt
-  each-all f (x ∷ xs) left h = let k = both (test x) _ h in (f x (k .0), each-all f xs (left ++ (x ∷ [])) (k .1))
+  each-all f (x ∷ xs) left h = let k = split-and (test x) _ h in (f x (k .0), each-all f xs (left ++ (x ∷ [])) (k .1))
 
   pub all-each : ((o : ℕ) → P o → test o ≡ true) → (xs left : List ℕ) → Each P xs → each (λ l o r. test o) left xs ≡ true
   unfolding each
@@ -71,7 +74,7 @@ is-empty xs e = rw e
 hard-all : (xs : List ℕ) → allHard xs ≡ true → AllHard xs
 unfolding allHard
 hard-all [] e = tt
-hard-all (x ∷ xs) e = let k = both (isHard x) (allHard xs) e in (eqb-true (codeOf x) 5 (k .0), hard-all xs (k .1))
+hard-all (x ∷ xs) e = let k = split-and (hardOp x) (allHard xs) e in (eqb-true (codeOf x) 5 (k .0), hard-all xs (k .1))
 
 all-hard : (xs : List ℕ) → AllHard xs → allHard xs ≡ true
 unfolding allHard
@@ -99,22 +102,22 @@ placed : (xs : List ℕ) → each hardOutside [] xs ≡ true → each softOutsid
 placed xs h s = record {
   hards = λ l o r e k.
       ⊎-elim (λ p. inl (empty-is l p)) (λ p. inr (empty-is r p))
-      (either (isEmpty l) (isEmpty r) (cond-then (isHard o) _ (each-at hardOutside xs [] h l o r e) (eq-eqb (codeOf o) 5 k)));
+      (either (isEmpty l) (isEmpty r) (cond-then (hardOp o) _ (each-at hardOutside xs [] h l o r e) (eq-eqb (codeOf o) 5 k)));
   softs = λ l o r e k.
       ⊎-elim (λ p. inl (hard-all l p)) (λ p. inr (hard-all r p))
-      (either (allHard l) (allHard r) (cond-then (isSoft o) _ (each-at softOutside xs [] s l o r e) (eq-eqb (codeOf o) 4 k)));
+      (either (allHard l) (allHard r) (cond-then (softOp o) _ (each-at softOutside xs [] s l o r e) (eq-eqb (codeOf o) 4 k)));
 }
 
 hards-placed : (xs : List ℕ) → WellPlaced xs → each hardOutside [] xs ≡ true
 hards-placed xs w =
     at-each hardOutside xs []
-    (λ l o r e. then-cond (isHard o) _
+    (λ l o r e. then-cond (hardOp o) _
     (λ q. one (isEmpty l) (isEmpty r) (⊎-elim (λ p. inl (is-empty l p)) (λ p. inr (is-empty r p)) (w .hards l o r e (eqb-true (codeOf o) 5 q)))))
 
 softs-placed : (xs : List ℕ) → WellPlaced xs → each softOutside [] xs ≡ true
 softs-placed xs w =
     at-each softOutside xs []
-    (λ l o r e. then-cond (isSoft o) _
+    (λ l o r e. then-cond (softOp o) _
     (λ q. one (allHard l) (allHard r) (⊎-elim (λ p. inl (all-hard l p)) (λ p. inr (all-hard r p)) (w .softs l o r e (eqb-true (codeOf o) 4 q)))))
 
 ref-has : (xs : List ℕ) → anyRef xs ≡ true → HasReference xs
@@ -143,11 +146,11 @@ some-ops (x ∷ l) o r = refl
 pub valid-mapped : (xs : List ℕ) → validMapped xs ≡ true → Mapped xs
 unfolding validMapped
 valid-mapped xs e =
-    let a = both _ (anyRef xs) e in
-    let b = both _ (each known [] xs) (a .0) in
-    let c = both _ (each softOutside [] xs) (b .0) in
-    let d = both _ (each hardOutside [] xs) (c .0) in
-    let f = both (not (isEmpty xs)) (each noZero [] xs) (d .0) in
+    let a = split-and _ (anyRef xs) e in
+    let b = split-and _ (each inTable [] xs) (a .0) in
+    let c = split-and _ (each softOutside [] xs) (b .0) in
+    let d = split-and _ (each hardOutside [] xs) (c .0) in
+    let f = split-and (not (isEmpty xs)) (each noZero [] xs) (d .0) in
     record {
       lengths = each-all (λ o. ltb 0 (lenOf o)) (λ o. 0 < lenOf o) (λ o q. ltb-true 0 (lenOf o) q) xs [] (f .1);
       codes = each-all (λ o. ltb (codeOf o) 9) (λ o. codeOf o < 9) (λ o q. ltb-true (codeOf o) 9 q) xs [] (b .1);

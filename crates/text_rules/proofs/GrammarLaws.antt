@@ -1,4 +1,4 @@
--- The reader's byte by byte account of a text is the specification's grammar, and what it takes is what the specification says.
+-- The reader's byte by byte account of a text is the specification's grammar, and what it takes is what the specification in-grammar.
 use Prim.Native.Nat.{ℕ, suc, _+_, _-_, _*_, _≤_, _<_}
 use mathlib.Core.Path.{_≡_, refl, sym, ap, _∙_, subst}
 use mathlib.Core.Bool.{Bool, true, false, cond, not, _||_}
@@ -13,36 +13,36 @@ use Rattle.lists.proofs.Tables.{below-at}
 use Rattle.sam.specs.Op.{lenOf, opOf, letters}
 use Rattle.sam.specs.Text.{Digit, Digits, value, Spells, Spells.end, Spells.op}
 use Rattle.sam.specs.Text.{isDigit}
-use Rattle.strict_text.specs.Text.{place, letterCode, Next, Next.Number, Next.Letter, Next.Bad, nextOf, onNext, rowFrom, isRow, opsFrom, textOps}
-use Rattle.strict_text.specs.Valid.{validMapped}
-use Rattle.strict_text.specs.Parsed.{strict}
+use Rattle.text_rules.specs.Text.{indexOf, letterCode, Effect, Effect.Number, Effect.Letter, Effect.Bad, effectOf, onEffect, rowFrom, isRow, opsFrom, textOps}
+use Rattle.text_rules.specs.Valid.{validMapped}
+use Rattle.text_rules.specs.Strict.{strict}
 use Rattle.lists.specs.Lists.{Each}
-use Rattle.strict_text.specs.Meaning.{MappedText}
+use Rattle.text_rules.specs.Meaning.{MappedText}
 use Rattle.sam.proofs.TextLaws.{is-digit, a-digit}
-use Rattle.strict_text.proofs.TextLaws.{both, next-digit, next-letter}
-use Rattle.strict_text.proofs.ValidLaws.{valid-mapped, mapped-valid}
+use Rattle.text_rules.proofs.ByteLaws.{byte-digit, byte-letter}
+use Rattle.text_rules.proofs.ValidLaws.{split-and, valid-mapped, mapped-valid}
 
 -- ---- the letters are the specification's
 
 pub letter-code : (c : ℕ) → c < 9 → letterCode (getD letters c 0) ≡ c
-unfolding letterCode place
+unfolding letterCode indexOf
 letter-code c h = eqb-true _ c (below-at (λ d. eqb (letterCode (getD letters d 0)) d) 9 c refl h)
 
 pub letter-digit : (c : ℕ) → c < 9 → isDigit (getD letters c 0) ≡ false
 letter-digit c h = not-true _ (below-at (λ d. not (isDigit (getD letters d 0))) 9 c refl h)
 
-place-at : (b : ℕ) (xs : List ℕ) → place b xs < length xs → getD xs (place b xs) 0 ≡ b
-unfolding place
-place-at b [] h = absurd (omega arith)
-place-at b (x ∷ xs) h = go (eqb b x) refl h (place-at b xs)
+index-at : (b : ℕ) (xs : List ℕ) → indexOf b xs < length xs → getD xs (indexOf b xs) 0 ≡ b
+unfolding indexOf
+index-at b [] h = absurd (omega arith)
+index-at b (x ∷ xs) h = go (eqb b x) refl h (index-at b xs)
   where
-    go : (t : Bool) → eqb b x ≡ t → cond t 0 (suc (place b xs)) < suc (length xs) → (place b xs < length xs → getD xs (place b xs) 0 ≡ b) → getD (x ∷ xs) (cond t 0 (suc (place b xs))) 0 ≡ b
+    go : (t : Bool) → eqb b x ≡ t → cond t 0 (suc (indexOf b xs)) < suc (length xs) → (indexOf b xs < length xs → getD xs (indexOf b xs) 0 ≡ b) → getD (x ∷ xs) (cond t 0 (suc (indexOf b xs))) 0 ≡ b
     go true q k ih = sym (eqb-true b x q)
     go false q k ih = ih (omega arith)
 
 pub code-letter : (b : ℕ) → letterCode b < 9 → getD letters (letterCode b) 0 ≡ b
 unfolding letterCode
-code-letter b h = place-at b letters h
+code-letter b h = index-at b letters h
 
 -- ---- a text of the grammar is read
 
@@ -55,10 +55,10 @@ run-row : (ds : List ℕ) (b num : ℕ) (some : Bool) (s : List ℕ) → Digits 
     → (rowFrom num some ((b ∷ ds) ++ s) ≡ rowFrom (value num (b ∷ ds)) true s) × (opsFrom num ((b ∷ ds) ++ s) ≡ opsFrom (value num (b ∷ ds)) s)
 unfolding value rowFrom opsFrom
 run-row [] b num some s h m =
-    let n = next-digit num b (is-digit b (h .0)) m in
+    let n = byte-digit num b (is-digit b (h .0)) m in
     (rw n, rw n)
 run-row (d ∷ ds) b num some s h m =
-    let n = next-digit num b (is-digit b (h .0)) (omega (arith, m, value-ge (d ∷ ds) (num * 10 + (b - 48)) (h .1))) in
+    let n = byte-digit num b (is-digit b (h .0)) (omega (arith, m, value-ge (d ∷ ds) (num * 10 + (b - 48)) (h .1))) in
     let r = run-row ds d (num * 10 + (b - 48)) true s (h .1) m in
     (rw n (r .0), rw n (r .1))
 
@@ -75,34 +75,34 @@ complete (Spells.op d ds c {s} {ops} a k t) h =
     let n : lenOf (opOf v c) ≡ v = omega arith in
     let some : 0 < v = omega (arith, h .0 .0) in
     let r = run-row ds d 0 false (l ∷ s) a (omega (arith, h .0 .1)) in
-    let e : nextOf v l ≡ Next.Letter c = next-letter v l (letter-digit c k) (λ z. omega arith) (omega (arith, letter-code c k)) ∙ ap Next.Letter (letter-code c k) in
+    let e : effectOf v l ≡ Effect.Letter c = byte-letter v l (letter-digit c k) (λ z. omega arith) (omega (arith, letter-code c k)) ∙ ap Effect.Letter (letter-code c k) in
     let ih = complete t (h .1) in
     (r .0 ∙ rw e (ih .0), r .1 ∙ rw e (ap (λ (ys : List ℕ). opOf v c ∷ ys) (ih .1)))
 
 -- ---- a text that is read is one of the grammar
 
-abbrev Says : ℕ → ℕ → Next → Type 0
-Says num b (Next.Number v) = Digit b × (v ≡ num * 10 + (b - 48)) × (v ≤ 268435455)
-Says num b (Next.Letter c) = (0 < num) × (c < 9) × (b ≡ getD letters c 0)
-Says num b Next.Bad = Unit {0}
+abbrev InGrammar : ℕ → ℕ → Effect → Type 0
+InGrammar num b (Effect.Number v) = Digit b × (v ≡ num * 10 + (b - 48)) × (v ≤ 268435455)
+InGrammar num b (Effect.Letter c) = (0 < num) × (c < 9) × (b ≡ getD letters c 0)
+InGrammar num b Effect.Bad = Unit {0}
 
-says-pick : (num b : ℕ) (t u v w : Bool) → isDigit b ≡ t → ltb 268435455 (num * 10 + (b - 48)) ≡ u → eqb num 0 ≡ v → ltb 8 (letterCode b) ≡ w
-    → Says num b (cond t (cond u Next.Bad (Next.Number (num * 10 + (b - 48)))) (cond (v || w) Next.Bad (Next.Letter (letterCode b))))
-says-pick num b true true v w a e f g = tt
-says-pick num b true false v w a e f g = (a-digit b a, refl, ltb-false 268435455 (num * 10 + (b - 48)) e)
-says-pick num b false u true w a e f g = tt
-says-pick num b false u false true a e f g = tt
-says-pick num b false u false false a e f g =
+in-grammar-pick : (num b : ℕ) (t u v w : Bool) → isDigit b ≡ t → ltb 268435455 (num * 10 + (b - 48)) ≡ u → eqb num 0 ≡ v → ltb 8 (letterCode b) ≡ w
+    → InGrammar num b (cond t (cond u Effect.Bad (Effect.Number (num * 10 + (b - 48)))) (cond (v || w) Effect.Bad (Effect.Letter (letterCode b))))
+in-grammar-pick num b true true v w a e f g = tt
+in-grammar-pick num b true false v w a e f g = (a-digit b a, refl, ltb-false 268435455 (num * 10 + (b - 48)) e)
+in-grammar-pick num b false u true w a e f g = tt
+in-grammar-pick num b false u false true a e f g = tt
+in-grammar-pick num b false u false false a e f g =
     let z : num ≡ 0 → ⊥ = eqb-false num 0 f in
     let low : letterCode b ≤ 8 = ltb-false 8 (letterCode b) g in
     (omega arith, omega arith, sym (code-letter b (omega arith)))
 
-says : (num b : ℕ) → Says num b (nextOf num b)
-unfolding nextOf
-says num b = says-pick num b (isDigit b) (ltb 268435455 (num * 10 + (b - 48))) (eqb num 0) (ltb 8 (letterCode b)) refl refl refl refl
+in-grammar : (num b : ℕ) → InGrammar num b (effectOf num b)
+unfolding effectOf
+in-grammar num b = in-grammar-pick num b (isDigit b) (ltb 268435455 (num * 10 + (b - 48))) (eqb num 0) (ltb 8 (letterCode b)) refl refl refl refl
 
 -- what is left of a text after the number num of an op's digits: more digits, a letter, and a row
-record Tail (num : ℕ) (s xs : List ℕ) : Type 0 where
+record OpLeft (num : ℕ) (s xs : List ℕ) : Type 0 where
   digits : List ℕ
   code : ℕ
   rest : List ℕ
@@ -119,15 +119,15 @@ record Tail (num : ℕ) (s xs : List ℕ) : Type 0 where
 abbrev Whole : List ℕ → List ℕ → Type 0
 Whole s xs = Spells s xs × Each InRange xs
 
-abbrev Both : List ℕ → Type 0
-Both s =
-    ((num : ℕ) → num ≤ 268435455 → rowFrom num true s ≡ true → Tail num s (opsFrom num s))
+abbrev Readable : List ℕ → Type 0
+Readable s =
+    ((num : ℕ) → num ≤ 268435455 → rowFrom num true s ≡ true → OpLeft num s (opsFrom num s))
     × (rowFrom 0 false s ≡ true → Whole s (opsFrom 0 s))
 
-mid-byte : (x : Next) (num b : ℕ) (s : List ℕ) → num ≤ 268435455 → Says num b x → Both s
-    → onNext x (λ v. rowFrom v true s) (λ c. rowFrom 0 false s) false ≡ true → Tail num (b ∷ s) (onNext x (λ v. opsFrom v s) (λ c. opOf num c ∷ opsFrom 0 s) [])
+mid-byte : (x : Effect) (num b : ℕ) (s : List ℕ) → num ≤ 268435455 → InGrammar num b x → Readable s
+    → onEffect x (λ v. rowFrom v true s) (λ c. rowFrom 0 false s) false ≡ true → OpLeft num (b ∷ s) (onEffect x (λ v. opsFrom v s) (λ c. opOf num c ∷ opsFrom 0 s) [])
 unfolding value
-mid-byte (Next.Number v) num b s h w ih e =
+mid-byte (Effect.Number v) num b s h w ih e =
     let t = ih .0 v (w .2) e in
     let q : value v (t .digits) ≡ value (num * 10 + (b - 48)) (t .digits) = ap (λ (k : ℕ). value k (t .digits)) (w .1) in
     record {
@@ -144,7 +144,7 @@ mid-byte (Next.Number v) num b s h w ih e =
       fits = t .fits;
       ops-are = t .ops-are ∙ ap (λ (k : ℕ). opOf k (t .code) ∷ t .others) q;
     }
-mid-byte (Next.Letter c) num b s h w ih e = record {
+mid-byte (Effect.Letter c) num b s h w ih e = record {
   digits = [];
   code = c;
   rest = s;
@@ -158,30 +158,30 @@ mid-byte (Next.Letter c) num b s h w ih e = record {
   fits = ih .1 e .1;
   ops-are = refl;
 }
-mid-byte Next.Bad num b s h w ih e = never (cc)
+mid-byte Effect.Bad num b s h w ih e = never (cc)
 
-start-byte : (x : Next) (b : ℕ) (s : List ℕ) → Says 0 b x → Both s
-    → onNext x (λ v. rowFrom v true s) (λ c. rowFrom 0 false s) false ≡ true → Whole (b ∷ s) (onNext x (λ v. opsFrom v s) (λ c. opOf 0 c ∷ opsFrom 0 s) [])
+start-byte : (x : Effect) (b : ℕ) (s : List ℕ) → InGrammar 0 b x → Readable s
+    → onEffect x (λ v. rowFrom v true s) (λ c. rowFrom 0 false s) false ≡ true → Whole (b ∷ s) (onEffect x (λ v. opsFrom v s) (λ c. opOf 0 c ∷ opsFrom 0 s) [])
 unfolding value mid-byte
-start-byte (Next.Number v) b s w ih e =
-    let t = mid-byte (Next.Number v) 0 b s (omega arith) w ih e in
+start-byte (Effect.Number v) b s w ih e =
+    let t = mid-byte (Effect.Number v) 0 b s (omega arith) w ih e in
     let u = ih .0 v (w .2) e in
     let k = t .known in
     let n : lenOf (opOf (value 0 (t .digits)) (t .code)) ≡ value 0 (t .digits) = omega arith in
     rw (t .split, t .ops-are)
     (Spells.op b (u .digits) (t .code) (t .are) (t .known) (t .row), ((omega (arith, t .some), omega (arith, t .most)), t .fits))
-start-byte (Next.Letter c) b s w ih e = absurd (omega (arith, w .0))
-start-byte Next.Bad b s w ih e = never (cc)
+start-byte (Effect.Letter c) b s w ih e = absurd (omega (arith, w .0))
+start-byte Effect.Bad b s w ih e = never (cc)
 
-read : (s : List ℕ) → Both s
+read : (s : List ℕ) → Readable s
 unfolding rowFrom opsFrom
 read [] = ((λ num h e. never (cc)), (λ e. (Spells.end, tt)))
-read (b ∷ s) = ((λ num h e. mid-byte (nextOf num b) num b s h (says num b) (read s) e), (λ e. start-byte (nextOf 0 b) b s (says 0 b) (read s) e))
+read (b ∷ s) = ((λ num h e. mid-byte (effectOf num b) num b s h (in-grammar num b) (read s) e), (λ e. start-byte (effectOf 0 b) b s (in-grammar 0 b) (read s) e))
 
 pub sound : (s : List ℕ) → isRow s ≡ true → Spells s (textOps s) × Each InRange (textOps s)
 sound s e = read s .1 e
 
--- ---- the strict reader takes what the specification says, and answers that list
+-- ---- the strict reader takes what the specification in-grammar, and answers that list
 
 range-of : (xs : List ℕ) → Each (λ o. 0 < lenOf o) xs → Each (λ o. lenOf o ≤ 268435455) xs → Each InRange xs
 range-of [] h k = tt
@@ -190,7 +190,7 @@ range-of (x ∷ xs) h k = ((h .0, k .0), range-of xs (h .1) (k .1))
 pub accepts : (s : List ℕ) → strict s ≡ true → MappedText s (textOps s)
 unfolding strict
 accepts s e =
-    let h = both (isRow s) (validMapped (textOps s)) e in
+    let h = split-and (isRow s) (validMapped (textOps s)) e in
     let r = sound s (h .0) in
     record { spells = r .0; fits = each-map InRange (λ o. lenOf o ≤ 268435455) (λ o h. h .1) (textOps s) (r .1); mapped = valid-mapped (textOps s) (h .1) }
 

@@ -10,15 +10,15 @@ unfoldable pub isEmpty : List ℕ → Bool
 isEmpty [] = true
 isEmpty (o ∷ xs) = false
 
-abbrev pub isSoft : ℕ → Bool
-isSoft o = eqb (codeOf o) 4
+abbrev pub softOp : ℕ → Bool
+softOp o = eqb (codeOf o) 4
 
-abbrev pub isHard : ℕ → Bool
-isHard o = eqb (codeOf o) 5
+abbrev pub hardOp : ℕ → Bool
+hardOp o = eqb (codeOf o) 5
 
 unfoldable pub allHard : List ℕ → Bool
 allHard [] = true
-allHard (o ∷ xs) = isHard o && allHard xs
+allHard (o ∷ xs) = hardOp o && allHard xs
 
 unfoldable pub anyRef : List ℕ → Bool
 anyRef [] = false
@@ -34,14 +34,14 @@ abbrev pub noZero : List ℕ → ℕ → List ℕ → Bool
 noZero left o right = ltb 0 (lenOf o)
 
 abbrev pub hardOutside : List ℕ → ℕ → List ℕ → Bool
-hardOutside left o right = cond (isHard o) (isEmpty left || isEmpty right) true
+hardOutside left o right = cond (hardOp o) (isEmpty left || isEmpty right) true
 
 abbrev pub softOutside : List ℕ → ℕ → List ℕ → Bool
-softOutside left o right = cond (isSoft o) (allHard left || allHard right) true
+softOutside left o right = cond (softOp o) (allHard left || allHard right) true
 
-abbrev pub known : List ℕ → ℕ → List ℕ → Bool
-known left o right = ltb (codeOf o) 9
+abbrev pub inTable : List ℕ → ℕ → List ℕ → Bool
+inTable left o right = ltb (codeOf o) 9
 
 unfoldable pub validMapped : List ℕ → Bool
 validMapped xs =
-    not (isEmpty xs) && each noZero [] xs && each hardOutside [] xs && each softOutside [] xs && each known [] xs && anyRef xs
+    not (isEmpty xs) && each noZero [] xs && each hardOutside [] xs && each softOutside [] xs && each inTable [] xs && anyRef xs

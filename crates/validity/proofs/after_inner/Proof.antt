@@ -2,10 +2,10 @@
 use borrow.Author.Needs.{needs}
 use mathlib.Core.Path.{_≡_, sym, _∙_}
 use mathlib.Core.Bool.{true, false}
-use Rattle.strict_text.specs.Pass.{isPast, acceptOf}
-use Rattle.strict_text.proofs.StepLaws.{past-inner, good-inner, first-inner}
-use Rattle.strict_text.proofs.after_inner.Statement.{statement}
-use Rattle.strict_text.proofs.after_inner.Tie as tie
+use Rattle.validity.specs.InnerStages.{isPast, acceptOf}
+use Rattle.validity.proofs.StepLaws.{past-inner, good-inner, first-inner}
+use Rattle.validity.proofs.after_inner.Statement.{statement}
+use Rattle.validity.proofs.after_inner.Tie as tie
 
 is-past-requires : tie.Need-is-past-requires
 is-past-requires c κs = search needs
