@@ -1,6 +1,6 @@
 -- The specification's own examples, computed from its definitions: the alignments of 1.1 by their bases, r001/1 as a record, texts, clips that may
 -- stand and that may not, the levels of bins.
-use Prim.Native.Nat.{ℕ, _+_, _*_, _/_, _^_, _≤_}
+use Prim.Native.Nat.{ℕ, _+_, _/_, _^_, _≤_}
 use mathlib.Core.Path.{_≡_, refl, ap}
 use mathlib.Core.Bool.{true, false}
 use mathlib.Core.List.{List, [], _∷_}
