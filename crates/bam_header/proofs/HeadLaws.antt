@@ -9,7 +9,7 @@ use lib.ListN.{length, drop, length-append, length-drop}
 use lib.Seq.{drop-append-le, drop-drop}
 use borrow.Author.Tests.{lt-ltb, le-ltb, ltb-true, ltb-false, eq-eqb, eqb-true, eqb-false}
 use Rattle.sam.specs.Record.{byteAt, le32}
-use Rattle.little.proofs.FrontLaws.{front-number}
+use Rattle.little_endian.proofs.FrontLaws.{front-number}
 use Rattle.bam_header.specs.Header.{Head, Head.Records, Head.CutShort, isBam, pastBytes, pastNumber, references, counted, texted}
 use Rattle.bam_header.specs.Inner.{fromPart, fromPlace, isRecords, isBegun, isReady, behindNumber, HeadGone, HeadWent}
 use Rattle.bam_header.specs.declared.HeadPart.{HeadPart}

@@ -145,7 +145,7 @@ fn turn(s: &[u8], p: HeadPlace) -> Step
             },
         };
     }
-    let number = little::u32_at(s, 0);
+    let number = little_endian::u32_at(s, 0);
     Step {
         used: 4,
         place: behind_number(part, number),

@@ -100,7 +100,7 @@ pub fn bin_from_raw_bam(bam: &[u8]) -> Nat
     if bam.len() < 32 {
         return Nat::Refused(Refusal::ShortRecord);
     }
-    let start = little::i32_at(bam, 4);
+    let start = little_endian::i32_at(bam, 4);
     if start < 0 {
         return Nat::Number(UNMAPPED_BIN);
     }

@@ -133,7 +133,7 @@ fn unclipped_5prime(bam: &[u8]) -> Unclipped
     if bam.len() < 32 {
         return Unclipped::Refused(Refusal::ShortRecord);
     }
-    let flags = little::u16_at(bam, 14);
+    let flags = little_endian::u16_at(bam, 14);
     if fields::is_unmapped(flags) {
         return Unclipped::Unmapped;
     }
@@ -141,7 +141,7 @@ fn unclipped_5prime(bam: &[u8]) -> Unclipped
     if oplist::count(&[], bam, list) == 0 {
         return Unclipped::NoOps;
     }
-    match one_based(Pos0(little::i32_at(bam, 4))) {
+    match one_based(Pos0(little_endian::i32_at(bam, 4))) {
         Place1::At(p) => {
             if fields::is_reverse(flags) {
                 return as_unclipped(end_from(p.0, tails::tail_of(&[], bam, list)));
@@ -197,7 +197,7 @@ pub fn alignment_start_from_raw(bam: &[u8]) -> Found1
     if bam.len() < 32 {
         return Found1::Refused(Refusal::ShortRecord);
     }
-    let pos = little::i32_at(bam, 4);
+    let pos = little_endian::i32_at(bam, 4);
     if pos < 0 {
         return Found1::Nothing;
     }
@@ -211,7 +211,7 @@ pub fn alignment_end_from_raw(bam: &[u8]) -> Found1
     if bam.len() < 32 {
         return Found1::Refused(Refusal::ShortRecord);
     }
-    let pos = little::i32_at(bam, 4);
+    let pos = little_endian::i32_at(bam, 4);
     if pos < 0 {
         return Found1::Nothing;
     }

@@ -37,7 +37,7 @@ fn int_field(bam: &[u8], at: usize) -> Int
     if bam.len() < 32 {
         return Int::Refused(Refusal::ShortRecord);
     }
-    Int::Number(little::i32_at(bam, at))
+    Int::Number(little_endian::i32_at(bam, at))
 }
 
 fn nat_field(bam: &[u8], at: usize) -> Nat
@@ -47,7 +47,7 @@ fn nat_field(bam: &[u8], at: usize) -> Nat
     if bam.len() < 32 {
         return Nat::Refused(Refusal::ShortRecord);
     }
-    Nat::Number(little::u16_at(bam, at))
+    Nat::Number(little_endian::u16_at(bam, at))
 }
 
 pub fn ref_id(bam: &[u8]) -> Int
@@ -68,7 +68,7 @@ pub fn l_read_name(bam: &[u8]) -> Nat
     if bam.len() < 32 {
         return Nat::Refused(Refusal::ShortRecord);
     }
-    Nat::Number(little::u8_at(bam, 8))
+    Nat::Number(little_endian::u8_at(bam, 8))
 }
 
 pub fn bin(bam: &[u8]) -> Nat
@@ -95,7 +95,7 @@ pub fn l_seq(bam: &[u8]) -> Nat
     if bam.len() < 32 {
         return Nat::Refused(Refusal::ShortRecord);
     }
-    Nat::Number(little::u32_at(bam, 16))
+    Nat::Number(little_endian::u32_at(bam, 16))
 }
 
 pub fn mate_ref_id(bam: &[u8]) -> Int

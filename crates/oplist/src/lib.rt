@@ -38,8 +38,8 @@ pub fn of_record(rec: &[u8]) -> Ops
 {
     Ops {
         inside: true,
-        at: 32 + little::u8_at(rec, 8) as usize,
-        n: little::u16_at(rec, 12),
+        at: 32 + little_endian::u8_at(rec, 8) as usize,
+        n: little_endian::u16_at(rec, 12),
     }
 }
 
@@ -79,7 +79,7 @@ pub fn op_at(words: &[u32], rec: &[u8], ops: Ops, i: usize) -> u32
     ensures { λ r. ⌜ r ≡ getD (opsOf (now (words .entry)) (now (rec .entry)) ops) i 0 ⌝ }
 {
     if ops.inside {
-        return little::u32_at(rec, ops.at + 4 * i);
+        return little_endian::u32_at(rec, ops.at + 4 * i);
     }
     words[i]
 }

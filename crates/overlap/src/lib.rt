@@ -50,7 +50,7 @@ fn placed_pair(fr: bool, bam: &[u8], mate: Pos0) -> PairPlaces
         return PairPlaces::Apart;
     }
     both_places(
-        ends::one_based(Pos0(little::i32_at(bam, 4))),
+        ends::one_based(Pos0(little_endian::i32_at(bam, 4))),
         ends::one_based(mate),
     )
 }
@@ -73,7 +73,7 @@ fn bases_at(placed: PairPlaces, bam: &[u8], words: &[u32], rec: &[u8], list: Ops
     match placed {
         PairPlaces::Apart => 0,
         PairPlaces::At(p, m) => {
-            let reverse = fields::is_reverse(little::u16_at(bam, 14));
+            let reverse = fields::is_reverse(little_endian::u16_at(bam, 14));
             overhang::overhang(
                 reverse,
                 p,
@@ -139,7 +139,7 @@ pub fn num_bases_extending_past_mate_cigar_raw(bam: &[u8], mate_ops: &[u32]) -> 
     if !validity::valid(mate_ops, &[], list.inside, list.at, list.n) {
         return Count::Number(0);
     }
-    pair_overhang(fr, bam, Pos0(little::i32_at(bam, 24)), mate_ops, &[], list)
+    pair_overhang(fr, bam, Pos0(little_endian::i32_at(bam, 24)), mate_ops, &[], list)
 }
 
 // The query bases past the mate, whose record is given. Refusals 1 and 4.
@@ -153,7 +153,7 @@ pub fn num_bases_extending_past_mate_vs_mate_raw(rec: &[u8], mate: &[u8]) -> Cou
         return Count::Refused(Refusal::ShortRecord);
     }
     let fr = pairs::primary_fr(rec, mate);
-    let place = Pos0(little::i32_at(mate, 4));
+    let place = Pos0(little_endian::i32_at(mate, 4));
     pair_overhang(fr, rec, place, &[], mate, oplist::of_record(mate))
 }
 
@@ -162,7 +162,7 @@ fn list_left(fr: bool, bam: &[u8], text: &[u8], n: u64, out: &mut [u32]) -> Over
     requires { ⌜ (32 ≤ length (now bam)) × (length (textOps (now text)) ≡ n) × (n ≤ mostOps) ⌝ }
     ensures { λ r. ⌜ Settled (listLeft (placedPair fr (now (bam .entry)) (matePosOf (now (bam .entry)))) (now (bam .entry)) (textOps (now (text .entry))) (now (out .entry))) r (now (out .exit)) ⌝ }
 {
-    let placed = placed_pair(fr, bam, Pos0(little::i32_at(bam, 24)));
+    let placed = placed_pair(fr, bam, Pos0(little_endian::i32_at(bam, 24)));
     if is_over(placed) {
         return Overhang::Refused(Refusal::Overflow);
     }

@@ -34,14 +34,14 @@ fn opposite(bam: &[u8]) -> bool
     requires { ⌜ 32 ≤ length (now bam) ⌝ }
     ensures { λ r. ⌜ r ≡ isOpposite (now (bam .entry)) ⌝ }
 {
-    let flags = little::u16_at(bam, 14);
+    let flags = little_endian::u16_at(bam, 14);
     if !fields::is_paired(flags) {
         return false;
     }
     if !both_mapped(flags) {
         return false;
     }
-    if !signed::same(little::i32_at(bam, 0), little::i32_at(bam, 20)) {
+    if !signed::same(little_endian::i32_at(bam, 0), little_endian::i32_at(bam, 20)) {
         return false;
     }
     differ(fields::is_reverse(flags), fields::is_mate_reverse(flags))
@@ -63,8 +63,8 @@ fn mate_starts_before(bam: &[u8]) -> Flag
     requires { ⌜ 32 ≤ length (now bam) ⌝ }
     ensures { λ r. ⌜ r ≡ mateStartsBefore (now (bam .entry)) ⌝ }
 {
-    let mate = Pos0(little::i32_at(bam, 24));
-    let own = Pos0(little::i32_at(bam, 4));
+    let mate = Pos0(little_endian::i32_at(bam, 24));
+    let own = Pos0(little_endian::i32_at(bam, 4));
     match lengths::asked_length(bam) {
         Int::Number(n) => Flag::Is(starts_before_end(mate, own, n)),
         Int::Refused(why) => Flag::Refused(why),
@@ -85,7 +85,7 @@ fn fr_by(forward: bool, bam: &[u8]) -> Flag
     if !opposite(bam) {
         return Flag::Is(false);
     }
-    if fields::is_reverse(little::u16_at(bam, 14)) {
+    if fields::is_reverse(little_endian::u16_at(bam, 14)) {
         return mate_starts_before(bam);
     }
     Flag::Is(forward)
@@ -96,7 +96,7 @@ fn fr(bam: &[u8]) -> Flag
     requires { ⌜ 32 ≤ length (now bam) ⌝ }
     ensures { λ r. ⌜ r ≡ isFr (now (bam .entry)) ⌝ }
 {
-    fr_by(at_least_one(little::i32_at(bam, 28)), bam)
+    fr_by(at_least_one(little_endian::i32_at(bam, 28)), bam)
 }
 
 // FR by the record and the mate's reference length.
@@ -104,8 +104,8 @@ pub fn fr_with_mate(bam: &[u8], n: i32) -> Flag
     requires { ⌜ 32 ≤ length (now bam) ⌝ }
     ensures { λ r. ⌜ r ≡ isFrWithMate (now (bam .entry)) n ⌝ }
 {
-    let own = Pos0(little::i32_at(bam, 4));
-    let mate = Pos0(little::i32_at(bam, 24));
+    let own = Pos0(little_endian::i32_at(bam, 4));
+    let mate = Pos0(little_endian::i32_at(bam, 24));
     fr_by(starts_before_end(own, mate, n), bam)
 }
 
@@ -114,15 +114,15 @@ fn both_opposite(a: &[u8], b: &[u8]) -> bool
     requires { ⌜ (32 ≤ length (now a)) × (32 ≤ length (now b)) ⌝ }
     ensures { λ r. ⌜ r ≡ areOpposite (now (a .entry)) (now (b .entry)) ⌝ }
 {
-    let flags = little::u16_at(a, 14);
-    let other = little::u16_at(b, 14);
+    let flags = little_endian::u16_at(a, 14);
+    let other = little_endian::u16_at(b, 14);
     if !both_mapped(flags) {
         return false;
     }
     if !both_mapped(other) {
         return false;
     }
-    if !signed::same(little::i32_at(a, 0), little::i32_at(b, 0)) {
+    if !signed::same(little_endian::i32_at(a, 0), little_endian::i32_at(b, 0)) {
         return false;
     }
     differ(fields::is_reverse(flags), fields::is_reverse(other))
@@ -136,7 +136,7 @@ pub fn primary_fr(a: &[u8], b: &[u8]) -> Flag
     if !both_opposite(a, b) {
         return Flag::Is(false);
     }
-    if fields::is_reverse(little::u16_at(a, 14)) {
+    if fields::is_reverse(little_endian::u16_at(a, 14)) {
         return fr(a);
     }
     fr(b)

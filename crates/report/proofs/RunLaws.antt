@@ -13,7 +13,7 @@ use Rattle.sam.specs.Record.{byteAt, le16}
 use Rattle.blocks.specs.Fill.{Gathers, First}
 use Rattle.blocks.specs.declared.Read.{Read}
 use Rattle.blocks.proofs.BlockLaws.{drop-take, gathered}
-use Rattle.frames.specs.Stream.{isMarked, Reports, badInput, Prints}
+use Rattle.report_stream.specs.Stream.{isMarked, Reports, badInput, Prints}
 use Rattle.report.specs.Run.{atHand, waiting, begun, Refilled, readBehind, Turned, added, dueOf, relievedOf, Ran, Ran.starts, Ran.turns, Came}
 use Rattle.report.specs.declared.State.{State}
 use Rattle.report.proofs.TurnLaws.{grown}

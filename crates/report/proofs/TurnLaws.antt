@@ -8,12 +8,12 @@ use native.Mathlib.Omega.{arith}
 use lib.ListN.{length, take, drop, length-take}
 use lib.Seq.{take-take, take-append-le, drop-append-le, length-take-le}
 use Rattle.blocks.proofs.BlockLaws.{drop-take, fill-more, fill-some}
-use Rattle.puts.specs.Puts.{Put}
-use Rattle.frames.specs.Stream.{closing, lastWord, Reports}
-use Rattle.frames.specs.Inner.{Went, goesOn}
-use Rattle.frames.specs.declared.NextFrame.{NextFrame}
-use Rattle.frames.specs.declared.Block.{Block}
-use Rattle.frames.proofs.FrameLaws.{ends-there, went-on}
+use Rattle.put_text.specs.Puts.{Put}
+use Rattle.report_stream.specs.Stream.{closing, lastWord, Reports}
+use Rattle.report_stream.specs.Inner.{Went, goesOn}
+use Rattle.report_stream.specs.declared.NextFrame.{NextFrame}
+use Rattle.report_stream.specs.declared.Block.{Block}
+use Rattle.report_stream.proofs.FrameLaws.{ends-there, went-on}
 use Rattle.report.specs.Run.{atHand, Enough, Refilled, Refilled.enough, Refilled.reads, Turned}
 use Rattle.report.specs.declared.State.{State}
 

@@ -5,10 +5,10 @@ ghost use mathlib.Core.Bool.{true, false};
 ghost use Prim.Native.Nat.{_+_, _≤_, _<_};
 ghost use lib.ListN.{length, take};
 ghost use Rattle.blocks.specs.Fill.{First};
-ghost use Rattle.frames.specs.Stream.{isMarked, lastWord, badInput};
+ghost use Rattle.report_stream.specs.Stream.{isMarked, lastWord, badInput};
 ghost use Rattle.report.specs.Run.{begun, Refilled, Turned, dueOf, relievedOf, Came};
 use blocks::Read;
-use frames::NextFrame;
+use report_stream::NextFrame;
 
 // The most bytes that a record and its size take: with so many at hand none has to be read.
 const ENOUGH: usize = 32772;
@@ -111,11 +111,11 @@ fn turn(s: State, block: &mut [u8], out: &mut [u8]) -> State
     ensures { λ r. ⌜ (r .have ≤ s .have) × (r .put ≤ 131328) × (r .records ≤ s .records + 65536) ⌝ }
 {
     let have = s.have;
-    let b = frames::lines_at_hand(&block[..have], s.whole, s.records, out, s.put);
+    let b = report_stream::lines_at_hand(&block[..have], s.whole, s.records, out, s.put);
     let next = b.next;
-    if !frames::goes_on(next) {
+    if !report_stream::goes_on(next) {
         let word = last_word(s.failed, next);
-        let end = frames::close(word, b.records, out, b.put);
+        let end = report_stream::close(word, b.records, out, b.put);
         return State {
             have: have,
             whole: s.whole,
@@ -145,7 +145,7 @@ fn due(s: State) -> usize
     if !s.going {
         return s.put;
     }
-    if s.put <= frames::FULL {
+    if s.put <= report_stream::FULL {
         return 0;
     }
     s.put
@@ -236,7 +236,7 @@ fn main() {
     let mut block = io::large_buffer();
     let first = blocks::first(&mut block, 5);
     let have = first.have;
-    if !frames::marked(&block[..have]) {
+    if !report_stream::marked(&block[..have]) {
         let ok = refuse(&block[..have]);
         tell(ok, first.failed);
         return;

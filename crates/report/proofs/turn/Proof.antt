@@ -4,9 +4,9 @@ use mathlib.Core.Path.{refl, sym, ap, _∙_}
 use native.Mathlib.Omega.{arith}
 use lib.ListN.{length-take}
 use borrow.Author.Tests.{not-true, not-false}
-use Rattle.puts.proofs.PutLaws.{put-as}
-use Rattle.frames.specs.Stream.{closing}
-use Rattle.frames.specs.declared.NextFrame.{NextFrame}
+use Rattle.put_text.proofs.PutLaws.{put-as}
+use Rattle.report_stream.specs.Stream.{closing}
+use Rattle.report_stream.specs.declared.NextFrame.{NextFrame}
 use Rattle.report.proofs.TurnLaws.{within, turned-on, turned-off}
 use borrow.Author.Needs.{needs}
 use Rattle.report.proofs.turn.Statement.{statement}

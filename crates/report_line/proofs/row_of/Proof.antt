@@ -1,0 +1,151 @@
+-- What each call ensures; the first that refuses decides.
+use Prim.Native.Nat.{ℕ, _≤_}
+use mathlib.Core.Path.{_≡_, refl, sym, ap, _∙_}
+use native.Mathlib.Omega.{arith}
+use lib.IntN.{pos}
+use lib.ListN.{length}
+use mir.Facts.{toZ-pos}
+use mir.Syntax.{w32}
+use mir.Val.{toZ, ofZ}
+use borrow.Author.Tests.{not-true, not-false}
+use Rattle.lists.specs.Lists.{sumOf}
+use Rattle.sam.specs.Op.{refLen, queryLen}
+use Rattle.sam.specs.Record.{recordOps, opsEnd}
+use Rattle.oplist.proofs.OpsLaws.{lies, overruns}
+use Rattle.lengths.specs.Lengths.{checkedRefLength}
+use Rattle.answers.specs.declared.Int.the-variants as Int
+use Rattle.report_line.specs.Inner.{rowOf}
+use Rattle.report_line.proofs.LineLaws.{refs-overrun, refs-over, refs-are, figures-are}
+use borrow.Author.Needs.{needs}
+use Rattle.report_line.proofs.row_of.Statement.{statement}
+use Rattle.report_line.proofs.row_of.Tie as tie
+
+refs-told : (c : tie.After-sums) → c .sums .result .refs ≡ sumOf refLen (recordOps (c .before .before .before .before .before .before .args .rec .now))
+refs-told c = c .sums .ensures .0 .0 ∙ ap (sumOf refLen) (c .before .before .before .before .of-record .ensures .0 _)
+
+query-told : (c : tie.After-sums) → sumOf queryLen (recordOps (c .before .before .before .before .before .before .args .rec .now)) ≡ c .sums .result .query
+query-told c = sym (c .sums .ensures .0 .1 ∙ ap (sumOf queryLen) (c .before .before .before .before .of-record .ensures .0 _))
+
+within : (c : tie.Else1) → opsEnd (c .before .before .before .before .args .rec .now) ≤ length (c .before .before .before .before .args .rec .now)
+within c =
+    let k = c .before in
+    lies (k .before .before .before .args .rec .now) (k .before .of-record .result) (k .before .of-record .ensures .1) _ (k .inside .ensures) (not-false _ (c .if1 .left))
+
+refs-kept : (c : tie.Else2) → checkedRefLength (c .before .before .before .before .before .before .before .before .args .rec .now) ≡ Int.Number (pos (c .before .before .sums .result .refs))
+refs-kept c =
+    let t = c .before .before in
+    let s = t .before .before .before .before .before .before in
+    refs-are (s .args .rec .now) (s .pre) (within (t .before .before)) (omega (arith, c .if2 .left, refs-told t)) ∙ ap (λ (n : ℕ). Int.Number (pos n)) (sym (refs-told t))
+
+of-record-requires : tie.Need-of-record-requires
+of-record-requires c κs = search needs
+
+inside-requires : tie.Need-inside-requires
+inside-requires c κs = search needs
+
+returns : tie.Need-returns
+unfolding rowOf
+returns c =
+    let k = c .before in
+    let s = k .before .before .before in
+    let b = s .args .rec .now in
+    let h = overruns b (k .before .of-record .result) (k .before .of-record .ensures .1) _ (k .inside .ensures) (not-true _ (c .if1 .taken)) in
+    sym (figures-are b _ _ _ _ _ (refs-overrun b (s .pre) h) refl refl refl refl)
+
+slice-aggregate-sums : tie.Need-slice-aggregate-sums
+slice-aggregate-sums c = search needs
+
+sums-requires : tie.Need-sums-requires
+sums-requires c κs = search needs
+
+returns-2 : tie.Need-returns-2
+unfolding rowOf
+returns-2 c =
+    let t = c .before .before in
+    let s = t .before .before .before .before .before .before in
+    let b = s .args .rec .now in
+    sym (figures-are b _ _ _ _ _ (refs-over b (s .pre) (within (t .before .before)) (omega (arith, c .if2 .taken, refs-told t))) refl refl refl refl)
+
+u32-at-requires : tie.Need-u32-at-requires
+u32-at-requires c κs = search needs
+
+cast-same : tie.Need-cast-same
+cast-same c = search needs
+
+unclipped-5prime-from-raw-bam-requires : tie.Need-unclipped-5prime-from-raw-bam-requires
+unclipped-5prime-from-raw-bam-requires c κs = search needs
+
+enum-known-why : tie.Need-enum-known-why
+enum-known-why c = search needs
+
+enum-known-five : tie.Need-enum-known-five
+enum-known-five c = search needs
+
+bin-from-raw-bam-requires : tie.Need-bin-from-raw-bam-requires
+bin-from-raw-bam-requires c κs = search needs
+
+enum-known-why-2 : tie.Need-enum-known-why-2
+enum-known-why-2 c = search needs
+
+enum-known-bin : tie.Need-enum-known-bin
+enum-known-bin c = search needs
+
+cast-t23 : tie.Need-cast-t23
+cast-t23 c = search needs
+
+returns-3 : tie.Need-returns-3
+unfolding rowOf
+returns-3 c =
+    let u = c .before .before .before in
+    let e = u .before .before in
+    let s = e .before .before .before .before .before .before .before .before in
+    sym (figures-are (s .args .rec .now) _ _ _ _ _ (refs-kept e) refl (sym (u .unclipped-5prime-from-raw-bam .ensures) ∙ c .before .why .given .1) refl refl)
+
+returns-4 : tie.Need-returns-4
+unfolding rowOf
+returns-4 c =
+    let n = c .before .before .before in
+    let f = n .before .before in
+    let u = f .before .before in
+    let e = u .before .before in
+    let s = e .before .before .before .before .before .before .before .before in
+    sym (figures-are (s .args .rec .now) _ _ _ _ _ (refs-kept e) refl (sym (u .unclipped-5prime-from-raw-bam .ensures) ∙ f .five .given .1) (sym (n .bin-from-raw-bam .ensures) ∙ c .before .why2 .given .1) refl)
+
+returns-5 : tie.Need-returns-5
+unfolding rowOf
+returns-5 c =
+    let k = c .before .before .before in
+    let n = k .before .before in
+    let f = n .before .before in
+    let u = f .before .before in
+    let w = u .before in
+    let e = w .before in
+    let t = e .before .before in
+    let s = t .before .before .before .before .before .before in
+    let z : toZ w32 (t .sums .result .refs) ≡ pos (t .sums .result .refs) = toZ-pos w32 (omega (arith, e .if2 .left)) in
+    let y : toZ w32 (ofZ w32 (f .five .given .0 .0 .0)) ≡ f .five .given .0 .0 .0 = search needs in
+    simp (z, y)
+    (sym (figures-are (s .args .rec .now) _ _ _ _ _ (refs-kept e) (query-told t) (sym (u .unclipped-5prime-from-raw-bam .ensures) ∙ f .five .given .1) (sym (n .bin-from-raw-bam .ensures) ∙ k .bin .given .1) (sym (w .u32-at .ensures))))
+
+pub row-of-spec : {M : Type 1} → statement M
+row-of-spec =
+    tie.close
+    (tie.spec
+    of-record-requires
+    inside-requires
+    returns
+    slice-aggregate-sums
+    sums-requires
+    returns-2
+    u32-at-requires
+    cast-same
+    unclipped-5prime-from-raw-bam-requires
+    enum-known-why
+    enum-known-five
+    bin-from-raw-bam-requires
+    enum-known-why-2
+    enum-known-bin
+    cast-t23
+    returns-3
+    returns-4
+    returns-5)

@@ -1,0 +1,49 @@
+-- What the inner functions of the line promise. Document 01's rule is `Line`.
+use Prim.Native.Nat.{ℕ, _+_, _≤_}
+use mathlib.Core.Path.{_≡_}
+use mathlib.Core.Bool.{Bool}
+use mathlib.Core.List.{List, [], _∷_}
+use lib.Dec.{eqb}
+use lib.ListN.{length}
+use Rattle.lists.specs.Lists.{sumOf}
+use Rattle.sam.specs.Op.{queryLen}
+use Rattle.sam.specs.Record.{recordOps, seqLenOf}
+use Rattle.answers.specs.declared.Int.{Int}
+use Rattle.answers.specs.declared.Int.the-variants as Int
+use Rattle.answers.specs.declared.Nat.{Nat}
+use Rattle.answers.specs.declared.Nat.the-variants as Nat
+use Rattle.answers.specs.declared.Count.the-variants as Count
+use Rattle.ends.specs.declared.Place1.{Place1}
+use Rattle.ends.specs.declared.Place1.the-variants as Place1
+use Rattle.lengths.specs.Lengths.{checkedRefLength}
+use Rattle.ends.specs.Ends.{asRust, unclippedOf}
+use Rattle.bin.specs.Bin.{recordBin}
+use Rattle.decimal.specs.Decimal.{decimal}
+use Rattle.print.specs.Text.{textOf, printed}
+use Rattle.put_text.specs.Puts.{Put, signedDecimal}
+use Rattle.report_line.specs.Line.{textRoom, orStar, oneIf}
+use Rattle.report_line.specs.declared.LineRow.{LineRow}
+use Rattle.report_line.specs.declared.Figures.{Figures}
+use Rattle.report_line.specs.declared.Figures.the-variants as Figures
+use Rattle.report_line.specs.declared.Text.{Text}
+use Rattle.report_line.specs.declared.Text.the-variants as Text
+
+-- the figures, or the first refusal on the way
+unfoldable pub rowOf : Int → ℕ → Place1 → Nat → Bool → Figures
+rowOf (Int.Refused r) q u n s = Figures.Refused r
+rowOf (Int.Number z) q (Place1.Refused r) n s = Figures.Refused r
+rowOf (Int.Number z) q (Place1.At p) (Nat.Refused r) s = Figures.Refused r
+rowOf (Int.Number z) q (Place1.At p) (Nat.Number k) s = Figures.Row (record { refs = z; query = q; five = p .0; bin = k; same = s })
+
+unfoldable pub figuresOf : List ℕ → Figures
+figuresOf b =
+    rowOf (checkedRefLength b) (sumOf queryLen (recordOps b)) (asRust (unclippedOf b)) (recordBin b) (eqb (sumOf queryLen (recordOps b)) (seqLenOf b))
+
+-- the fields behind the text
+abbrev pub rowFields : LineRow → List (List ℕ)
+rowFields w = signedDecimal (w .refs) ∷ decimal (w .query) ∷ signedDecimal (w .five) ∷ decimal (w .bin) ∷ decimal (oneIf (w .same)) ∷ []
+
+-- a tab and the text, or `*`; or why not, with nothing changed before the place
+abbrev pub TextPut : List ℕ → List ℕ → ℕ → Text → List ℕ → Type 0
+TextPut b d at (Text.End r) d' = (32 ≤ length b) × (printed b textRoom .answer ≡ Count.Number (length (textOf (recordOps b)))) × Put d at (9 ∷ orStar (textOf (recordOps b))) r d' × (r ≤ at + 65537)
+TextPut b d at (Text.Refused w) d' = (printed b textRoom .answer ≡ Count.Refused w) × Put d at [] at d'

@@ -1,0 +1,97 @@
+-- Document 01, "Program": "Output lines are tab-separated: record number from 1; text, or `*` if empty; checked reference length; query length; unclipped 5' position; bin;
+-- 1 if query length equals l_seq, else 0. A refused record prints its number, `refused`, the refusal; the first of 1, 7, 6, 2, 4. Text room is 65,536 bytes."
+use Prim.Native.Nat.{ℕ}
+use mathlib.Core.Bool.{Bool, cond}
+use mathlib.Core.List.{List, [], _∷_, _++_}
+use lib.Dec.{eqb}
+use lib.IntN.{ℤ, pos}
+use lib.ListN.{replicate}
+use Rattle.lists.specs.Runs.{holds}
+use Rattle.signed.specs.Whole.{natural}
+use Rattle.sam.specs.Record.{recordOps, seqLenOf}
+use Rattle.answers.specs.Answers.{Told, tellInt, tellCount, tellNat}
+use Rattle.decimal.specs.Decimal.{decimal}
+use Rattle.print.specs.Text.{textOf, printed}
+use Rattle.lengths.specs.Lengths.{checkedRefLength, recordQueryLength}
+use Rattle.ends.specs.Ends.{asRust, unclippedOf, tellPlace1}
+use Rattle.bin.specs.Bin.{recordBin}
+use Rattle.put_text.specs.Puts.{signedDecimal}
+
+-- ---- what the calls tell of a record
+
+-- "Text room is 65,536 bytes": whatever they hold
+unfoldable pub textRoom : List ℕ
+textRoom = replicate 65536 0
+
+unfoldable pub textTold : List ℕ → Told
+textTold b = tellCount (printed b textRoom .answer)
+
+abbrev pub refsTold : List ℕ → Told
+refsTold b = tellInt (checkedRefLength b)
+
+abbrev pub queryTold : List ℕ → Told
+queryTold b = tellCount (recordQueryLength b)
+
+abbrev pub fiveTold : List ℕ → Told
+fiveTold b = tellPlace1 (asRust (unclippedOf b))
+
+abbrev pub binTold : List ℕ → Told
+binTold b = tellNat (recordBin b)
+
+-- ---- "the first of 1, 7, 6, 2, 4"
+
+abbrev pub order : List ℕ
+order = 1 ∷ 7 ∷ 6 ∷ 2 ∷ 4 ∷ []
+
+-- the first of these numbers that is among those; 0 if none is
+unfoldable pub firstOf : List ℕ → List ℕ → ℕ
+firstOf [] given = 0
+firstOf (r ∷ rs) given = cond (holds (eqb r) given) r (firstOf rs given)
+
+-- a record's refusal, or 0
+unfoldable pub refusalOf : List ℕ → ℕ
+refusalOf b = firstOf order (textTold b .number ∷ refsTold b .number ∷ queryTold b .number ∷ fiveTold b .number ∷ binTold b .number ∷ [])
+
+-- ---- the line
+
+-- the value that a call told
+abbrev pub valueOf : List ℤ → ℤ
+valueOf [] = pos 0
+valueOf (z ∷ zs) = z
+
+abbrev pub shown : Told → List ℕ
+shown t = signedDecimal (valueOf (t .values))
+
+-- "text, or `*` if empty"
+abbrev pub orStar : List ℕ → List ℕ
+orStar [] = 42 ∷ []
+orStar (x ∷ xs) = x ∷ xs
+
+-- "1 if query length equals l_seq, else 0"
+abbrev pub sameLength : List ℕ → Bool
+sameLength b = eqb (natural (valueOf (queryTold b .values))) (seqLenOf b)
+
+abbrev pub oneIf : Bool → ℕ
+oneIf is = cond is 1 0
+
+-- further fields, each behind a tab, and the end of the line
+unfoldable pub tabbed : List (List ℕ) → List ℕ
+tabbed [] = 10 ∷ []
+tabbed (f ∷ fs) = 9 ∷ (f ++ tabbed fs)
+
+abbrev pub recordFields : List ℕ → List (List ℕ)
+recordFields b =
+    orStar (textOf (recordOps b))
+    ∷ shown (refsTold b)
+    ∷ shown (queryTold b)
+    ∷ shown (fiveTold b)
+    ∷ shown (binTold b)
+    ∷ decimal (oneIf (sameLength b))
+    ∷ []
+
+-- "prints its number, `refused`, the refusal"
+abbrev pub refusedFields : ℕ → List (List ℕ)
+refusedFields r = (114 ∷ 101 ∷ 102 ∷ 117 ∷ 115 ∷ 101 ∷ 100 ∷ []) ∷ decimal r ∷ []
+
+unfoldable pub lineOf : ℕ → List ℕ → List ℕ
+lineOf n b = decimal n ++ tabbed (cond (eqb (refusalOf b) 0) (recordFields b) (refusedFields (refusalOf b)))
