@@ -139,7 +139,14 @@ pub fn num_bases_extending_past_mate_cigar_raw(bam: &[u8], mate_ops: &[u32]) -> 
     if !validity::valid(mate_ops, &[], list.inside, list.at, list.n) {
         return Count::Number(0);
     }
-    pair_overhang(fr, bam, Pos0(little_endian::i32_at(bam, 24)), mate_ops, &[], list)
+    pair_overhang(
+        fr,
+        bam,
+        Pos0(little_endian::i32_at(bam, 24)),
+        mate_ops,
+        &[],
+        list,
+    )
 }
 
 // The query bases past the mate, whose record is given. Refusals 1 and 4.

@@ -41,7 +41,10 @@ fn opposite(bam: &[u8]) -> bool
     if !both_mapped(flags) {
         return false;
     }
-    if !signed::same(little_endian::i32_at(bam, 0), little_endian::i32_at(bam, 20)) {
+    if !signed::same(
+        little_endian::i32_at(bam, 0),
+        little_endian::i32_at(bam, 20),
+    ) {
         return false;
     }
     differ(fields::is_reverse(flags), fields::is_mate_reverse(flags))

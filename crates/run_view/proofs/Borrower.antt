@@ -1,5 +1,5 @@
 -- A function without a contract that makes a view of its slice and asks a method of it: proved safe and ending, from what the method promises. The view is lent for a lifetime that is made for the call, within the slice's own.
---     Turned                the other parameters as the method has them, and what is said of them at exit.        alone     no other
+--     Carried               the other parameters as the method has them, and what is said of them at exit.        alone     no other
 --     Made, Method, Own     the contracts of `new`, of the method and of the function.        Clause, tells, untold, forgets     what a method promises at exit; a function without a contract says nothing, and what the method promises gives that
 --     cut, mended           the tokens: of the slice's lifetime and of a new one, for the call and back
 --     makes, asks           the steps of a walk at which the view is made, and at which it is lent to the method and is back
@@ -69,7 +69,7 @@ abbrev pub refLocal : Ty
 refLocal = tyRef erased imm (pointee (T.the-row (record { mir = erased; lft = [] }) .written))
 
 -- at the lifetime κ, for which the view is lent
-pub record Turned (m : ℕ) (O : Others m) : Type 2 where
+pub record Carried (m : ℕ) (O : Others m) : Type 2 where
   pub kept : Kepts (O .of)
   pub kept-for : Kepts (O .for)
   pub values : (κ : Lft) (κs : Lfts (suc m)) → Denots (typesAt (O .of) κs) → Denots (typesAt (O .for) (κ, κs))
@@ -78,7 +78,7 @@ pub record Turned (m : ℕ) (O : Others m) : Type 2 where
   pub last : (κ : Lft) (κs : Lfts (suc m)) (a : Denots (typesAt (O .of) κs)) → Fins (κ, κs) (O .for) kept-for (values κ κs a) → Fins κs (O .of) kept a
   pub last-same : (κ : Lft) (κs : Lfts (suc m)) (a : Denots (typesAt (O .of) κs)) (ws : Fins (κ, κs) (O .for) kept-for (values κ κs a)) → lastsOf κs (O .of) kept a (last κ κs a ws) ≡ lastsOf (κ, κs) (O .for) kept-for (values κ κs a) ws
 
-abbrev pub alone : Turned 0 none
+abbrev pub alone : Carried 0 none
 alone = record { kept = tt; kept-for = tt; values = λ κ κs a. a; machine = λ κ κs vss. vss; same = λ κ κs a vss. refl; last = λ κ κs a ws. ws; last-same = λ κ κs a ws. refl }
 
 module _ {M : Type 1} (𝓤 : URA M) (H : Heap 𝓤) (𝓜 : Model 𝓤 H) (𝓖 : GhostRules 𝓤 H) (𝓡 : Running 𝓤 H 𝓜) where
@@ -112,7 +112,7 @@ module _ {M : Type 1} (𝓤 : URA M) (H : Heap 𝓤) (𝓜 : Model 𝓤 H) (𝓖
       move ! (1 ∷ []) $ split ! $ move ! (2 ∷ 0 ∷ []) $ use2 W (‵ (flft κ q)) (W .lfts .lft-join κ q) $ join ! $ done !
 
   -- the method's other parameters, its answer and what it promises
-  module _ (m : ℕ) (O : Others m) (Z : Turned m O) (Q : Answer m) where
+  module _ (m : ℕ) (O : Others m) (Z : Carried m O) (Q : Answer m) where
     abbrev pub Clause : Type 2
     Clause = (κs : Lfts (suc (suc m))) → Args (ofView m O Q) κs → Res (ofView m O Q) κs → Outs κs (ofView m O Q .params) (yes, Z .kept-for) → SProp 𝓤
 

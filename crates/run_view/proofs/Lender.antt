@@ -23,7 +23,7 @@ use denote.Signature.{typeAt, typesAt}
 use denote.Slice.{slice-vals, mut-slice-tells, mut-slice-lawful}
 use Rattle.view.proofs.Shared.{Answer, Fits}
 use Rattle.view.proofs.Lent.{outOf, lentTy, lends, prints-with, clips-with, out}
-use Rattle.run_view.proofs.Borrower.{Turned, slice, sliceParam, viewLocal, refLocal, borrows, At, makes, asks, Walks, Law, enters, Clause}
+use Rattle.run_view.proofs.Borrower.{Carried, slice, sliceParam, viewLocal, refLocal, borrows, At, makes, asks, Walks, Law, enters, Clause}
 
 -- the locals of the lent slice, of the view, of the view that is lent, of the reference to it, and of the lent slice's pointer and copy
 abbrev lentLocals : Width → List Local
@@ -48,10 +48,10 @@ clipAsk τ w n f = record {
 }
 
 module _ (w : Width) where
-  abbrev print-turned : Turned 1 (prints-with w)
+  abbrev print-turned : Carried 1 (prints-with w)
   print-turned = record { kept = (yes, tt); kept-for = (yes, tt); values = λ κ κs a. a; machine = λ κ κs vss. vss; same = λ κ κs a vss. refl; last = λ κ κs a ws. ws; last-same = λ κ κs a ws. refl }
 
-  abbrev clip-turned : Turned 1 (clips-with w)
+  abbrev clip-turned : Carried 1 (clips-with w)
   clip-turned = record { kept = (yes, (yes, (yes, tt))); kept-for = (yes, (yes, (yes, tt))); values = λ κ κs a. a; machine = λ κ κs vss. vss; same = λ κ κs a vss. refl; last = λ κ κs a ws. ws; last-same = λ κ κs a ws. refl }
 
   -- the other parameters' machine values, and that what they own tells them

@@ -53,11 +53,11 @@ readFn τ i f = record {
 }
 
 -- the two types that are read
-abbrev pub numberOf : Slot 1
-numberOf = plain (λ _. u32)
+abbrev pub numberSlot : Slot 1
+numberSlot = plain (λ _. u32)
 
-abbrev pub partOf : Slot 1
-partOf = shrSliceOf (0 ∷ []) tt (plain (λ _. u8))
+abbrev pub partSlot : Slot 1
+partSlot = shrSliceOf (0 ∷ []) tt (plain (λ _. u8))
 
 abbrev α : Lft → NamedLft
 α κ = record { mir = named 0; lft = κ }
@@ -138,23 +138,23 @@ module _ {M : Type 1} (𝓤 : URA M) (H : Heap 𝓤) (𝓜 : Model 𝓤 H) (𝓖
         (λ are. walks C Λ (fmOf 𝓤 H (W .laws) (tablesOf 𝓤 H 𝓜 (tables 𝓤 H 𝓜 𝓡 γ))) (cited 𝓤 H Asked 𝓜 𝓡 γ callee-symbol.name callee-symbol.routine calls (callee-met.met 𝓤 H 𝓜 𝓖 𝓡))
         (b .0 .0 .0) (b .0 .1 .0) (b .0 .3 .0) (shr-slice-lawful 𝓤 H (𝓖 .A) W (named 0) (b .0 .0 .0) u8 .typed (b .0 .3 .0) _ (are .0) .0))))
 
-  number-walk : Walks numberOf (readFn (tyInt w32) 0 callee-symbol.name)
+  number-walk : Walks numberSlot (readFn (tyInt w32) 0 callee-symbol.name)
   number-walk C Λ fm known κ q s wt =
-      qed W (raw (At numberOf κ q s) ∷ []) ∵ enter ! C Λ (readFn (tyInt w32) 0 callee-symbol.name) (slice s ∷ []) _ $ alloc1 ! (λ l₀. alloc1 ! (λ l₁. alloc1 ! (λ l₂. alloc0 ! $ params1 ! $ pass1 ! (init ! 2 refl wt) $ pass0 ! $
+      qed W (raw (At numberSlot κ q s) ∷ []) ∵ enter ! C Λ (readFn (tyInt w32) 0 callee-symbol.name) (slice s ∷ []) _ $ alloc1 ! (λ l₀. alloc1 ! (λ l₁. alloc1 ! (λ l₂. alloc0 ! $ params1 ! $ pass1 ! (init ! 2 refl wt) $ pass0 ! $
       -- [room for _2; …; _1; …; room for _0; …; what there is at entry]
-      move ! (6 ∷ []) $ takes numberOf κ q s ! fm known (and-then ! (load ! (from ! (stop !)) (look ! 3 refl)) (no-more !)) (λ r. r .refusal) (λ r fits. land ! (from ! (stop !)) (init ! 3 refl fits) $ fsplit ! $ move ! (1 ∷ []) $ drop ! $
+      move ! (6 ∷ []) $ takes numberSlot κ q s ! fm known (and-then ! (load ! (from ! (stop !)) (look ! 3 refl)) (no-more !)) (λ r. r .refusal) (λ r fits. land ! (from ! (stop !)) (init ! 3 refl fits) $ fsplit ! $ move ! (1 ∷ []) $ drop ! $
       assigns ! (of-opd ! (load ! (from ! (fld ! refl (stop !))) (look-in ! 3 (sub ! 0 refl (whole !))))) (from ! (stop !)) (init ! 7 refl (tt, fits .1 .0)) $ returns ! (look ! 7 refl) $ forget ! 3 refl $ forget ! 5 refl $ forget ! 7 refl $
-      move ! (7 ∷ 8 ∷ []) $ free1 ! $ move ! (5 ∷ 6 ∷ []) $ free1 ! $ move ! (3 ∷ 4 ∷ []) $ free1 ! $ free0 ! $ by ! (exits numberOf κ q s (r .refusal) _)))))
+      move ! (7 ∷ 8 ∷ []) $ free1 ! $ move ! (5 ∷ 6 ∷ []) $ free1 ! $ move ! (3 ∷ 4 ∷ []) $ free1 ! $ free0 ! $ by ! (exits numberSlot κ q s (r .refusal) _)))))
 
-  part-walk : Walks partOf (readFn sliceParam 1 callee-symbol.name)
+  part-walk : Walks partSlot (readFn sliceParam 1 callee-symbol.name)
   part-walk C Λ fm known κ q s wt =
-      qed W (raw (At partOf κ q s) ∷ []) ∵ enter ! C Λ (readFn sliceParam 1 callee-symbol.name) (slice s ∷ []) _ $ alloc1 ! (λ l₀. alloc1 ! (λ l₁. alloc1 ! (λ l₂. alloc0 ! $ params1 ! $ pass1 ! (init ! 2 refl wt) $ pass0 ! $
-      move ! (6 ∷ []) $ takes partOf κ q s ! fm known (and-then ! (load ! (from ! (stop !)) (look ! 3 refl)) (no-more !)) (λ r. r .part) (λ r fits. land ! (from ! (stop !)) (init ! 3 refl fits) $ fsplit ! $ drop ! $ fsplit ! $ move ! (1 ∷ []) $ drop ! $
+      qed W (raw (At partSlot κ q s) ∷ []) ∵ enter ! C Λ (readFn sliceParam 1 callee-symbol.name) (slice s ∷ []) _ $ alloc1 ! (λ l₀. alloc1 ! (λ l₁. alloc1 ! (λ l₂. alloc0 ! $ params1 ! $ pass1 ! (init ! 2 refl wt) $ pass0 ! $
+      move ! (6 ∷ []) $ takes partSlot κ q s ! fm known (and-then ! (load ! (from ! (stop !)) (look ! 3 refl)) (no-more !)) (λ r. r .part) (λ r fits. land ! (from ! (stop !)) (init ! 3 refl fits) $ fsplit ! $ drop ! $ fsplit ! $ move ! (1 ∷ []) $ drop ! $
       assigns ! (of-opd ! (load ! (from ! (fld ! refl (stop !))) (look-in ! 3 (sub ! 1 refl (whole !))))) (from ! (stop !)) (init ! 7 refl (tt, fits .1 .1 .0)) $ returns ! (look ! 7 refl) $ forget ! 3 refl $ forget ! 5 refl $ forget ! 7 refl $
-      move ! (7 ∷ 8 ∷ []) $ free1 ! $ move ! (5 ∷ 6 ∷ []) $ free1 ! $ move ! (3 ∷ 4 ∷ []) $ free1 ! $ free0 ! $ by ! (exits partOf κ q s (r .part) _)))))
+      move ! (7 ∷ 8 ∷ []) $ free1 ! $ move ! (5 ∷ 6 ∷ []) $ free1 ! $ move ! (3 ∷ 4 ∷ []) $ free1 ! $ free0 ! $ by ! (exits partSlot κ q s (r .part) _)))))
 
-  pub reads-number : Law numberOf (readFn (tyInt w32) 0 callee-symbol.name)
-  reads-number = enters numberOf (readFn (tyInt w32) 0 callee-symbol.name) number-walk
+  pub reads-number : Law numberSlot (readFn (tyInt w32) 0 callee-symbol.name)
+  reads-number = enters numberSlot (readFn (tyInt w32) 0 callee-symbol.name) number-walk
 
-  pub reads-part : Law partOf (readFn sliceParam 1 callee-symbol.name)
-  reads-part = enters partOf (readFn sliceParam 1 callee-symbol.name) part-walk
+  pub reads-part : Law partSlot (readFn sliceParam 1 callee-symbol.name)
+  reads-part = enters partSlot (readFn sliceParam 1 callee-symbol.name) part-walk
