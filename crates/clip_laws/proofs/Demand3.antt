@@ -13,6 +13,7 @@ use Rattle.lists.proofs.ListLaws.{length-facing}
 use Rattle.lists.proofs.Sums.{sum-cons, sum-append, sum-facing, facing-facing}
 use Rattle.sam.specs.Op.{lenOf, codeOf, refLen}
 use Rattle.ops.specs.Ops.{readLen}
+use Rattle.clip_runs.specs.Clips.{outerHard}
 use Rattle.clip.specs.Clipping.{taking, Cut, hardOf, softOf, clip}
 use Rattle.answers.specs.Settled.{Outcome}
 use Rattle.clip.specs.Answer.{clippedOps, clippedCount, clippedUpTo, clippedRecord, written}
@@ -145,13 +146,10 @@ module _ {limit : ℕ} (xs : List ℕ) (a : ℕ) (start : Bool) (D : Takes limit
   unfolding shape'
   within' le = let p = shaped-runs shape' .clips-are in let q = shaped-inner start xs (D .shape) in omega arith
 
-  count-start : start ≡ true → clippedCount xs a start ≡ clip (facing start xs) a .lost
+  -- the count at either end, by which it is
+  count-is : (s : Bool) → start ≡ s → clippedCount xs a start ≡ cond s (clip (facing start xs) a .lost) 0
   unfolding clippedCount
-  count-start e = rw e refl
-
-  count-end : start ≡ false → clippedCount xs a start ≡ 0
-  unfolding clippedCount
-  count-end e = rw e refl
+  count-is s e = ap (λ (t : Bool). cond t (clip (facing start xs) a .lost) 0) e
 
 counts : (start : Bool) (p q : ℕ) → cond start p 0 + cond start q 0 ≡ cond start (p + q) 0
 counts true p q = refl
@@ -228,10 +226,10 @@ module _ (limit : ℕ) (Holds : List ℕ → List ℕ → Type 0) (f : Clipper)
           ys = clippedOps xs a start;
           count = clippedCount xs a start;
           answers = by-rule a;
-          floor = rw e (O .floor);
+          floor = let h = ap outerHard e in omega (arith, O .floor);
           kept = omega (arith, O .kept);
-          lost-at-start = λ t. let c = count-start xs a start T t in omega arith;
-          none-at-end = count-end xs a start T;
+          lost-at-start = λ t. let c = count-is xs a start T _ t in omega arith;
+          none-at-end = λ t. count-is xs a start T _ t;
           long = small-ops xs a start T .0;
         }
 

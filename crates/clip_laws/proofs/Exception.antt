@@ -59,9 +59,9 @@ excluded =
       after = opOf 2 2 ∷ (opOf 6 0 ∷ []);
       list-is = refl;
       is-insertion = refl;
-      a-past = lit< tt;
-      a-within = lit< tt;
-      b-end = refl;
+      a-past = omega arith;
+      a-within = omega arith;
+      b-end = omega arith;
     }
 
 -- three ops are left, and two
@@ -82,9 +82,9 @@ excluded-too =
       after = opOf 5 0 ∷ [];
       list-is = refl;
       is-insertion = refl;
-      a-past = lit< tt;
-      a-within = lit< tt;
-      b-end = refl;
+      a-past = omega arith;
+      a-within = omega arith;
+      b-end = omega arith;
     }
 
 pub equal-too : clippedOps (clippedOps first 1 true) 3 true ≡ clippedOps first 3 true
@@ -100,7 +100,7 @@ same-not xs a E = omega (arith, E .a-within)
 -- in 5M3I2D6M the insertion is the only one: an amount falls inside it from 6 on, and it ends at 8
 only : (a b : ℕ) → EndsInsertion inserted a b → (5 < a) × (b ≡ 8)
 unfolding inside leadingClips leading afterLeading isClip sumOf readLen isRead
-only a b E = go (E .before) (E .insertion) (E .after) (E .list-is) (E .is-insertion) (E .a-past) (E .b-end)
+only a b E = go (E .before) (E .insertion) (E .after) (E .list-is) (E .is-insertion) (omega (arith, E .a-past)) (omega (arith, E .b-end))
   where
     go : (before : List ℕ) (i : ℕ) (after : List ℕ) → inserted ≡ before ++ (i ∷ after) → codeOf i ≡ 1 → 0 + sumOf readLen before < a → b ≡ 0 + (sumOf readLen before + lenOf i) → (5 < a) × (b ≡ 8)
     go [] i after e c p q = let h : opOf 5 0 ≡ i = cc in absurd (omega (arith, ap codeOf h))
