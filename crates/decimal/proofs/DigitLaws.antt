@@ -10,7 +10,7 @@ use lib.Seq.{sets, set-comm}
 use lib.Dec.{ltb}
 use borrow.Author.Tests.{lt-ltb, le-ltb, ltb-true, ltb-false}
 use Rattle.decimal.specs.Decimal.{dec, decimal}
-use Rattle.decimal.specs.Inner.{Width, digits}
+use Rattle.decimal.specs.Inner.{Width, lastDigits}
 
 module _ {ℓ} {A : Type ℓ} where
   -- a run of stores in two parts
@@ -26,19 +26,19 @@ module _ {ℓ} {A : Type ℓ} where
       set-sets vs (set l i b) (suc i) k a (omega arith)
       ∙ ap (λ (m : List A). sets m (suc i) vs) (set-comm l i k b a (omega arith))
 
-pub length-digits : (k n : ℕ) → length (digits k n) ≡ k
-unfolding digits
+pub length-digits : (k n : ℕ) → length (lastDigits k n) ≡ k
+unfolding lastDigits
 length-digits zero n = refl
-length-digits (suc k) n = length-append (digits k (n / 10)) _ ∙ omega (arith, length-digits k (n / 10))
+length-digits (suc k) n = length-append (lastDigits k (n / 10)) _ ∙ omega (arith, length-digits k (n / 10))
 
 -- a turn of the loop that puts digits from the right
-pub digits-turn : (j n at : ℕ) (l : List ℕ) → sets (set l (at + j) (48 + n % 10)) at (digits j (n / 10)) ≡ sets l at (digits (suc j) n)
-unfolding digits
+pub digits-turn : (j n at : ℕ) (l : List ℕ) → sets (set l (at + j) (48 + n % 10)) at (lastDigits j (n / 10)) ≡ sets l at (lastDigits (suc j) n)
+unfolding lastDigits
 digits-turn j n at l =
-    let e : length (digits j (n / 10)) ≡ j = length-digits j (n / 10) in
-    sym (set-sets (digits j (n / 10)) l at (at + j) (48 + n % 10) (omega arith))
-    ∙ ap (λ (k : ℕ). set (sets l at (digits j (n / 10))) (at + k) (48 + n % 10)) (sym e)
-    ∙ sym (sets-append (digits j (n / 10)) ((48 + n % 10) ∷ []) l at)
+    let e : length (lastDigits j (n / 10)) ≡ j = length-digits j (n / 10) in
+    sym (set-sets (lastDigits j (n / 10)) l at (at + j) (48 + n % 10) (omega arith))
+    ∙ ap (λ (k : ℕ). set (sets l at (lastDigits j (n / 10))) (at + k) (48 + n % 10)) (sym e)
+    ∙ sym (sets-append (lastDigits j (n / 10)) ((48 + n % 10) ∷ []) l at)
 
 -- the digits of a number below 10000, by how many powers it has got to
 pub short-width : (n : ℕ) → n < 10000 → Width n (1 + cond (ltb n 10) 0 1 + cond (ltb n 100) 0 1 + cond (ltb n 1000) 0 1)
@@ -52,8 +52,8 @@ short-width n h = go (ltb n 10) (ltb n 100) (ltb n 1000) refl refl refl
     go true false v p q r = let l = ltb-true n 10 p in let g = ltb-false n 100 q in absurd (omega arith)
     go t true false p q r = let l = ltb-true n 100 q in let g = ltb-false n 1000 r in absurd (omega arith)
 
-dec-digits : (k f n : ℕ) → k ≤ f → n < 10 ^ suc k → (0 < k → 10 ^ k ≤ n) → dec (suc f) n ≡ digits (suc k) n
-unfolding dec digits
+dec-digits : (k f n : ℕ) → k ≤ f → n < 10 ^ suc k → (0 < k → 10 ^ k ≤ n) → dec (suc f) n ≡ lastDigits (suc k) n
+unfolding dec lastDigits
 dec-digits zero f n h lt le = rw (lt-ltb n 10 lt, mod-eq-of-lt {n = n} {m = 10} lt)
 dec-digits (suc k) zero n h lt le = absurd (omega arith)
 dec-digits (suc k) (suc f) n h lt le =
@@ -71,12 +71,12 @@ below-power zero = omega arith
 below-power (suc k) = let ih = below-power k in let p = pow-suc 10 k in omega arith
 
 -- a number of k + 1 digits
-decimal-is : (n k : ℕ) → n < 10 ^ suc k → (0 < k → 10 ^ k ≤ n) → decimal n ≡ digits (suc k) n
+decimal-is : (n k : ℕ) → n < 10 ^ suc k → (0 < k → 10 ^ k ≤ n) → decimal n ≡ lastDigits (suc k) n
 unfolding decimal
 decimal-is n zero lt le = dec-digits 0 n n (omega arith) lt le
 decimal-is n (suc k) lt le = let b = below-power (suc k) in let h = le (zero-lt-suc k) in dec-digits (suc k) n n (omega arith) lt le
 
-pub decimal-digits : (n r : ℕ) → Width n r → decimal n ≡ digits r n
+pub decimal-digits : (n r : ℕ) → Width n r → decimal n ≡ lastDigits r n
 decimal-digits n zero w = absurd (omega (arith, w .some))
 decimal-digits n (suc k) w =
     decimal-is n k (w .below) (λ h. subst (λ (x : ℕ). 10 ^ x ≤ n) {x = suc k - 1} {y = k} (omega arith) (w .least (omega arith)))

@@ -5,7 +5,7 @@ ghost use mathlib.Core.Bool.{cond};
 ghost use lib.Dec.{ltb};
 ghost use lib.ListN.{length};
 ghost use lib.Seq.{sets};
-ghost use Rattle.decimal.specs.Inner.{Width, digits};
+ghost use Rattle.decimal.specs.Inner.{Width, lastDigits};
 
 // 1 where n has got to m.
 fn reached(n: u64, m: u64) -> usize
@@ -67,7 +67,7 @@ pub fn width(n: u64) -> usize
 // Puts the last k digits of n into out from index at.
 pub fn put_digits(n: u64, k: usize, out: &mut [u8], at: usize)
     requires { ⌜ at + k ≤ length (now out) ⌝ }
-    ensures { λ _. ⌜ now (out .exit) ≡ sets (now (out .entry)) at (digits k n) ⌝ }
+    ensures { λ _. ⌜ now (out .exit) ≡ sets (now (out .entry)) at (lastDigits k n) ⌝ }
 {
     let mut j = k;
     let mut rest = n;

@@ -1,2 +1,2 @@
-pub mod PrintLaws
 pub mod GrammarLaws
+pub mod PrintLaws

@@ -10,18 +10,18 @@ use Rattle.lists.proofs.Absurd.{never}
 use Rattle.lists.proofs.Walks.{step, done}
 use Rattle.sam.specs.Op.{lenOf, codeOf}
 use Rattle.ops.specs.Ops.{letterOf}
-use Rattle.decimal.specs.Inner.{Width, digits}
+use Rattle.decimal.specs.Inner.{Width, lastDigits}
 use Rattle.decimal.proofs.DigitLaws.{sets-append, length-digits, decimal-digits}
 use Rattle.print.specs.Text.{opText, textOf, anyBad}
 use Rattle.print.specs.declared.Room.the-variants as Room
 
-pub opText-digits : (op r : ℕ) → Width (lenOf op) r → opText op ≡ digits r (lenOf op) ++ (letterOf (codeOf op) ∷ [])
+pub opText-digits : (op r : ℕ) → Width (lenOf op) r → opText op ≡ lastDigits r (lenOf op) ++ (letterOf (codeOf op) ∷ [])
 unfolding opText
 opText-digits op r w = ap (λ (l : List ℕ). l ++ (letterOf (codeOf op) ∷ [])) (decimal-digits (lenOf op) r w)
 
 pub opText-length : (op r : ℕ) → Width (lenOf op) r → length (opText op) ≡ r + 1
 opText-length op r w =
-    ap length (opText-digits op r w) ∙ length-append (digits r (lenOf op)) _ ∙ ap (λ (k : ℕ). k + 1) (length-digits r (lenOf op))
+    ap length (opText-digits op r w) ∙ length-append (lastDigits r (lenOf op)) _ ∙ ap (λ (k : ℕ). k + 1) (length-digits r (lenOf op))
 
 module _ (xs : List ℕ) (i x : ℕ) (e : x ≡ getD xs i 0) (h : i < length xs) where
   pub text-step : textOf (drop i xs) ≡ opText x ++ textOf (drop (i + 1) xs)
@@ -49,10 +49,10 @@ module _ (xs : List ℕ) (i : ℕ) (h : length xs ≤ i) where
   bad-done = ap anyBad (done xs i h)
 
 -- what `put_op` stores: the digits, then the letter
-pub op-stores : (op r : ℕ) → Width (lenOf op) r → (l : List ℕ) (at : ℕ) → set (sets l at (digits r (lenOf op))) (at + r) (letterOf (codeOf op)) ≡ sets l at (opText op)
+pub op-stores : (op r : ℕ) → Width (lenOf op) r → (l : List ℕ) (at : ℕ) → set (sets l at (lastDigits r (lenOf op))) (at + r) (letterOf (codeOf op)) ≡ sets l at (opText op)
 op-stores op r w l at =
-    ap (λ (k : ℕ). set (sets l at (digits r (lenOf op))) (at + k) (letterOf (codeOf op))) (sym (length-digits r (lenOf op)))
-    ∙ sym (sets-append (digits r (lenOf op)) (letterOf (codeOf op) ∷ []) l at)
+    ap (λ (k : ℕ). set (sets l at (lastDigits r (lenOf op))) (at + k) (letterOf (codeOf op))) (sym (length-digits r (lenOf op)))
+    ∙ sym (sets-append (lastDigits r (lenOf op)) (letterOf (codeOf op) ∷ []) l at)
     ∙ ap (λ (t : List ℕ). sets l at t) (sym (opText-digits op r w))
 
 -- which case `roomOf` is

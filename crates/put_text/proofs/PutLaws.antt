@@ -15,7 +15,7 @@ use Rattle.lists.proofs.Absurd.{never}
 use Rattle.lists.proofs.Walks.{step, done}
 use Rattle.signed.specs.Whole.{raised}
 use Rattle.decimal.specs.Decimal.{decimal}
-use Rattle.decimal.specs.Inner.{Width, digits}
+use Rattle.decimal.specs.Inner.{Width, lastDigits}
 use Rattle.decimal.proofs.DigitLaws.{decimal-digits, length-digits}
 use Rattle.put_text.specs.Puts.{Put, signOf, signedDecimal}
 
@@ -63,10 +63,10 @@ put-as {d} {d'} {e'} {at} {r} {s} vs {ws} p q m h =
     let h₂ : Put d at ws s d' = subst (λ (k : ℕ). Put d at ws k d') q h₁ in
     subst (λ (l : List ℕ). Put d at ws s l) m h₂
 
-pub put-decimal : (n r : ℕ) → Width n r → (d d' : List ℕ) (at : ℕ) → at + r ≤ length d → d' ≡ sets d at (digits r n) → Put d at (decimal n) (at + r) d'
+pub put-decimal : (n r : ℕ) → Width n r → (d d' : List ℕ) (at : ℕ) → at + r ≤ length d → d' ≡ sets d at (lastDigits r n) → Put d at (decimal n) (at + r) d'
 put-decimal n r w d d' at h e =
     let l = length-digits r n in
-    put-as (digits r n) (sym (decimal-digits n r w)) (ap (λ (k : ℕ). at + k) l) (sym e) (put-sets d at (digits r n) (omega arith))
+    put-as (lastDigits r n) (sym (decimal-digits n r w)) (ap (λ (k : ℕ). at + k) l) (sym e) (put-sets d at (lastDigits r n) (omega arith))
 
 -- a sign and the number without it
 pub signed-is : (z : ℤ) → signOf z ++ decimal (natAbs z) ≡ signedDecimal z

@@ -4,14 +4,14 @@ use mathlib.Core.Path.{_≡_, refl, ap, _∙_}
 use Prim.Native.Nat.{ℕ, suc, _-_, _≤_}
 use lib.ListN.{length, length-set}
 use lib.Seq.{sets}
-use Rattle.decimal.specs.Inner.{digits}
+use Rattle.decimal.specs.Inner.{lastDigits}
 use Rattle.decimal.proofs.DigitLaws.{digits-turn}
 use Rattle.decimal.proofs.put_digits.Statement.{statement}
 use Rattle.decimal.proofs.put_digits.Tie as tie
 
 abbrev Inv-loop : tie.InvT-loop
 Inv-loop n k out₀ at j₀ rest₀ out j rest =
-    (j ≤ k) × (length out ≡ length out₀) × (sets out at (digits j rest) ≡ sets out₀ at (digits k n))
+    (j ≤ k) × (length out ≡ length out₀) × (sets out at (lastDigits j rest) ≡ sets out₀ at (lastDigits k n))
 
 abbrev μ-loop : tie.MeasureT-loop
 μ-loop n k out₀ at j₀ rest₀ out j rest = j
@@ -44,7 +44,7 @@ loop-again c =
       omega arith,
       simp length-set (l .inv .1),
       digits-turn (l .j - 1) (l .rest) (a .at) (l .out)
-          ∙ ap (λ (k : ℕ). sets (l .out) (a .at) (digits k (l .rest))) {x = suc (l .j - 1)} {y = l .j} (omega arith)
+          ∙ ap (λ (k : ℕ). sets (l .out) (a .at) (lastDigits k (l .rest))) {x = suc (l .j - 1)} {y = l .j} (omega arith)
           ∙ l .inv .2,
     )
 
@@ -52,11 +52,11 @@ same-length : tie.Need-same-length Inv-loop μ-loop
 same-length c = c .before .loop .inv .1
 
 returns : tie.Need-returns Inv-loop μ-loop
-unfolding digits
+unfolding lastDigits
 returns c =
     let a = c .before .before .args in
     let l = c .before .loop in
-    ap (λ (k : ℕ). sets (l .out) (a .at) (digits k (l .rest))) {x = 0} {y = l .j} (omega arith) ∙ l .inv .2
+    ap (λ (k : ℕ). sets (l .out) (a .at) (lastDigits k (l .rest))) {x = 0} {y = l .j} (omega arith) ∙ l .inv .2
 
 pub put-digits-spec : {M : Type 1} → statement M
 put-digits-spec =
