@@ -1,4 +1,4 @@
--- Digits as bytes and as numbers: the test is the specification's, and a run held at 2^64 - 1 counts what the unbounded number counts, since both count 0 from 2^31 on.
+-- Digits as bytes and as numbers: the test is the specification's, and a run capped at 2^64 - 1 counts what the unbounded number counts, since both count 0 from 2^31 on.
 use mathlib.Core.Path.{_≡_, refl, sym, ap, _∙_}
 use mathlib.Core.Bool.{Bool, true, false}
 use mathlib.Core.List.{List, [], _∷_, _++_}
@@ -7,7 +7,7 @@ use native.Mathlib.Omega.{arith}
 use lib.Dec.{ltb, leb}
 use borrow.Author.Tests.{le-ltb, ltb-false, leb-true, leb-false, le-leb, lt-leb}
 use Rattle.sam.specs.Text.{Digit, Digits, value}
-use Rattle.mate_text.specs.Run.{isDigit, countOf, pushOf}
+use Rattle.mate_text.specs.Run.{isDigit, countsAs, pushOf}
 
 false-true : false ≡ true → ⊥
 false-true e = let z : _≡_ {A = ℕ} 0 1 = cc in omega arith
@@ -26,19 +26,19 @@ digit-test b d = rw (le-ltb b 48 (d .least)) (le-leb b 57 (d .most))
 
 -- ---- what a number counts
 
-pub count-small : (n : ℕ) → n ≤ 2147483647 → countOf n ≡ n
-unfolding countOf
+pub count-small : (n : ℕ) → n ≤ 2147483647 → countsAs n ≡ n
+unfolding countsAs
 count-small n h = rw (le-leb n 2147483647 h)
 
-count-large : (n : ℕ) → 2147483647 < n → countOf n ≡ 0
-unfolding countOf
+count-large : (n : ℕ) → 2147483647 < n → countsAs n ≡ 0
+unfolding countsAs
 count-large n h = rw (lt-leb n 2147483647 h)
 
-count-held : (n : ℕ) → countOf (min n 18446744073709551615) ≡ countOf n
-count-held n = go (leb n 2147483647) refl
+count-capped : (n : ℕ) → countsAs (min n 18446744073709551615) ≡ countsAs n
+count-capped n = go (leb n 2147483647) refl
   where
-    go : (t : Bool) → leb n 2147483647 ≡ t → countOf (min n 18446744073709551615) ≡ countOf n
-    go true q = let h = leb-true n 2147483647 q in ap countOf (omega arith)
+    go : (t : Bool) → leb n 2147483647 ≡ t → countsAs (min n 18446744073709551615) ≡ countsAs n
+    go true q = let h = leb-true n 2147483647 q in ap countsAs (omega arith)
     go false q = let h = leb-false n 2147483647 q in count-large (min n 18446744073709551615) (omega arith) ∙ sym (count-large n (omega arith))
 
 -- ---- the run
@@ -70,5 +70,5 @@ run-held (b ∷ ds) n x k h =
     run-held ds (n * 10 + (b - 48)) (pushOf x b) (k .1) (ap (λ (y : ℕ). pushOf y b) h ∙ push-held n b (digit-test b (k .0)))
 
 -- THE LAW of the run: saturating at 2^64 - 1 does not show
-pub run-counts : (ds : List ℕ) → Digits ds → countOf (runOf 0 ds) ≡ countOf (value 0 ds)
-run-counts ds k = ap countOf (run-held ds 0 0 k refl) ∙ count-held (value 0 ds)
+pub run-counts : (ds : List ℕ) → Digits ds → countsAs (runOf 0 ds) ≡ countsAs (value 0 ds)
+run-counts ds k = ap countsAs (run-held ds 0 0 k refl) ∙ count-capped (value 0 ds)

@@ -38,7 +38,7 @@ use denote.Triple.Statement.{Contract, Triple}
 use denote.Triple.Call.{calls-at}
 use denote.Triple.Clauses.{ensured, lasts}
 use denote.Triple.Spec.{tripleOf}
-use Rattle.mate_text.specs.Run.{isDigit, countOf, pushOf}
+use Rattle.mate_text.specs.Run.{isDigit, countsAs, pushOf}
 use Rattle.mate_text.specs.declared.DigitRun.{DigitRun}
 use Rattle.mate_text.proofs.DigitRun as T
 use Rattle.mate_text.proofs.DigitRun.Laws as T′
@@ -113,7 +113,7 @@ module _ {M : Type 1} (𝓤 : URA M) (H : Heap 𝓤) (A : Atoms 𝓤) (W : Given
         show ! (λ (d : DigitRun). sep 𝓤 (sem 𝓤 H A (fres δ (T.the-row .coded .code d))) (fact 𝓤 (Pushed n t d))) (zs .0) $ frame ! $ keep ! (1 ∷ []) $ done !)
 
     abbrev Taken : ℤ → DigitRun → Type 0
-    Taken z d = (z ≡ pos (countOf (h .0))) × (d .0 ≡ 0)
+    Taken z d = (z ≡ pos (countsAs (h .0))) × (d .0 ≡ 0)
 
     abbrev pub to-take : ℕ → GName → Take 𝓤 H A at-mem run .Ghost
     to-take α δ = (((α ∷ [], tt), (fullShare, tt), tt, (ref l δ h, tt), (vptr l 0 ∷ [], tt)), tt)
@@ -138,7 +138,7 @@ module _ {M : Type 1} (𝓤 : URA M) (H : Heap 𝓤) (A : Atoms 𝓤) (W : Given
 
       pub takes : K → FmC 𝓤 H (W .laws) C → Triple 𝓤 (C f) (Take 𝓤 H A at-mem run) → Is T.the-row h (mach h ∷ [])
           → ((α : ℕ) (δ : GName) → Opds K W (raw (Take 𝓤 H A at-mem run .pre (to-take α δ)) ∷ ‵ (flent (α ∷ []) (Body (mem T.the-row) l 0 δ)) ∷ Γ) N xs (vptr l 0 ∷ []))
-          → ((u : Val) (z : ℤ) (d : DigitRun) → (z ≡ pos (countOf (h .0))) × (d .0 ≡ 0) → Is T.the-row d (mach d ∷ []) → Is i32 z (u ∷ []) → Seq K W (‵ (fat fullShare T′.mir l 0 (mach d)) ∷ Γ) (lands C Λ N p u next q))
+          → ((u : Val) (z : ℤ) (d : DigitRun) → (z ≡ pos (countsAs (h .0))) × (d .0 ≡ 0) → Is T.the-row d (mach d ∷ []) → Is i32 z (u ∷ []) → Seq K W (‵ (fat fullShare T′.mir l 0 (mach d)) ∷ Γ) (lands C Λ N p u next q))
           → Seq K W (‵ (fat fullShare T′.mir l 0 (mach h)) ∷ Γ) (runs C Λ N (seq (call f xs p) next) q)
       takes t fm known g os k =
           lends t fm (Take 𝓤 H A at-mem run) known i32 Taken h l g to-take (λ α δ r. ensured 𝓤 H A take.ended (take.clauses 𝓤 H A at-mem run) (α ∷ [], tt) (ref l δ h, tt) tt r)

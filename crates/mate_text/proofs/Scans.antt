@@ -7,9 +7,9 @@ use lib.IntN.{ℤ, pos}
 use lib.ListN.{length, drop, getD}
 use Rattle.lists.proofs.Walks.{step, done}
 use Rattle.sam.specs.Text.{Digits, value}
-use Rattle.mate_text.specs.Run.{isDigit, countOf, pushOf}
+use Rattle.mate_text.specs.Run.{isDigit, countsAs, pushOf}
 use Rattle.mate_text.specs.Mate.{Piece, pieces, withDigit, counts}
-use Rattle.mate_text.specs.Scan.{runAfter, foundAfter, leadPiece}
+use Rattle.mate_text.specs.InnerScan.{runAfter, foundAfter, leadPiece}
 use Rattle.mate_text.specs.declared.Lead.{Lead}
 use Rattle.mate_text.proofs.Digits.{digit-range, digit-test, runOf, run-snoc, digits-snoc, run-counts}
 use Rattle.mate_text.proofs.Steps.{run-digit, run-letter, push-letter, found-digit, found-letter, lead-off}
@@ -53,7 +53,7 @@ module _ {S : Type 0} (f : S → ℤ → ℕ → S) where
       go false e ih =
           ap (λ (x : ℕ). scan x (foundAfter f (runOf 0 ds) s b) t) (run-letter (runOf 0 ds) b e)
           ∙ ap (λ (r : S). scan 0 r t) (found-letter f (runOf 0 ds) s b e ∙ ap (λ (n : ℕ). f s (pos n) b) (run-counts ds k))
-          ∙ ih [] (f s (pos (countOf (value 0 ds))) b) tt
+          ∙ ih [] (f s (pos (countsAs (value 0 ds))) b) tt
           ∙ sym (ap (overPieces s) (first-piece ds b t k e))
 
   -- THE LAW of the scan
@@ -69,12 +69,12 @@ module _ {S : Type 0} (f : S → ℤ → ℕ → S) where
       ∙ sym (ap (scan x s) (step text i (getD text i 0) refl h))
 
   pub scan-letter : (text : List ℕ) (i x y z : ℕ) (n : ℤ) (s r : S) → i < length text → isDigit (getD text i 0) ≡ false → y ≡ pushOf x (getD text i 0)
-      → n ≡ pos (countOf y) → z ≡ 0 → r ≡ f s n (getD text i 0) → scan z r (drop (i + 1) text) ≡ scan x s (drop i text)
+      → n ≡ pos (countsAs y) → z ≡ 0 → r ≡ f s n (getD text i 0) → scan z r (drop (i + 1) text) ≡ scan x s (drop i text)
   unfolding scan
   scan-letter text i x y z n s r h e p c o g =
       ap (λ (w : ℕ). scan w r (drop (i + 1) text)) (o ∙ sym (run-letter x (getD text i 0) e))
       ∙ ap (λ (q : S). scan (runAfter x (getD text i 0)) q (drop (i + 1) text))
-      (g ∙ ap (λ (m : ℤ). f s m (getD text i 0)) (c ∙ ap (λ (w : ℕ). pos (countOf w)) (p ∙ push-letter x (getD text i 0) e)) ∙ sym (found-letter f x s (getD text i 0) e))
+      (g ∙ ap (λ (m : ℤ). f s m (getD text i 0)) (c ∙ ap (λ (w : ℕ). pos (countsAs w)) (p ∙ push-letter x (getD text i 0) e)) ∙ sym (found-letter f x s (getD text i 0) e))
       ∙ sym (ap (scan x s) (step text i (getD text i 0) refl h))
 
   pub scan-end : (text : List ℕ) (i x : ℕ) (s : S) → length text ≤ i → scan x s (drop i text) ≡ s
@@ -87,7 +87,7 @@ found-off x s b e = go (isDigit b) refl
   where
     go : (u : Bool) → isDigit b ≡ u → foundAfter leadPiece x s b ≡ s
     go true q = found-digit leadPiece x s b q
-    go false q = found-letter leadPiece x s b q ∙ lead-off s (pos (countOf x)) b e
+    go false q = found-letter leadPiece x s b q ∙ lead-off s (pos (countsAs x)) b e
 
 pub scan-off : (t : List ℕ) (x : ℕ) (s : Lead) → s .on ≡ false → scan leadPiece x s t ≡ s
 unfolding scan

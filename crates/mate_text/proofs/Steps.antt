@@ -4,11 +4,11 @@ use mathlib.Core.Bool.{true, false}
 use Prim.Native.Nat.{ℕ}
 use lib.IntN.{ℤ, pos, _+ℤ_}
 use Rattle.signed.specs.Whole.{clamp32}
-use Rattle.mate_text.specs.Run.{isDigit, pushOf, countOf}
+use Rattle.mate_text.specs.Run.{isDigit, pushOf, countsAs}
 use Rattle.mate_text.specs.Mate.{isRefLetter, isClipLetter}
-use Rattle.mate_text.specs.Scan.{runAfter, foundAfter, leadPiece, tailPiece}
+use Rattle.mate_text.specs.InnerScan.{runAfter, foundAfter, leadPiece, trailPiece}
 use Rattle.mate_text.specs.declared.Lead.{Lead}
-use Rattle.mate_text.specs.declared.Tail.{Tail}
+use Rattle.mate_text.specs.declared.Trail.{Trail}
 
 module _ (s : Lead) (n : ℤ) (b : ℕ) where
   pub lead-off : s .on ≡ false → leadPiece s n b ≡ s
@@ -23,22 +23,22 @@ module _ (s : Lead) (n : ℤ) (b : ℕ) where
   unfolding leadPiece
   lead-clip e f = rw (e, f)
 
-module _ (s : Tail) (n : ℤ) (b : ℕ) where
-  pub tail-ref : isRefLetter b ≡ true → tailPiece s n b ≡ record { refs = clamp32 (s .refs +ℤ n); clips = pos 0; seen = true }
-  unfolding tailPiece
-  tail-ref e = rw e
+module _ (s : Trail) (n : ℤ) (b : ℕ) where
+  pub trail-ref : isRefLetter b ≡ true → trailPiece s n b ≡ record { refs = clamp32 (s .refs +ℤ n); clips = pos 0; seen = true }
+  unfolding trailPiece
+  trail-ref e = rw e
 
-  pub tail-other : isRefLetter b ≡ false → isClipLetter b ≡ false → tailPiece s n b ≡ s
-  unfolding tailPiece
-  tail-other e f = rw (e, f)
+  pub trail-other : isRefLetter b ≡ false → isClipLetter b ≡ false → trailPiece s n b ≡ s
+  unfolding trailPiece
+  trail-other e f = rw (e, f)
 
-  pub tail-early : isRefLetter b ≡ false → isClipLetter b ≡ true → s .seen ≡ false → tailPiece s n b ≡ s
-  unfolding tailPiece
-  tail-early e f g = rw (e, f, g)
+  pub trail-early : isRefLetter b ≡ false → isClipLetter b ≡ true → s .seen ≡ false → trailPiece s n b ≡ s
+  unfolding trailPiece
+  trail-early e f g = rw (e, f, g)
 
-  pub tail-clip : isRefLetter b ≡ false → isClipLetter b ≡ true → s .seen ≡ true → tailPiece s n b ≡ record { refs = s .refs; clips = clamp32 (s .clips +ℤ n); seen = true }
-  unfolding tailPiece
-  tail-clip e f g = rw (e, f, g)
+  pub trail-clip : isRefLetter b ≡ false → isClipLetter b ≡ true → s .seen ≡ true → trailPiece s n b ≡ record { refs = s .refs; clips = clamp32 (s .clips +ℤ n); seen = true }
+  unfolding trailPiece
+  trail-clip e f g = rw (e, f, g)
 
 module _ (x b : ℕ) where
   pub run-digit : isDigit b ≡ true → runAfter x b ≡ pushOf x b
@@ -59,6 +59,6 @@ module _ {S : Type 0} (f : S → ℤ → ℕ → S) (x : ℕ) (s : S) (b : ℕ) 
   unfolding foundAfter
   found-digit e = rw e
 
-  pub found-letter : isDigit b ≡ false → foundAfter f x s b ≡ f s (pos (countOf x)) b
+  pub found-letter : isDigit b ≡ false → foundAfter f x s b ≡ f s (pos (countsAs x)) b
   unfolding foundAfter
   found-letter e = rw e

@@ -1,4 +1,4 @@
 pub mod Run
 pub mod Mate
-pub mod Scan
+pub mod InnerScan
 pub mod Readers

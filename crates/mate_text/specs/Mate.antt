@@ -10,7 +10,7 @@ use Rattle.signed.specs.Whole.{clamp32}
 use Rattle.sam.specs.Text.{value}
 use Rattle.answers.specs.declared.Pos0.{Pos0}
 use Rattle.answers.specs.declared.Pos1.{Pos1}
-use Rattle.mate_text.specs.Run.{isDigit, countOf}
+use Rattle.mate_text.specs.Run.{isDigit, countsAs}
 
 -- this reader's letters: M D N = X of the reference, S H of clips
 abbrev pub refLetters : List ℕ
@@ -46,7 +46,7 @@ pieces (b ∷ s) = cond (isDigit b) (withDigit b (pieces s)) (record { digits = 
 
 -- what a piece counts: its decimal number, however long, 0 where it is missing or above 2^31 - 1
 abbrev pub counts : Piece → ℕ
-counts p = countOf (value 0 (p .digits))
+counts p = countsAs (value 0 (p .digits))
 
 unfoldable pub total : (Piece → ℕ) → List Piece → ℕ
 total f [] = 0
@@ -77,22 +77,30 @@ mateReference s = total refCount (pieces s)
 unfoldable pub mateTrailing : List ℕ → ℕ
 mateTrailing s = total clipCount (afterLast isRefPiece (pieces s))
 
--- a sum of counts, each step of which saturates: no count is negative, so it is the sum, held at 2^31 - 1
-abbrev pub held : ℕ → ℤ
-held n = clamp32 (pos n)
+-- a sum of counts, each step of which saturates: no count is negative, so it is the sum, at most 2^31 - 1
+abbrev pub capped : ℕ → ℤ
+capped n = clamp32 (pos n)
 
 -- "Start: position less leading S and H"
 abbrev pub mateStart : ℤ → List ℕ → ℤ
-mateStart p s = clamp32 (p -ℤ held (mateLeading s))
+mateStart p s = clamp32 (p -ℤ capped (mateLeading s))
 
 -- "End: position less 1, plus reference length, plus S and H after the last reference letter", in this order
 abbrev pub mateEnd : ℤ → List ℕ → ℤ
-mateEnd p s = clamp32 (clamp32 (clamp32 (p -ℤ pos 1) +ℤ held (mateReference s)) +ℤ held (mateTrailing s))
+mateEnd p s = clamp32 (clamp32 (clamp32 (p -ℤ pos 1) +ℤ capped (mateReference s)) +ℤ capped (mateTrailing s))
 
--- `mate_unclipped_5prime`: the end of a reverse mate, the start of a forward one
-unfoldable pub mateUnclipped : ℤ → Bool → List ℕ → ℤ
-mateUnclipped p reverse s = cond reverse (mateEnd p s) (mateStart p s)
+-- the end of a reverse mate, the start of a forward one, counted as the position is
+unfoldable pub mateFivePrime : ℤ → Bool → List ℕ → ℤ
+mateFivePrime p reverse s = cond reverse (mateEnd p s) (mateStart p s)
 
--- its `_1based` form: from the position plus 1
+-- `mate_unclipped_5prime`
+unfoldable pub mateUnclipped : Pos0 → Bool → List ℕ → Pos0
+mateUnclipped p reverse s = record { 0 = mateFivePrime (p .0) reverse s }
+
+-- a position counted from 1; it saturates, as each step does
+abbrev pub saturatedOneBased : Pos0 → Pos1
+saturatedOneBased p = record { 0 = clamp32 (p .0 +ℤ pos 1) }
+
+-- its `_1based` form: from the position counted so
 unfoldable pub mateUnclipped1 : Pos0 → Bool → List ℕ → Pos1
-mateUnclipped1 p reverse s = record { 0 = mateUnclipped (clamp32 (p .0 +ℤ pos 1)) reverse s }
+mateUnclipped1 p reverse s = record { 0 = mateFivePrime (saturatedOneBased p .0) reverse s }

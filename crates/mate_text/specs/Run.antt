@@ -7,9 +7,9 @@ abbrev pub isDigit : ℕ → Bool
 isDigit b = cond (ltb b 48) false (leb b 57)
 
 -- what a number counts
-unfoldable pub countOf : ℕ → ℕ
-countOf n = cond (leb n 2147483647) n 0
+unfoldable pub countsAs : ℕ → ℕ
+countsAs n = cond (leb n 2147483647) n 0
 
--- the run after one more byte: one digit more, held at 2^64 - 1 as the Rust's u64 is; as it was where the byte is no digit
+-- the run after one more byte: one digit more, capped at 2^64 - 1 as the Rust's u64 is; as it was where the byte is no digit
 unfoldable pub pushOf : ℕ → ℕ → ℕ
 pushOf x b = cond (isDigit b) (min (x * 10 + (b - 48)) 18446744073709551615) x

@@ -1,9 +1,9 @@
 // Document 01, module 6: the mate's unclipped 5' end from text. Reads any bytes, refuses none; each step saturates.
 ghost use mathlib.Core.Path.{_≡_};
 ghost use lib.IntN.{pos};
-ghost use Rattle.mate_text.specs.Run.{isDigit, countOf, pushOf};
-ghost use Rattle.mate_text.specs.Mate.{isRefLetter, isClipLetter, mateLeading, mateReference, mateTrailing, held, mateStart, mateEnd, mateUnclipped, mateUnclipped1};
-ghost use Rattle.mate_text.specs.Scan.{leadPiece, tailPiece};
+ghost use Rattle.mate_text.specs.Run.{isDigit, countsAs, pushOf};
+ghost use Rattle.mate_text.specs.Mate.{isRefLetter, isClipLetter, mateLeading, mateReference, mateTrailing, capped, mateStart, mateEnd, mateFivePrime, saturatedOneBased, mateUnclipped, mateUnclipped1};
+ghost use Rattle.mate_text.specs.InnerScan.{leadPiece, trailPiece};
 use answers::Pos0;
 use answers::Pos1;
 
@@ -44,7 +44,7 @@ fn wide(b: u8) -> u64
     b as u64
 }
 
-// The digits so far, then one more byte; as they were where the byte is no digit. Held at 2^64 - 1, which one test rules out for a number that is not huge.
+// The digits so far, then one more byte; as they were where the byte is no digit. Capped at 2^64 - 1, which one test rules out for a number that is not huge.
 fn pushed(x: u64, b: u8) -> u64
     ensures { λ r. ⌜ r ≡ pushOf x b ⌝ }
 {
@@ -66,7 +66,7 @@ fn pushed(x: u64, b: u8) -> u64
 
 // What a number counts: 0 above 2^31 - 1.
 fn counted(x: u64) -> i32
-    ensures { λ r. ⌜ r ≡ pos (countOf x) ⌝ }
+    ensures { λ r. ⌜ r ≡ pos (countsAs x) ⌝ }
 {
     if x <= 2147483647 {
         return x as i32;
@@ -95,7 +95,7 @@ impl DigitRun {
 
     // What the run counts; the run is empty afterwards.
     pub fn take(&mut self) -> i32
-        ensures { λ r. ⌜ (r ≡ pos (countOf (now (self .entry) .0))) × (now (self .exit) .0 ≡ 0) ⌝ }
+        ensures { λ r. ⌜ (r ≡ pos (countsAs (now (self .entry) .0))) × (now (self .exit) .0 ≡ 0) ⌝ }
     {
         let v = counted(self.0);
         self.0 = 0;
@@ -129,7 +129,7 @@ fn lead_piece(s: Lead, number: i32, letter: u8) -> Lead
 
 // The total of the leading S and H.
 fn parse_leading_clips(text: &[u8]) -> i32
-    ensures { λ r. ⌜ r ≡ held (mateLeading (now (text .entry))) ⌝ }
+    ensures { λ r. ⌜ r ≡ capped (mateLeading (now (text .entry))) ⌝ }
 {
     let mut run = DigitRun::new();
     let mut found = Lead { clips: 0, on: true };
@@ -149,17 +149,17 @@ fn parse_leading_clips(text: &[u8]) -> i32
 }
 
 // The reference length, the clips since its last letter, and whether there was one.
-struct Tail {
+struct Trail {
     refs: i32,
     clips: i32,
     seen: bool,
 }
 
-fn tail_piece(s: Tail, number: i32, letter: u8) -> Tail
-    ensures { λ r. ⌜ r ≡ tailPiece s number letter ⌝ }
+fn trail_piece(s: Trail, number: i32, letter: u8) -> Trail
+    ensures { λ r. ⌜ r ≡ trailPiece s number letter ⌝ }
 {
     if is_ref(letter) {
-        return Tail {
+        return Trail {
             refs: signed::saturating_add(s.refs, number),
             clips: 0,
             seen: true,
@@ -171,7 +171,7 @@ fn tail_piece(s: Tail, number: i32, letter: u8) -> Tail
     if !s.seen {
         return s;
     }
-    Tail {
+    Trail {
         refs: s.refs,
         clips: signed::saturating_add(s.clips, number),
         seen: true,
@@ -179,11 +179,11 @@ fn tail_piece(s: Tail, number: i32, letter: u8) -> Tail
 }
 
 // The reference length, and the total of the S and H after its last letter.
-fn parse_ref_len_and_trailing_clips(text: &[u8]) -> Tail
-    ensures { λ r. ⌜ (r .refs ≡ held (mateReference (now (text .entry)))) × (r .clips ≡ held (mateTrailing (now (text .entry)))) ⌝ }
+fn parse_ref_len_and_trailing_clips(text: &[u8]) -> Trail
+    ensures { λ r. ⌜ (r .refs ≡ capped (mateReference (now (text .entry)))) × (r .clips ≡ capped (mateTrailing (now (text .entry)))) ⌝ }
 {
     let mut run = DigitRun::new();
-    let mut found = Tail {
+    let mut found = Trail {
         refs: 0,
         clips: 0,
         seen: false,
@@ -193,7 +193,7 @@ fn parse_ref_len_and_trailing_clips(text: &[u8]) -> Tail
         let b = text[i];
         if !run.push(b) {
             let number = run.take();
-            found = tail_piece(found, number, b);
+            found = trail_piece(found, number, b);
         }
         i += 1;
     }
@@ -217,9 +217,9 @@ fn unclipped_other_end(position: i32, text: &[u8]) -> i32
     )
 }
 
-// The mate's unclipped 5' position from its text: its start where it is forward, its end where it is reverse.
-pub fn mate_unclipped_5prime(position: i32, reverse: bool, text: &[u8]) -> i32
-    ensures { λ r. ⌜ r ≡ mateUnclipped position reverse (now (text .entry)) ⌝ }
+// The mate's unclipped 5' position, counted as the position is: its start where it is forward, its end where it is reverse.
+fn five_prime(position: i32, reverse: bool, text: &[u8]) -> i32
+    ensures { λ r. ⌜ r ≡ mateFivePrime position reverse (now (text .entry)) ⌝ }
 {
     if reverse {
         return unclipped_other_end(position, text);
@@ -227,9 +227,24 @@ pub fn mate_unclipped_5prime(position: i32, reverse: bool, text: &[u8]) -> i32
     unclipped_other_start(position, text)
 }
 
-// The same, of a record's position, as an answer that counts from 1.
+// A position counted from 1. It saturates, where `ends::one_based` refuses: this reader refuses nothing.
+fn saturating_one_based(p: Pos0) -> Pos1
+    ensures { λ r. ⌜ r ≡ saturatedOneBased p ⌝ }
+{
+    Pos1(signed::saturating_add(p.0, 1))
+}
+
+// The mate's unclipped 5' position from its text.
+pub fn mate_unclipped_5prime(position: Pos0, reverse: bool, text: &[u8]) -> Pos0
+    ensures { λ r. ⌜ r ≡ mateUnclipped position reverse (now (text .entry)) ⌝ }
+{
+    Pos0(five_prime(position.0, reverse, text))
+}
+
+// The same, as an answer that counts from 1.
 pub fn mate_unclipped_5prime_1based(position: Pos0, reverse: bool, text: &[u8]) -> Pos1
     ensures { λ r. ⌜ r ≡ mateUnclipped1 position reverse (now (text .entry)) ⌝ }
 {
-    Pos1(mate_unclipped_5prime(signed::saturating_add(position.0, 1), reverse, text))
+    let from = saturating_one_based(position);
+    Pos1(five_prime(from.0, reverse, text))
 }

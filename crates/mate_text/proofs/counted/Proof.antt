@@ -3,7 +3,7 @@ use native.Mathlib.Omega.{arith}
 use mir.Syntax.{w32}
 use mir.Facts.{toZ-pos}
 use borrow.Author.Tests.{le-leb, lt-leb}
-use Rattle.mate_text.specs.Run.{countOf}
+use Rattle.mate_text.specs.Run.{countsAs}
 use borrow.Author.Needs.{needs}
 use Rattle.mate_text.proofs.counted.Statement.{statement}
 use Rattle.mate_text.proofs.counted.Tie as tie
@@ -12,11 +12,11 @@ cast-result : tie.Need-cast-result
 cast-result c = search needs
 
 returns : tie.Need-returns
-unfolding countOf
+unfolding countsAs
 returns c = simp (le-leb (c .before .args .x) 2147483647 (c .if1 .taken)) (toZ-pos w32 (omega arith))
 
 returns-2 : tie.Need-returns-2
-unfolding countOf
+unfolding countsAs
 returns-2 c = simp (lt-leb (c .before .args .x) 2147483647 (c .if1 .left))
 
 pub counted-spec : {M : Type 1} → statement M

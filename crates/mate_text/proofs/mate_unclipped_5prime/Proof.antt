@@ -1,33 +1,25 @@
--- `mate_text::mate_unclipped_5prime` meets its contract: each arm is one of the definition's two cases.
-use mathlib.Core.Path.{_≡_, _∙_}
+-- The position that the reader gives, counted as the given one is.
+use mathlib.Core.Path.{_≡_, ap, _∙_}
+use lib.IntN.{ℤ}
+use denote.Ref.{now}
 use mir.Syntax.{w32}
 use mir.Val.{toZ, ofZ}
-use Rattle.mate_text.specs.Mate.{mateUnclipped}
+use Rattle.mate_text.specs.Mate.{mateFivePrime, mateUnclipped}
 use borrow.Author.Needs.{needs}
 use Rattle.mate_text.proofs.mate_unclipped_5prime.Statement.{statement}
 use Rattle.mate_text.proofs.mate_unclipped_5prime.Tie as tie
 
-unclipped-other-end-requires : tie.Need-unclipped-other-end-requires
-unclipped-other-end-requires c κs = search needs
+five-prime-requires : tie.Need-five-prime-requires
+five-prime-requires c κs = search needs
 
 returns : tie.Need-returns
 unfolding mateUnclipped
 returns c =
     let a = c .before .before .before .args in
-    let p : toZ w32 (ofZ w32 (a .position)) ≡ a .position = search needs in
-    rw (c .before .if1 .taken) (search needs ∙ simp p at (c .unclipped-other-end .ensures))
-
-unclipped-other-start-requires : tie.Need-unclipped-other-start-requires
-unclipped-other-start-requires c κs = search needs
-
-returns-2 : tie.Need-returns-2
-unfolding mateUnclipped
-returns-2 c =
-    let a = c .before .before .before .args in
-    let p : toZ w32 (ofZ w32 (a .position)) ≡ a .position = search needs in
-    rw (c .before .if1 .left) (search needs ∙ simp p at (c .unclipped-other-start .ensures))
+    let p : toZ w32 (ofZ w32 (a .position .0)) ≡ a .position .0 = search needs in
+    let r : toZ w32 (ofZ w32 (c .five-prime .result)) ≡ c .five-prime .result = search needs in
+    let g : c .five-prime .result ≡ mateFivePrime (a .position .0) (a .reverse) (now (a .text)) = simp p at (c .five-prime .ensures) in
+    ap (λ (z : ℤ). record { 0 = z }) (r ∙ g)
 
 pub mate-unclipped-5prime-spec : {M : Type 1} → statement M
-mate-unclipped-5prime-spec =
-    tie.close
-    (tie.spec unclipped-other-end-requires returns unclipped-other-start-requires returns-2)
+mate-unclipped-5prime-spec = tie.close (tie.spec five-prime-requires returns)

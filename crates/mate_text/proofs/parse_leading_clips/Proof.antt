@@ -41,7 +41,7 @@ use denote.Triple.Spec.{Meets, tripleOf}
 use denote.Triple.Table.{entered, cited}
 use denote.Triple.Walked.{says, Stays, stay-none-slice, walkOf, goes-none-slice, Walks, ends-at, walked, walk-meets}
 use denote.Exit.{yes}
-use Rattle.mate_text.specs.Scan.{leadPiece}
+use Rattle.mate_text.specs.InnerScan.{leadPiece}
 use Rattle.mate_text.specs.declared.Lead.{Lead}
 use Rattle.mate_text.proofs.Scans.{scan, scan-off, scan-end}
 use Rattle.mate_text.proofs.Sums.{leading-is}

@@ -40,14 +40,14 @@ use denote.Triple.Spec.{Meets, tripleOf}
 use denote.Triple.Table.{entered, cited}
 use denote.Triple.Walked.{says, Stays, stay-none-slice, walkOf, goes-none-slice, Walks, ends-at, walked, walk-meets}
 use denote.Exit.{yes}
-use Rattle.mate_text.specs.Scan.{tailPiece}
-use Rattle.mate_text.specs.declared.Tail.{Tail}
+use Rattle.mate_text.specs.InnerScan.{trailPiece}
+use Rattle.mate_text.specs.declared.Trail.{Trail}
 use Rattle.mate_text.proofs.Scans.{scan, scan-end}
 use Rattle.mate_text.proofs.Sums.{reference-is, trailing-is}
 use Rattle.mate_text.proofs.Lent.{Push, Take}
 use Rattle.mate_text.proofs.Scanner.{Finder, finds, scanFn, New, Piece, to-piece, takes-in, Arm, Ends, counts, scans}
-use Rattle.mate_text.proofs.Tail as F
-use Rattle.mate_text.proofs.Tail.Laws as F′
+use Rattle.mate_text.proofs.Trail as F
+use Rattle.mate_text.proofs.Trail.Laws as F′
 use Rattle.mate_text.proofs.DigitRun.new.Symbol as new-def
 use Rattle.mate_text.proofs.DigitRun.new.Symbol.{name as #new}
 use Rattle.mate_text.proofs.DigitRun.new.Met as new-thm
@@ -57,10 +57,10 @@ use Rattle.mate_text.proofs.DigitRun.push.Met as push-thm
 use Rattle.mate_text.proofs.DigitRun.take.Symbol as take-def
 use Rattle.mate_text.proofs.DigitRun.take.Symbol.{name as #take}
 use Rattle.mate_text.proofs.DigitRun.take.Met as take-thm
-use Rattle.mate_text.proofs.tail_piece as piece
-use Rattle.mate_text.proofs.tail_piece.Symbol as piece-def
-use Rattle.mate_text.proofs.tail_piece.Symbol.{name as #piece}
-use Rattle.mate_text.proofs.tail_piece.Met as piece-thm
+use Rattle.mate_text.proofs.trail_piece as piece
+use Rattle.mate_text.proofs.trail_piece.Symbol as piece-def
+use Rattle.mate_text.proofs.trail_piece.Symbol.{name as #piece}
+use Rattle.mate_text.proofs.trail_piece.Met as piece-thm
 use Rattle.mate_text.proofs.parse_ref_len_and_trailing_clips.Key.{name as #scan}
 use Rattle.mate_text.proofs.parse_ref_len_and_trailing_clips as own
 use Rattle.mate_text.proofs.parse_ref_len_and_trailing_clips.Statement as stated
@@ -70,7 +70,7 @@ abbrev stayed : Stays (own.ended .signature .params) (own.ended .kept)
 stayed = (stay-none-slice (0 ∷ []) tt (plain (λ _. u8)) yes, tt)
 
 -- nothing was found yet
-abbrev start : Tail
+abbrev start : Trail
 start = record { refs = pos 0; clips = pos 0; seen = false }
 
 -- the code of this scan
@@ -88,14 +88,14 @@ function = scanFn F′.mir F′.mir [] begun arm rest
 
 module _ {M : Type 1} (𝓤 : URA M) (H : Heap 𝓤) (A : Atoms 𝓤) (W : Given 𝓤 H A) (at-mem : Memory → SProp 𝓤) (run : Routine → Fun 𝓤) where
   abbrev finder : Finder 𝓤 H A
-  finder = finds 𝓤 H A W F.the-type F′.the-laws F′.the-plain tailPiece start (LL.owes F.the-type F′.the-laws start ((refl, lit< tt), ((refl, lit< tt), (refl, tt))))
+  finder = finds 𝓤 H A W F.the-type F′.the-laws F′.the-plain trailPiece start (LL.owes F.the-type F′.the-laws start ((refl, lit< tt), ((refl, lit< tt), (refl, tt))))
 
-  -- what `tail_piece` says
-  abbrev E : Tail → ℤ → ℕ → Tail → SProp 𝓤
+  -- what `trail_piece` says
+  abbrev E : Trail → ℤ → ℕ → Trail → SProp 𝓤
   E f z n r = ensured 𝓤 H A piece.ended (piece.clauses 𝓤 H A at-mem run) tt (f, (z, (n, tt))) tt r
 
-  said-piece : (f : Tail) (z : ℤ) (n : ℕ) (r : Tail) → ent 𝓤 (E f z n r) (fact 𝓤 (r ≡ tailPiece f z n))
-  said-piece f z n r = exE 𝓤 _ (λ ws. snd∗ 𝓤 (sem 𝓤 H A (lasts piece.ended tt (f, (z, (n, tt))) ws)) (fact 𝓤 (r ≡ tailPiece f z n)))
+  said-piece : (f : Trail) (z : ℤ) (n : ℕ) (r : Trail) → ent 𝓤 (E f z n r) (fact 𝓤 (r ≡ trailPiece f z n))
+  said-piece f z n r = exE 𝓤 _ (λ ws. snd∗ 𝓤 (sem 𝓤 H A (lasts piece.ended tt (f, (z, (n, tt))) ws)) (fact 𝓤 (r ≡ trailPiece f z n)))
 
   module _ (κ : Lft) (q : Share) (s : RefT (List ℕ)) where
     abbrev ys : List ℕ
@@ -110,11 +110,11 @@ module _ {M : Type 1} (𝓤 : URA M) (H : Heap 𝓤) (A : Atoms 𝓤) (W : Given
     abbrev Post : Val → SProp 𝓤
     Post = walkOf 𝓤 H A own.ended stayed (own.clauses 𝓤 H A at-mem run) .post (((κ, tt), (q, tt), tt, (s, tt), (v ∷ [], tt)), tt)
 
-    exits : (f : Tail) → Is F.the-row f (F′.lowered f ∷ []) → f ≡ scan tailPiece 0 start ys → ent 𝓤 (⋆ 𝓤 H A (‵ (flft κ q) ∷ ‵ Own ∷ [])) (Post (F′.lowered f))
+    exits : (f : Trail) → Is F.the-row f (F′.lowered f ∷ []) → f ≡ scan trailPiece 0 start ys → ent 𝓤 (⋆ 𝓤 H A (‵ (flft κ q) ∷ ‵ Own ∷ [])) (Post (F′.lowered f))
     exits f g e =
         qed W (‵ (flft κ q) ∷ ‵ Own ∷ []) ∵
         suffices ! _ (ends-at 𝓤 H A own.ended stayed (own.clauses 𝓤 H A at-mem run) W (((κ, tt), (q, tt), tt, (s, tt), (v ∷ [], tt)), tt) (F′.lowered f) f (tt, tt) (tt, tt)) $
-        says ! (ap (λ (h : Tail). h .refs) e ∙ reference-is ys, ap (λ (h : Tail). h .clips) e ∙ trailing-is ys) $
+        says ! (ap (λ (h : Trail). h .refs) e ∙ reference-is ys, ap (λ (h : Trail). h .clips) e ∙ trailing-is ys) $
         nothing ! $ move ! (1 ∷ 0 ∷ []) $ join ! $ nothing ! $ move ! (2 ∷ 0 ∷ []) $ fjoin ! $ move ! (1 ∷ 0 ∷ []) $ frame ! $ frame ! $
         owned ! F.the-row (Is F.the-row) (finder .makes) f _ g $ done !
 
@@ -136,7 +136,7 @@ module _ {M : Type 1} (𝓤 : URA M) (H : Heap 𝓤) (A : Atoms 𝓤) (W : Given
             assigns ! (of-opd ! (load ! (from ! (stop !)) (look ! 3 refl))) (from ! (stop !)) (init ! 15 refl (finder .fits (t .found) _ (t .founds))) $
             returns ! (look ! 15 refl) $ forget ! 0 refl $ forget ! 3 refl $ forget ! 4 refl $ forget ! 14 refl $ forget ! 15 refl $
             move ! (15 ∷ 17 ∷ 14 ∷ 18 ∷ 0 ∷ 19 ∷ 3 ∷ 20 ∷ 4 ∷ 21 ∷ 5 ∷ 22 ∷ 6 ∷ 23 ∷ 16 ∷ 24 ∷ 7 ∷ 25 ∷ 8 ∷ 26 ∷ 9 ∷ 27 ∷ 10 ∷ 28 ∷ 11 ∷ 29 ∷ 12 ∷ 30 ∷ 13 ∷ 31 ∷ []) $
-            free1 ! $ free1 ! $ free1 ! $ free1 ! $ free1 ! $ free1 ! $ free1 ! $ free1 ! $ free1 ! $ free1 ! $ free1 ! $ free1 ! $ free1 ! $ free1 ! $ free1 ! $ free0 ! $ by ! (exits (t .found) (t .founds) (sym (scan-end tailPiece ys (t .i) (t .run .0) (t .found) over) ∙ t .goes-on))
+            free1 ! $ free1 ! $ free1 ! $ free1 ! $ free1 ! $ free1 ! $ free1 ! $ free1 ! $ free1 ! $ free1 ! $ free1 ! $ free1 ! $ free1 ! $ free1 ! $ free1 ! $ free0 ! $ by ! (exits (t .found) (t .founds) (sym (scan-end trailPiece ys (t .i) (t .run .0) (t .found) over) ∙ t .goes-on))
 
       walk : ent 𝓤 (onEntry 𝓤 H A own.signature (κ, tt) (q, tt) (s, tt) (v ∷ [], tt)) (WpFn 𝓤 H (𝓣 .C) (𝓣 .Λ) function (v ∷ []) Post)
       walk =
@@ -163,4 +163,4 @@ parse-ref-len-and-trailing-clips-spec 𝓤 H 𝓜 𝓖 𝓡 =
     (cited 𝓤 H (New 𝓤 H (𝓖 .A) (𝓜 .mem) (𝓡 .run)) 𝓜 𝓡 code.env #new new-def.routine code.calls-mate-text·DigitRun·new (new-thm.met 𝓤 H 𝓜 𝓖 𝓡))
     (cited 𝓤 H (Push 𝓤 H (𝓖 .A) (𝓜 .mem) (𝓡 .run)) 𝓜 𝓡 code.env #push push-def.routine code.calls-mate-text·DigitRun·push (push-thm.met 𝓤 H 𝓜 𝓖 𝓡))
     (cited 𝓤 H (Take 𝓤 H (𝓖 .A) (𝓜 .mem) (𝓡 .run)) 𝓜 𝓡 code.env #take take-def.routine code.calls-mate-text·DigitRun·take (take-thm.met 𝓤 H 𝓜 𝓖 𝓡))
-    (cited 𝓤 H (tripleOf 𝓤 H (𝓖 .A) piece.signature (piece.spec 𝓤 H (𝓖 .A) (𝓜 .mem) (𝓡 .run))) 𝓜 𝓡 code.env #piece piece-def.routine code.calls-mate-text·tail-piece (piece-thm.met 𝓤 H 𝓜 𝓖 𝓡)))
+    (cited 𝓤 H (tripleOf 𝓤 H (𝓖 .A) piece.signature (piece.spec 𝓤 H (𝓖 .A) (𝓜 .mem) (𝓡 .run))) 𝓜 𝓡 code.env #piece piece-def.routine code.calls-mate-text·trail-piece (piece-thm.met 𝓤 H 𝓜 𝓖 𝓡)))

@@ -1,4 +1,4 @@
--- `mate_text::pushed` meets its contract: a digit's range, and `omega` for the number held at 2^64 - 1.
+-- `mate_text::pushed` meets its contract: a digit's range, and `omega` for the number capped at 2^64 - 1.
 use mathlib.Core.Path.{_≡_, sym, _∙_}
 use mathlib.Core.Bool.{true}
 use Prim.Native.Nat.{_+_, _-_, _*_, min}

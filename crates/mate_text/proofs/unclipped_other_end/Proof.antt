@@ -5,7 +5,7 @@ use denote.Ref.{now}
 use mir.Syntax.{w32}
 use mir.Val.{toZ, ofZ}
 use Rattle.signed.specs.Whole.{clamp32}
-use Rattle.mate_text.specs.Mate.{held, mateReference}
+use Rattle.mate_text.specs.Mate.{capped, mateReference}
 use borrow.Author.Needs.{needs}
 use Rattle.mate_text.proofs.unclipped_other_end.Statement.{statement}
 use Rattle.mate_text.proofs.unclipped_other_end.Tie as tie
@@ -40,7 +40,7 @@ returns c =
     let n : ℤ = clamp32 (a .position -ℤ pos 1) in
     search needs ∙ g ∙ ap (λ (z : ℤ). clamp32 (z +ℤ t .result .clips)) (f ∙ ap (λ (z : ℤ). clamp32 (z +ℤ t .result .refs)) e)
     ∙ ap (λ (z : ℤ). clamp32 (clamp32 (n +ℤ z) +ℤ t .result .clips)) (t .ensures .0)
-    ∙ ap (λ (z : ℤ). clamp32 (clamp32 (n +ℤ held (mateReference (now (a .text)))) +ℤ z)) (t .ensures .1)
+    ∙ ap (λ (z : ℤ). clamp32 (clamp32 (n +ℤ capped (mateReference (now (a .text)))) +ℤ z)) (t .ensures .1)
 
 pub unclipped-other-end-spec : {M : Type 1} → statement M
 unclipped-other-end-spec =

@@ -17,9 +17,10 @@ mate-unclipped-5prime-requires c κs = search needs
 
 returns : tie.Need-returns
 returns c =
-    let z = c .mate-unclipped-5prime .result in
+    let k = c .before in
+    let s = k .before .before .before in
+    let z = k .mate-unclipped-5prime .result .0 in
     let e : toZ w32 (ofZ w32 z) ≡ z = search needs in
-    let s = c .before .before .before in
     cc (toZ-ofZ (s .fits .position))
 
 pub cigar-mate-unclipped-5prime-spec : {M : Type 1} → statement M

@@ -41,7 +41,7 @@ use denote.Triple.Entry.{onEntry}
 use denote.Triple.Spec.{Meets, tripleOf}
 use denote.Triple.Table.{entered, cited}
 use denote.Triple.Walked.{says, Stays, stay-ref, walkOf, AllGo, goes-ref, Walks, ends-at, walked, walk-meets}
-use Rattle.mate_text.specs.Run.{countOf}
+use Rattle.mate_text.specs.Run.{countsAs}
 use Rattle.mate_text.specs.declared.DigitRun.{DigitRun}
 use Rattle.mate_text.proofs.DigitRun as T
 use Rattle.mate_text.proofs.DigitRun.Laws as T′
@@ -94,10 +94,10 @@ module _ {M : Type 1} (𝓤 : URA M) (H : Heap 𝓤) (A : Atoms 𝓤) (W : Given
   goes-counted : ent 𝓤 (sep 𝓤 (sem 𝓤 H A ftrue) (sem 𝓤 H A (owns (u64 ∷ []) (h .0, tt) (vint w64 (h .0) ∷ [], tt)))) (Counted 𝓤 H A at-mem run .pre to)
   goes-counted = qed W (‵ ftrue ∷ ‵ (owns (u64 ∷ []) (h .0, tt) (vint w64 (h .0) ∷ [], tt)) ∷ []) ∵ join ! $ frame ! $ done !
 
-  said : (r : ℤ) → ent 𝓤 (ensured 𝓤 H A counted.ended (counted.clauses 𝓤 H A at-mem run) tt (h .0, tt) tt r) (fact 𝓤 (r ≡ pos (countOf (h .0))))
-  said r = exE 𝓤 _ (λ ws. snd∗ 𝓤 (sem 𝓤 H A (lasts counted.ended tt (h .0, tt) ws)) (fact 𝓤 (r ≡ pos (countOf (h .0)))))
+  said : (r : ℤ) → ent 𝓤 (ensured 𝓤 H A counted.ended (counted.clauses 𝓤 H A at-mem run) tt (h .0, tt) tt r) (fact 𝓤 (r ≡ pos (countsAs (h .0))))
+  said r = exE 𝓤 _ (λ ws. snd∗ 𝓤 (sem 𝓤 H A (lasts counted.ended tt (h .0, tt) ws)) (fact 𝓤 (r ≡ pos (countsAs (h .0)))))
 
-  exits : (r : ℤ) (v : Val) → r ≡ pos (countOf (h .0)) → ent 𝓤 (⋆ 𝓤 H A (‵ (fobs γ (T.the-row .coded .code h′)) ∷ ‵ (fbor κ (Body (mem T.the-row) b o γ)) ∷ ‵ (flft κ q) ∷ ‵ (i32 .own r (v ∷ [])) ∷ [])) (Post v)
+  exits : (r : ℤ) (v : Val) → r ≡ pos (countsAs (h .0)) → ent 𝓤 (⋆ 𝓤 H A (‵ (fobs γ (T.the-row .coded .code h′)) ∷ ‵ (fbor κ (Body (mem T.the-row) b o γ)) ∷ ‵ (flft κ q) ∷ ‵ (i32 .own r (v ∷ [])) ∷ [])) (Post v)
   exits r v e =
       qed W (‵ (fobs γ (T.the-row .coded .code h′)) ∷ ‵ (fbor κ (Body (mem T.the-row) b o γ)) ∷ ‵ (flft κ q) ∷ ‵ (i32 .own r (v ∷ [])) ∷ []) ∵
       suffices ! _ (ends-at 𝓤 H A take.ended stayed (take.clauses 𝓤 H A at-mem run) W (((κ, tt), (q, tt), tt, x, at), tt) v r (h′, tt) (tt, tt)) $ says ! (e, refl) $ nothing ! $ move ! (3 ∷ 0 ∷ []) $ join ! $
@@ -117,7 +117,7 @@ module _ {M : Type 1} (𝓤 : URA M) (H : Heap 𝓤) (A : Atoms 𝓤) (W : Given
         nothing ! $ owned ! u64 (Is u64) (uint-makes 𝓤 H A W w64) (h .0) _ (refl, fits g) $ fjoin ! $ nothing ! $ use2 W (raw (Counted 𝓤 H A at-mem run .pre to)) goes-counted $
         calls-at ! fm (Counted 𝓤 H A at-mem run) known to (and-then ! (load ! (from ! (stop !)) (look ! 6 refl)) (no-more !)) (λ v.
         use1 W (later (some (λ (r : ℤ). (‵ ftrue ⊛ ‵ (i32 .own r (v ∷ []))) ⊛ raw (ensured 𝓤 H A counted.ended (counted.clauses 𝓤 H A at-mem run) tt (h .0, tt) tt r)))) (id⊢ 𝓤 _) $ await ! tt $ pick ! (λ r.
-        split ! $ move ! (1 ∷ []) $ use1 W (raw (fact 𝓤 (r ≡ pos (countOf (h .0))))) (said r) $ heard ! (r ≡ pos (countOf (h .0))) (λ e. split ! $ drop ! $
+        split ! $ move ! (1 ∷ []) $ use1 W (raw (fact 𝓤 (r ≡ pos (countsAs (h .0))))) (said r) $ heard ! (r ≡ pos (countsAs (h .0))) (λ e. split ! $ drop ! $
         peeks ! i32 (Is i32) (shows 𝓤 H A i32) r (v ∷ []) (λ is.
         -- [the result; the struct's cell; what a DigitRun owns; the open borrow; obs; auth; _3; …; _2; …; _1; …; room for _0; …]
         land ! (from ! (stop !)) (init ! 8 refl (sint-lawful 𝓤 H A W w32 .typed r _ is .0)) $

@@ -1,4 +1,4 @@
--- `mate_text::tail_piece` meets its contract: each way out is one case of the definition.
+-- `mate_text::trail_piece` meets its contract: each way out is one case of the definition.
 use mathlib.Core.Path.{_≡_, sym, ap, _∙_}
 use mathlib.Core.Bool.{true, false}
 use lib.IntN.{ℤ, pos, _+ℤ_}
@@ -7,10 +7,10 @@ use mir.Val.{toZ, ofZ}
 use borrow.Author.Tests.{not-true, not-false}
 use Rattle.signed.specs.Whole.{clamp32}
 use Rattle.mate_text.specs.Mate.{isRefLetter, isClipLetter}
-use Rattle.mate_text.proofs.Steps.{tail-ref, tail-other, tail-early, tail-clip}
+use Rattle.mate_text.proofs.Steps.{trail-ref, trail-other, trail-early, trail-clip}
 use borrow.Author.Needs.{needs}
-use Rattle.mate_text.proofs.tail_piece.Statement.{statement}
-use Rattle.mate_text.proofs.tail_piece.Tie as tie
+use Rattle.mate_text.proofs.trail_piece.Statement.{statement}
+use Rattle.mate_text.proofs.trail_piece.Tie as tie
 
 is-ref-requires : tie.Need-is-ref-requires
 is-ref-requires c κs = search needs
@@ -27,7 +27,7 @@ returns c =
     let r : toZ w32 (ofZ w32 (c .saturating-add .result)) ≡ c .saturating-add .result = search needs in
     let g : c .saturating-add .result ≡ clamp32 (a .s .refs +ℤ a .number) = simp (e, n) at (c .saturating-add .ensures) in
     let k : isRefLetter (a .letter) ≡ true = sym (t .before .is-ref .ensures) ∙ t .if1 .taken in
-    (ap (λ (z : ℤ). record { refs = z; clips = pos 0; seen = true }) (r ∙ g) ∙ sym (tail-ref (a .s) (a .number) (a .letter) k))
+    (ap (λ (z : ℤ). record { refs = z; clips = pos 0; seen = true }) (r ∙ g) ∙ sym (trail-ref (a .s) (a .number) (a .letter) k))
 
 is-clip-requires : tie.Need-is-clip-requires
 is-clip-requires c κs = search needs
@@ -38,7 +38,7 @@ returns-2 c =
     let a = t .before .before .args in
     let k : isRefLetter (a .letter) ≡ false = sym (t .before .is-ref .ensures) ∙ t .if1 .left in
     let l : isClipLetter (a .letter) ≡ false = sym (c .before .is-clip .ensures) ∙ not-true _ (c .if2 .taken) in
-    (sym (tail-other (a .s) (a .number) (a .letter) k l))
+    (sym (trail-other (a .s) (a .number) (a .letter) k l))
 
 returns-3 : tie.Need-returns-3
 returns-3 c =
@@ -46,7 +46,7 @@ returns-3 c =
     let a = t .before .before .args in
     let k : isRefLetter (a .letter) ≡ false = sym (t .before .is-ref .ensures) ∙ t .if1 .left in
     let l : isClipLetter (a .letter) ≡ true = sym (c .before .before .before .is-clip .ensures) ∙ not-false _ (c .before .before .if2 .left) in
-    (sym (tail-early (a .s) (a .number) (a .letter) k l (not-true _ (c .if3 .taken))))
+    (sym (trail-early (a .s) (a .number) (a .letter) k l (not-true _ (c .if3 .taken))))
 
 saturating-add-requires-2 : tie.Need-saturating-add-requires-2
 saturating-add-requires-2 c κs = search needs
@@ -65,10 +65,10 @@ returns-4 c =
     let l : isClipLetter (a .letter) ≡ true = sym (u .before .before .before .is-clip .ensures) ∙ not-false _ (u .before .before .if2 .left) in
     (ap (λ (z : ℤ). record { refs = z; clips = toZ w32 (ofZ w32 (c .before .saturating-add2 .result)); seen = true }) p
     ∙ ap (λ (z : ℤ). record { refs = a .s .refs; clips = z; seen = true }) (r ∙ g)
-    ∙ sym (tail-clip (a .s) (a .number) (a .letter) k l (not-false _ (u .if3 .left))))
+    ∙ sym (trail-clip (a .s) (a .number) (a .letter) k l (not-false _ (u .if3 .left))))
 
-pub tail-piece-spec : {M : Type 1} → statement M
-tail-piece-spec =
+pub trail-piece-spec : {M : Type 1} → statement M
+trail-piece-spec =
     tie.close
     (tie.spec
     is-ref-requires
