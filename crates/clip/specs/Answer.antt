@@ -7,7 +7,7 @@ use lib.ListN.{length}
 use lib.Dec.{ltb}
 use Rattle.lists.specs.Lists.{facing, splice, sumOf}
 use Rattle.sam.specs.Op.{lenOf}
-use Rattle.sam.specs.Record.{recordOps}
+use Rattle.oplist.specs.Ops.{recordOps}
 use Rattle.answers.specs.Answers.{Told, answered, refused}
 use Rattle.answers.specs.Settled.{Outcome, keeps}
 use Rattle.answers.specs.declared.Refusal.the-variants.{ShortRecord, TooManyOps, TooLong, NoRoom}

@@ -6,7 +6,7 @@ use mathlib.Core.List.{List, [], _∷_, _++_}
 use lib.ListN.{length, getD}
 use Rattle.lists.specs.Lists.{Each, facing, sumOf}
 use Rattle.sam.specs.Op.{lenOf, codeOf, refLen, queryLen}
-use Rattle.sam.specs.Record.{recordOps}
+use Rattle.oplist.specs.Ops.{recordOps}
 use Rattle.ops.specs.Ops.{readLen}
 use Rattle.clip_runs.specs.Clips.{isHard, isSoft, hardLen, outerHard, inside, leadingClips}
 use Rattle.answers.specs.Settled.{Outcome}

@@ -12,7 +12,8 @@ use Rattle.lists.specs.Lists.{sumOf}
 use Rattle.signed.specs.Whole.{natural}
 use Rattle.signed.specs.declared.Sum.the-variants.{Number}
 use Rattle.sam.specs.Op.{refLen}
-use Rattle.sam.specs.Record.{posOf, flagsOf, isUnmapped, isReverse, recordOps}
+use Rattle.sam.specs.Record.{posOf, flagsOf, isUnmapped, isReverse}
+use Rattle.oplist.specs.Ops.{recordOps}
 use Rattle.lengths.specs.Lengths.{refLengthOrZero}
 use Rattle.clip_runs.specs.Clips.{leadingClips, trailingClips}
 use Rattle.answers.specs.declared.Pos0.{Pos0}

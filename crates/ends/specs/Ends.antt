@@ -3,7 +3,7 @@
 use Prim.Native.Nat.{ℕ}
 use mathlib.Core.Bool.{Bool, cond}
 use mathlib.Core.List.{List, [], _∷_}
-use lib.Dec.{ltb, eqb}
+use lib.Dec.{eqb}
 use lib.IntN.{ℤ, pos}
 use lib.ListN.{length}
 use lib.Signed.{ltZ}
@@ -12,7 +12,8 @@ use Rattle.signed.specs.Whole.{natural}
 use Rattle.signed.specs.declared.Sum.{Sum}
 use Rattle.signed.specs.declared.Sum.the-variants as Sum
 use Rattle.sam.specs.Op.{refLen}
-use Rattle.sam.specs.Record.{posOf, flagsOf, isUnmapped, isReverse, recordOps}
+use Rattle.sam.specs.Record.{isShort, posOf, flagsOf, isUnmapped, isReverse}
+use Rattle.oplist.specs.Ops.{recordOps}
 use Rattle.clip_runs.specs.Clips.{leadingClips, trailingClips}
 use Rattle.lengths.specs.Lengths.{refLengthOrZero}
 use Rattle.answers.specs.Answers.{Told, answered, refused, some, none}
@@ -86,7 +87,7 @@ unclippedAt (Place1.Refused r) reverse xs = Unclipped.Refused r
 
 unfoldable pub unclippedOf : List ℕ → Unclipped
 unclippedOf b =
-    cond (ltb (length b) 32) (Unclipped.Refused ShortRecord)
+    cond (isShort b) (Unclipped.Refused ShortRecord)
     (cond (isUnmapped (flagsOf b)) Unclipped.Unmapped
     (cond (noOps b) Unclipped.NoOps
     (unclippedAt (oneBased (record { 0 = posOf b })) (isReverse (flagsOf b)) (recordOps b))))
@@ -101,21 +102,21 @@ asRust (Unclipped.Refused r) = Place1.Refused r
 -- "returns the given position for no ops or overrun": 1, 4
 unfoldable pub unclippedFrom : List ℕ → Pos0 → Bool → Place0
 unclippedFrom b p reverse =
-    cond (ltb (length b) 32) (Place0.Refused ShortRecord)
+    cond (isShort b) (Place0.Refused ShortRecord)
     (cond (noOps b) (Place0.At p)
     (toPlace0 (fivePrime reverse (p .0) (recordOps b))))
 
 -- "Rust's None in start, end is the answer none": a start below 0: 1, 4
 unfoldable pub alignmentStart : List ℕ → Found1
 alignmentStart b =
-    cond (ltb (length b) 32) (Found1.Refused ShortRecord)
+    cond (isShort b) (Found1.Refused ShortRecord)
     (cond (ltZ (posOf b) (pos 0)) Found1.Nothing
     (toFound1 (oneBased (record { 0 = posOf b }))))
 
 -- and no reference length; `pos`, counted from 0, and the length give the last place counted from 1: 1, 4
 unfoldable pub alignmentEnd : List ℕ → Found1
 alignmentEnd b =
-    cond (ltb (length b) 32) (Found1.Refused ShortRecord)
+    cond (isShort b) (Found1.Refused ShortRecord)
     (cond (ltZ (posOf b) (pos 0)) Found1.Nothing
     (cond (eqb (natural (refLengthOrZero b)) 0) Found1.Nothing
     (toFound1 (toPlace1 (Sum.Number (posOf b) ⊕ Sum.Number (refLengthOrZero b))))))

@@ -3,9 +3,9 @@ ghost use mathlib.Core.Path.{_≡_};
 ghost use Rattle.answers.specs.Settled.{Settled};
 ghost use Rattle.answers.specs.Answers.{tellCount};
 ghost use Rattle.sam.specs.Op.{lenOf, codeOf, isRef, isQuery};
-ghost use Rattle.ops.specs.Ops.{isRead, codeOfKind, kindOf, fromOpType, tellKind, tellOp, getOps};
+ghost use Rattle.ops.specs.Ops.{isRead, codeOfKind, kindOf, fromOpType, tellKind, getOps};
 ghost use Rattle.border.specs.Border.{countOf, foundOf, across};
-ghost use Rattle.exports.specs.Ops.{charOf, opAnswer};
+ghost use Rattle.exports.specs.Ops.{charOf, opAnswer, opOrNone};
 ghost use Prim.Native.Nat.{_%_};
 use border::ToldCount;
 use border::ToldFound;
@@ -74,7 +74,7 @@ pub extern "C" fn cigar_op_new(kind: u32, length: u32) -> ToldFound
 }
 
 fn told_op(answer: NewOp) -> ToldFound
-    ensures { λ r. ⌜ r ≡ foundOf (tellOp answer) ⌝ }
+    ensures { λ r. ⌜ r ≡ foundOf (opOrNone answer) ⌝ }
 {
     match answer {
         NewOp::Op(op) => border::found(op.raw() as u64),

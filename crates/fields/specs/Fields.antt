@@ -5,7 +5,7 @@ use mathlib.Core.List.{List, [], _∷_}
 use lib.IntN.{ℤ, pos}
 use lib.ListN.{length, take, drop}
 use lib.Dec.{ltb}
-use Rattle.sam.specs.Record.{opsStart, opCountOf, opsEnd}
+use Rattle.sam.specs.Record.{isShort, opsStart, opCountOf, opsEnd}
 use Rattle.answers.specs.Answers.{Told, answered, refused, numberOf}
 use Rattle.answers.specs.declared.Refusal.the-variants.{ShortRecord}
 use Rattle.answers.specs.declared.Int.{Int}
@@ -16,15 +16,15 @@ use Rattle.fields.specs.declared.Area.{Area}
 use Rattle.fields.specs.declared.Area.the-variants as Area
 
 abbrev pub intField : (List ℕ → ℤ) → List ℕ → Int
-intField f b = cond (ltb (length b) 32) (Int.Refused ShortRecord) (Int.Number (f b))
+intField f b = cond (isShort b) (Int.Refused ShortRecord) (Int.Number (f b))
 
 abbrev pub natField : (List ℕ → ℕ) → List ℕ → Nat
-natField f b = cond (ltb (length b) 32) (Nat.Refused ShortRecord) (Nat.Number (f b))
+natField f b = cond (isShort b) (Nat.Refused ShortRecord) (Nat.Number (f b))
 
 -- where the ops lie, 0 and 0 where their area ends past the record
 unfoldable pub cigarArea : List ℕ → Area
 cigarArea b =
-    cond (ltb (length b) 32) (Area.Refused ShortRecord)
+    cond (isShort b) (Area.Refused ShortRecord)
     (cond (ltb (length b) (opsEnd b)) (Area.At 0 0) (Area.At (opsStart b) (4 * opCountOf b)))
 
 abbrev pub tellArea : Area → Told
@@ -34,9 +34,9 @@ tellArea (Area.Refused r) = refused r
 -- that part of the record; an empty part where the area overruns, and beside refusal 1
 unfoldable pub cigarPart : List ℕ → List ℕ
 cigarPart b =
-    cond (ltb (length b) 32) []
+    cond (isShort b) []
     (cond (ltb (length b) (opsEnd b)) [] (take (4 * opCountOf b) (drop (opsStart b) b)))
 
 -- and the number beside it
 unfoldable pub partRefusal : List ℕ → ℕ
-partRefusal b = cond (ltb (length b) 32) (numberOf ShortRecord) 0
+partRefusal b = cond (isShort b) (numberOf ShortRecord) 0

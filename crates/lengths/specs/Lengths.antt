@@ -8,14 +8,14 @@ use lib.IntN.{ℤ, pos}
 use Rattle.lists.specs.Lists.{sumOf}
 use Rattle.signed.specs.Whole.{clamp32}
 use Rattle.sam.specs.Op.{refLen, queryLen}
-use Rattle.sam.specs.Record.{opsEnd, recordOps, isShort}
+use Rattle.sam.specs.Record.{opsEnd, isShort}
 use Rattle.answers.specs.Answers.{Told, answered, refused}
 use Rattle.answers.specs.declared.Refusal.the-variants.{ShortRecord, AreaOverrun, TooManyOps, Overflow}
 use Rattle.answers.specs.declared.Int.{Int}
 use Rattle.answers.specs.declared.Int.the-variants as Int
 use Rattle.answers.specs.declared.Count.{Count}
 use Rattle.answers.specs.declared.Count.the-variants as Count
-use Rattle.oplist.specs.Ops.{mostOps}
+use Rattle.oplist.specs.Ops.{mostOps, recordOps}
 use Rattle.lengths.specs.declared.Lengths.{Lengths}
 use Rattle.lengths.specs.declared.Lengths.the-variants as Lengths
 

@@ -8,8 +8,8 @@ use lib.ListN.{length, getD, take, length-take}
 use lib.Seq.{getD-take, take-all}
 use lib.Dec.{leb}
 use borrow.Author.Tests.{le-leb, lt-leb, leb-true, leb-false}
-use Rattle.sam.specs.Record.{le32, opsIn, opsStart, opCountOf, opsEnd, recordOps}
-use Rattle.oplist.specs.Ops.{opsOf}
+use Rattle.sam.specs.Record.{le32, opsIn, opsStart, opCountOf, opsEnd}
+use Rattle.oplist.specs.Ops.{opsOf, recordOps}
 use Rattle.oplist.specs.declared.Ops.{Ops}
 
 pub length-opsIn : (b : List ℕ) (at n : ℕ) → length (opsIn b at n) ≡ n

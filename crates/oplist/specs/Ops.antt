@@ -5,7 +5,7 @@ use mathlib.Core.Bool.{cond}
 use mathlib.Core.List.{List, []}
 use lib.ListN.{length, take}
 use lib.Dec.{leb}
-use Rattle.sam.specs.Record.{opsIn}
+use Rattle.sam.specs.Record.{opsIn, opsStart, opsEnd, opCountOf}
 use Rattle.oplist.specs.declared.Ops.{Ops}
 
 unfoldable pub opsOf : List ℕ → List ℕ → Ops → List ℕ
@@ -16,3 +16,7 @@ opsOf words rec ops =
 -- the most ops of a list, given or parsed: refusal 3
 abbrev pub mostOps : ℕ
 mostOps = 65535
+
+-- a record's ops; none where their area ends past the record
+unfoldable pub recordOps : List ℕ → List ℕ
+recordOps b = cond (leb (opsEnd b) (length b)) (opsIn b (opsStart b) (opCountOf b)) []

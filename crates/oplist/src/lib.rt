@@ -5,8 +5,8 @@ ghost use mathlib.Core.List.{List};
 ghost use lib.ListN.{length, getD, take, drop};
 ghost use lib.Dec.{leb};
 ghost use Rattle.lists.specs.Lists.{facing, splice};
-ghost use Rattle.sam.specs.Record.{recordOps, opsStart, opCountOf};
-ghost use Rattle.oplist.specs.Ops.{opsOf};
+ghost use Rattle.sam.specs.Record.{opsStart, opCountOf};
+ghost use Rattle.oplist.specs.Ops.{opsOf, recordOps};
 
 // The most ops that a lent list may have: refusal 3 tests it, and nothing else.
 pub const MOST_OPS: usize = 65535;

@@ -8,7 +8,8 @@ use lib.ListN.{length, getD}
 use lib.Dec.{ltb, eqb}
 use Rattle.lists.specs.Lists.{splice}
 use Rattle.sam.specs.Op.{lenOf, codeOf, opOf, letters}
-use Rattle.sam.specs.Record.{recordOps}
+use Rattle.sam.specs.Record.{isShort}
+use Rattle.oplist.specs.Ops.{recordOps}
 use Rattle.answers.specs.Answers.{Told, answered, refused, some, none}
 use Rattle.answers.specs.Settled.{Outcome, keeps}
 use Rattle.answers.specs.declared.Refusal.the-variants.{ShortRecord, NoRoom, BadLength}
@@ -75,12 +76,12 @@ unfoldable pub newOp : CigarKind → ℕ → NewOp
 newOp k n = cond (eqb n 0) (NewOp.Refused BadLength) (cond (ltb 268435455 n) (NewOp.Refused BadLength) (NewOp.Op (record { 0 = opOf n (codeOfKind k) })))
 
 abbrev pub tellOp : NewOp → Told
-tellOp (NewOp.Op o) = answered (some (pos (o .0)))
+tellOp (NewOp.Op o) = answered (pos (o .0) ∷ [])
 tellOp (NewOp.Refused r) = refused r
 
 -- `get_cigar_ops` into lent memory d: 1, 6
 unfoldable pub getOps : List ℕ → List ℕ → Outcome Count
 getOps b d =
-    cond (ltb (length b) 32) (keeps (Count.Refused ShortRecord) d)
+    cond (isShort b) (keeps (Count.Refused ShortRecord) d)
     (cond (ltb (length d) (length (recordOps b))) (keeps (Count.Refused NoRoom) d)
     (record { answer = Count.Number (length (recordOps b)); left = splice d 0 (recordOps b) }))

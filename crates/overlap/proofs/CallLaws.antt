@@ -12,7 +12,7 @@ use Rattle.lists.specs.Lists.{sumOf, splice}
 use Rattle.lists.proofs.Absurd.{never}
 use Rattle.signed.specs.Whole.{clamp32}
 use Rattle.sam.specs.Op.{refLen}
-use Rattle.sam.specs.Record.{posOf, flagsOf, matePosOf, isReverse, recordOps}
+use Rattle.sam.specs.Record.{posOf, flagsOf, matePosOf, isReverse}
 use Rattle.answers.specs.Settled.{keeps}
 use Rattle.answers.specs.declared.Pos1.{Pos1}
 use Rattle.answers.specs.declared.Refusal.the-variants.{ShortRecord, TooManyOps, Overflow, NoRoom}
@@ -20,7 +20,7 @@ use Rattle.answers.specs.declared.Flag.{Flag}
 use Rattle.answers.specs.declared.Flag.the-variants as Flag
 use Rattle.answers.specs.declared.Count.{Count}
 use Rattle.answers.specs.declared.Count.the-variants as Count
-use Rattle.oplist.specs.Ops.{mostOps}
+use Rattle.oplist.specs.Ops.{mostOps, recordOps}
 use Rattle.ends.specs.declared.Place1.{Place1}
 use Rattle.ends.specs.Ends.{oneBased}
 use Rattle.text_rules.specs.Text.{textOps}

@@ -9,7 +9,7 @@ use lib.Dec.{ltb}
 use Rattle.lists.specs.Lists.{sumOf, splice}
 use Rattle.signed.specs.Whole.{clamp32}
 use Rattle.sam.specs.Op.{refLen}
-use Rattle.sam.specs.Record.{posOf, flagsOf, matePosOf, isReverse, isShort, recordOps}
+use Rattle.sam.specs.Record.{posOf, flagsOf, matePosOf, isReverse, isShort}
 use Rattle.answers.specs.Answers.{Told, answered, refused}
 use Rattle.answers.specs.Settled.{Outcome, keeps}
 use Rattle.answers.specs.declared.Refusal.the-variants.{ShortRecord, TooManyOps, Overflow, NoRoom}
@@ -17,7 +17,7 @@ use Rattle.answers.specs.declared.Count.{Count}
 use Rattle.answers.specs.declared.Count.the-variants as Count
 use Rattle.answers.specs.declared.Flag.{Flag}
 use Rattle.answers.specs.declared.Flag.the-variants as Flag
-use Rattle.oplist.specs.Ops.{mostOps}
+use Rattle.oplist.specs.Ops.{mostOps, recordOps}
 use Rattle.ends.specs.declared.Place1.{Place1}
 use Rattle.ends.specs.declared.Place1.the-variants as Place1
 use Rattle.ends.specs.Ends.{oneBased}

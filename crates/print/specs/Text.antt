@@ -6,7 +6,8 @@ use lib.ListN.{length}
 use lib.Dec.{ltb}
 use Rattle.lists.specs.Lists.{splice}
 use Rattle.sam.specs.Op.{lenOf, codeOf}
-use Rattle.sam.specs.Record.{isShort, recordOps}
+use Rattle.sam.specs.Record.{isShort}
+use Rattle.oplist.specs.Ops.{recordOps}
 use Rattle.answers.specs.Settled.{Outcome, keeps}
 use Rattle.answers.specs.declared.Refusal.the-variants.{ShortRecord, BadCode, NoRoom}
 use Rattle.answers.specs.declared.Count.{Count}

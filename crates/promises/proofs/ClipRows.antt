@@ -7,8 +7,8 @@ use lib.ListN.{length}
 use lib.Dec.{ltb}
 use Rattle.lists.specs.Lists.{sumOf}
 use Rattle.sam.specs.Op.{lenOf}
-use Rattle.sam.specs.Record.{recordOps, isShort}
-use Rattle.oplist.specs.Ops.{mostOps}
+use Rattle.sam.specs.Record.{isShort}
+use Rattle.oplist.specs.Ops.{mostOps, recordOps}
 use Rattle.answers.specs.declared.Refusal.the-variants.{ShortRecord, TooManyOps, TooLong, NoRoom}
 use Rattle.clip.specs.Answer.{clippedOps, clippedCount, clippedInto, clippedUpTo, clipped, clippedRecord, tellClipped}
 use Rattle.clip.specs.declared.Clipped.{Clipped}

@@ -13,10 +13,10 @@ use Rattle.signed.specs.declared.Sum.{Sum}
 use Rattle.signed.specs.declared.Sum.the-variants as Sum
 use Rattle.sam.specs.Columns.{Over, Base, Gap, Off}
 use Rattle.sam.specs.Op.{refLen}
-use Rattle.sam.specs.Record.{posOf, flagsOf, isUnmapped, isReverse, recordOps, isShort}
+use Rattle.sam.specs.Record.{posOf, flagsOf, isUnmapped, isReverse, isShort}
 use Rattle.clip_runs.specs.Clips.{leadingClips, trailingClips}
 use Rattle.lengths.specs.Lengths.{refLengthOrZero}
-use Rattle.oplist.specs.Ops.{mostOps}
+use Rattle.oplist.specs.Ops.{mostOps, recordOps}
 use Rattle.answers.specs.Answers.{Told}
 use Rattle.answers.specs.declared.Pos0.{Pos0}
 use Rattle.answers.specs.declared.Refusal.the-variants.{ShortRecord, TooManyOps, BadStart}

@@ -11,7 +11,7 @@ use Rattle.lists.proofs.Absurd.{never}
 use Rattle.signed.specs.Whole.{checked, sideOf, sumAt}
 use Rattle.signed.specs.declared.Side.the-variants.{Below, Within, Above}
 use Rattle.signed.specs.declared.Sum.{Sum}
-use Rattle.sam.specs.Record.{flagsOf, posOf, matePosOf, isReverse, isShort, recordOps}
+use Rattle.sam.specs.Record.{flagsOf, posOf, matePosOf, isReverse, isShort}
 use Rattle.answers.specs.Answers.{tellFlag, tellCount}
 use Rattle.answers.specs.declared.Refusal.the-variants.{ShortRecord, TooManyOps, Overflow, NoRoom}
 use Rattle.answers.specs.declared.Count.the-variants as Count
@@ -19,7 +19,7 @@ use Rattle.answers.specs.declared.Flag.{Flag}
 use Rattle.answers.specs.declared.Flag.the-variants as Flag
 use Rattle.ends.specs.Sums.{both}
 use Rattle.ends.specs.Ends.{toPlace1, oneBased}
-use Rattle.oplist.specs.Ops.{mostOps}
+use Rattle.oplist.specs.Ops.{mostOps, recordOps}
 use Rattle.text_rules.specs.Text.{textOps}
 use Rattle.text_rules.specs.Valid.{validMapped}
 use Rattle.text_rules.specs.Strict.{strict}

@@ -12,7 +12,8 @@ use Rattle.lists.specs.Lists.{sumOf}
 use Rattle.signed.specs.declared.Sum.the-variants as Sum
 use Rattle.sam.specs.Op.{queryLen}
 use Rattle.sam.specs.Columns.{Column, Spot, columns, queries, refs, refOf, Seen}
-use Rattle.sam.specs.Record.{flagsOf, templateLenOf, isReverse, isShort, recordOps}
+use Rattle.sam.specs.Record.{flagsOf, templateLenOf, isReverse, isShort}
+use Rattle.oplist.specs.Ops.{recordOps}
 use Rattle.clip_runs.specs.Clips.{leadingClips, trailingClips}
 use Rattle.ends.specs.Ends.{unclippedStart, unclippedEnd}
 use Rattle.ends.specs.Tails.{greatestRun, Reached}

@@ -5,8 +5,8 @@ use mathlib.Core.Bool.{not}
 use mathlib.Core.List.{List}
 use lib.ListN.{length}
 use lib.Dec.{ltb}
-use Rattle.sam.specs.Record.{recordOps, isShort}
-use Rattle.oplist.specs.Ops.{mostOps}
+use Rattle.sam.specs.Record.{isShort}
+use Rattle.oplist.specs.Ops.{mostOps, recordOps}
 use Rattle.answers.specs.Answers.{tellCount, tellFlag}
 use Rattle.answers.specs.declared.Refusal.the-variants.{ShortRecord, TooManyOps, NotACigar, NoRoom, BadCode}
 use Rattle.answers.specs.declared.Count.{Count}

@@ -10,12 +10,12 @@ use lib.Signed.{ltZ}
 use Rattle.lists.specs.Lists.{sumOf}
 use Rattle.signed.specs.Whole.{natural, clamp32}
 use Rattle.sam.specs.Op.{lenOf, refLen}
-use Rattle.sam.specs.Record.{posOf, matePosOf, flagsOf, isUnmapped, isReverse, opsEnd, recordOps, isShort}
+use Rattle.sam.specs.Record.{posOf, matePosOf, flagsOf, isUnmapped, isReverse, opsEnd, isShort}
 use Rattle.clip_runs.specs.Clips.{leadingClips, trailingClips}
 use Rattle.lengths.specs.Lengths.{refLengthOrZero}
 use Rattle.bin.specs.Bin.{spanOf}
 use Rattle.print.specs.Text.{anyBad, textOf}
-use Rattle.oplist.specs.Ops.{mostOps}
+use Rattle.oplist.specs.Ops.{mostOps, recordOps}
 use Rattle.text_rules.specs.Text.{textOps}
 use Rattle.text_rules.specs.Valid.{validMapped}
 use Rattle.text_rules.specs.Strict.{strict}

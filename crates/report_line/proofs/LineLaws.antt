@@ -14,7 +14,8 @@ use Rattle.lists.proofs.Absurd.{never}
 use Rattle.lists.specs.Lists.{sumOf, splice}
 use Rattle.lists.proofs.ListLaws.{length-splice}
 use Rattle.sam.specs.Op.{refLen, queryLen}
-use Rattle.sam.specs.Record.{recordOps, opsEnd, seqLenOf, isShort}
+use Rattle.sam.specs.Record.{opsEnd, seqLenOf, isShort}
+use Rattle.oplist.specs.Ops.{recordOps}
 use Rattle.answers.specs.Answers.{numberOf, tellCount, tellInt, tellNat}
 use Rattle.answers.specs.Settled.{Settled}
 use Rattle.answers.specs.declared.Refusal.{Refusal}

@@ -16,7 +16,8 @@ use Rattle.signed.specs.Whole.{checked}
 use Rattle.signed.specs.declared.Sum.{Sum}
 use Rattle.signed.specs.declared.Sum.the-variants as Sum
 use Rattle.sam.specs.Op.{refLen, queryLen}
-use Rattle.sam.specs.Record.{recordOps, opsEnd, posOf, flagsOf, isUnmapped, isReverse, isShort}
+use Rattle.sam.specs.Record.{opsEnd, posOf, flagsOf, isUnmapped, isReverse, isShort}
+use Rattle.oplist.specs.Ops.{recordOps}
 use Rattle.answers.specs.Answers.{tellCount, tellInt, tellNat}
 use Rattle.answers.specs.Settled.{Outcome, keeps}
 use Rattle.answers.specs.declared.Refusal.{Refusal}

@@ -7,7 +7,8 @@ use lib.Dec.{eqb}
 use lib.ListN.{length}
 use Rattle.lists.specs.Lists.{sumOf}
 use Rattle.sam.specs.Op.{queryLen}
-use Rattle.sam.specs.Record.{recordOps, seqLenOf}
+use Rattle.sam.specs.Record.{seqLenOf}
+use Rattle.oplist.specs.Ops.{recordOps}
 use Rattle.answers.specs.declared.Int.{Int}
 use Rattle.answers.specs.declared.Int.the-variants as Int
 use Rattle.answers.specs.declared.Nat.{Nat}

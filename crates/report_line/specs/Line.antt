@@ -8,7 +8,8 @@ use lib.IntN.{ℤ, pos}
 use lib.ListN.{replicate}
 use Rattle.lists.specs.Runs.{holds}
 use Rattle.signed.specs.Whole.{natural}
-use Rattle.sam.specs.Record.{recordOps, seqLenOf}
+use Rattle.sam.specs.Record.{seqLenOf}
+use Rattle.oplist.specs.Ops.{recordOps}
 use Rattle.answers.specs.Answers.{Told, tellInt, tellCount, tellNat}
 use Rattle.decimal.specs.Decimal.{decimal}
 use Rattle.print.specs.Text.{textOf, printed}

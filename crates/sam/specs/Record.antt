@@ -1,10 +1,10 @@
 -- SAM specification 4.2 and 1.4.2: a record's layout behind its block size, all numbers little-endian; the bits of its flag; its ops.
 use Prim.Native.Nat.{ℕ, zero, suc, _+_, _*_, _/_, _%_}
-use mathlib.Core.Bool.{Bool, cond}
+use mathlib.Core.Bool.{Bool}
 use mathlib.Core.List.{List, [], _∷_}
 use lib.IntN.{ℤ}
 use lib.ListN.{length, getD}
-use lib.Dec.{ltb, leb, eqb}
+use lib.Dec.{ltb, eqb}
 use Rattle.signed.specs.Whole.{twos32}
 
 -- numbers at a place; past the end a byte counts 0
@@ -84,7 +84,3 @@ opsEnd b = opsStart b + 4 * opCountOf b
 unfoldable pub opsIn : List ℕ → ℕ → ℕ → List ℕ
 opsIn b at zero = []
 opsIn b at (suc n) = le32 b at ∷ opsIn b (at + 4) n
-
--- a record's ops; none where their area ends past the record
-unfoldable pub recordOps : List ℕ → List ℕ
-recordOps b = cond (leb (opsEnd b) (length b)) (opsIn b (opsStart b) (opCountOf b)) []

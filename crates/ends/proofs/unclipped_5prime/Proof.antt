@@ -6,8 +6,8 @@ use lib.IntN.{ℤ}
 use mir.Syntax.{w32}
 use mir.Val.{toZ, ofZ}
 use Rattle.signed.specs.declared.Sum.{Sum}
-use Rattle.sam.specs.Record.{flagsOf, isReverse, isUnmapped, recordOps}
-use Rattle.oplist.specs.Ops.{opsOf}
+use Rattle.sam.specs.Record.{flagsOf, isReverse, isUnmapped}
+use Rattle.oplist.specs.Ops.{opsOf, recordOps}
 use Rattle.ends.specs.declared.Place1.{Place1}
 use Rattle.ends.specs.declared.Unclipped.{Unclipped}
 use Rattle.ends.specs.Ends.{fivePrime, noOps, toPlace1, oneBased, asUnclipped, unclippedAt, unclippedOf}

@@ -3,7 +3,7 @@ use mathlib.Core.Path.{ap, _∙_}
 use native.Mathlib.Omega.{arith}
 use borrow.Author.Tests.{lt-ltb, le-ltb}
 use lib.ListN.{length}
-use Rattle.sam.specs.Record.{recordOps}
+use Rattle.oplist.specs.Ops.{recordOps}
 use Rattle.lists.proofs.ListLaws.{whole-copy}
 use Rattle.answers.specs.declared.Count.the-variants.{Number}
 use Rattle.answers.proofs.Unique.{settled, outcome}

@@ -11,7 +11,7 @@ use borrow.Author.Tests.{lt-ltb, le-ltb}
 use Rattle.lists.proofs.Stores.{sets-splice}
 use Rattle.answers.proofs.Unique.{settled, outcome}
 use Rattle.answers.specs.declared.Count.the-variants as Count
-use Rattle.sam.specs.Record.{recordOps}
+use Rattle.oplist.specs.Ops.{recordOps}
 use Rattle.print.specs.Text.{textOf, anyBad, printed}
 use Rattle.print.specs.Inner.{roomOf}
 use Rattle.print.proofs.PrintLaws.{room-bad, room-some}

@@ -5,7 +5,7 @@ use mathlib.Core.List.{List, [], _∷_}
 use native.Mathlib.Omega.{arith}
 use lib.ListN.{length}
 use Rattle.print.specs.Text.{textOf}
-use Rattle.sam.specs.Record.{recordOps}
+use Rattle.oplist.specs.Ops.{recordOps}
 use borrow.Rule.Slice.PartMut.{putMid}
 use Rattle.answers.specs.declared.Count.the-variants as Count
 use Rattle.put_text.specs.Puts.{Put}

@@ -10,7 +10,8 @@ use mir.Val.{toZ, ofZ}
 use borrow.Author.Tests.{not-true, not-false}
 use Rattle.lists.specs.Lists.{sumOf}
 use Rattle.sam.specs.Op.{refLen, queryLen}
-use Rattle.sam.specs.Record.{recordOps, opsEnd}
+use Rattle.sam.specs.Record.{opsEnd}
+use Rattle.oplist.specs.Ops.{recordOps}
 use Rattle.oplist.proofs.OpsLaws.{lies, overruns}
 use Rattle.lengths.specs.Lengths.{checkedRefLength}
 use Rattle.answers.specs.declared.Int.the-variants as Int
