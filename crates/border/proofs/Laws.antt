@@ -5,10 +5,10 @@ use mathlib.Core.Bool.{Bool, true, false}
 use mathlib.Core.List.{List}
 use Rattle.answers.specs.Answers.{Told, flagValue}
 use Rattle.answers.specs.Settled.{Outcome, Settled}
-use Rattle.border.specs.Border.{isYes, across}
+use Rattle.border.specs.Border.{isSet, across}
 
 -- a flag is told by 1 or 0, and read back from it
-pub flag-told : (b : Bool) → isYes (flagValue b) ≡ b
+pub flag-told : (b : Bool) → isSet (flagValue b) ≡ b
 flag-told true = refl
 flag-told false = refl
 

@@ -16,36 +16,36 @@ use Rattle.border.specs.declared.ToldTwo.{ToldTwo}
 use Rattle.border.specs.declared.ToldLengths.{ToldLengths}
 
 -- the value at a place, 0 where there is none; and a value that is a flag
-abbrev pub value : ℕ → Told → ℤ
-value n t = getD (t .values) n (pos 0)
+abbrev pub valueAt : ℕ → Told → ℤ
+valueAt n t = getD (t .values) n (pos 0)
 
-abbrev pub isYes : ℤ → Bool
-isYes (pos n) = not (eqb n 0)
-isYes (negsuc n) = true
+abbrev pub isSet : ℤ → Bool
+isSet (pos n) = not (eqb n 0)
+isSet (negsuc n) = true
 
 -- a signed number
 abbrev pub intOf : Told → ToldInt
-intOf t = record { refusal = t .number; value = value 0 t }
+intOf t = record { refusal = t .number; value = valueAt 0 t }
 
 -- a number that is never negative
 abbrev pub countOf : Told → ToldCount
-countOf t = record { refusal = t .number; value = natural (value 0 t) }
+countOf t = record { refusal = t .number; value = natural (valueAt 0 t) }
 
 -- yes or no
 abbrev pub flagOf : Told → ToldFlag
-flagOf t = record { refusal = t .number; value = isYes (value 0 t) }
+flagOf t = record { refusal = t .number; value = isSet (valueAt 0 t) }
 
 -- none, or a number that is never negative
 abbrev pub foundOf : Told → ToldFound
-foundOf t = record { refusal = t .number; found = isYes (value 0 t); value = natural (value 1 t) }
+foundOf t = record { refusal = t .number; found = isSet (valueAt 0 t); value = natural (valueAt 1 t) }
 
 -- two numbers that are never negative
 abbrev pub twoOf : Told → ToldTwo
-twoOf t = record { refusal = t .number; first = natural (value 0 t); second = natural (value 1 t) }
+twoOf t = record { refusal = t .number; first = natural (valueAt 0 t); second = natural (valueAt 1 t) }
 
 -- a signed number, and one that is never negative
 abbrev pub lengthsOf : Told → ToldLengths
-lengthsOf t = record { refusal = t .number; reference = value 0 t; query = natural (value 1 t) }
+lengthsOf t = record { refusal = t .number; reference = valueAt 0 t; query = natural (valueAt 1 t) }
 
 -- a call with lent memory: its answer in the shape that it has, and the memory as the call leaves it
 abbrev pub across : {A B : Type 0} → (Told → B) → (A → Told) → Outcome A → Outcome B
