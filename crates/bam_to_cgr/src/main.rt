@@ -1,36 +1,19 @@
 // Standard input is an uncompressed BAM stream; its records are written as the stream that `report` takes, behind the mark CGR. Where the records begin is said by the crate `bam_header`, and
-// specs/Run.antt says what the turns come to: this reads and writes, in blocks. What is wrong is said in words on standard error, and a head that is damaged leaves standard output empty.
+// `bam_turns` what the turns of reads and writes come to: this takes turn after turn. What is wrong is said in words on standard error, and a head that is damaged leaves standard output empty.
 ghost use mathlib.Core.Path.{_≡_};
 ghost use mathlib.Core.Bool.{true, false};
-ghost use Prim.Native.Nat.{_+_, _≤_, _<_};
 ghost use lib.ListN.{length, take};
 ghost use Rattle.blocks.specs.Fill.{First};
 ghost use Rattle.bam_header.specs.Header.{isBam};
-ghost use Rattle.bam_header.specs.Inner.{isBegun};
-ghost use Rattle.bam_header.specs.Converted.{cgrMark};
-ghost use Rattle.bam_to_cgr.specs.Run.{BamTurn, partOf, behindOf, behindAll, BamCame, wordOf, lackOf};
+ghost use Rattle.bam_turns.specs.Run.{BamCame};
+ghost use Rattle.bam_to_cgr.specs.Words.{wordOf, lackOf};
 ghost use Rattle.bam_to_cgr.specs.declared.Word.the-variants.{NotBam};
-use bam_header::HeadPlace;
+use bam_turns::BamBehind;
+use bam_turns::BamState;
 use blocks::Read;
 
 // No stream takes so many turns; each reads at least a byte.
 const MOST_TURNS: u64 = 140737488355328;
-
-// Where a stream was left: the place in its head, the bytes at hand and how many of them are used, whether a read failed or gave none, and whether the mark is written.
-struct BamState {
-    place: HeadPlace,
-    have: usize,
-    used: usize,
-    failed: bool,
-    ended: bool,
-    marked: bool,
-}
-
-// The state behind a write, and whether it went well.
-struct BamBehind {
-    state: BamState,
-    ok: bool,
-}
 
 // What is said at the end on standard error.
 enum Word {
@@ -39,102 +22,6 @@ enum Word {
     HeadCut,
     Unread,
     Unwritten,
-}
-
-// The mark and version that `report` looks for.
-fn mark() -> [u8; 5]
-    ensures { λ r. ⌜ r ≡ cgrMark ⌝ }
-{
-    [b'C', b'G', b'R', 1, 0]
-}
-
-// Reads behind the bytes that are left, and goes as far in the head as they go; where the records begin none of them is used.
-fn turn(s: BamState, block: &mut [u8]) -> BamState
-    requires { ⌜ 65536 ≡ length (now block) ⌝ }
-    requires { ⌜ (s .used ≤ s .have) × (s .have ≤ 65536) × (s .have < s .used + 65536) ⌝ }
-    ensures { λ r. ⌜ (r .used ≤ r .have) × (r .have ≤ 65536) ⌝ }
-    ensures { λ r. ⌜ BamTurn s (now (block .entry)) r (now (block .exit)) ⌝ }
-{
-    let left = s.have - s.used;
-    blocks::shift(block, s.used, s.have);
-    let read = blocks::fill(block, left);
-    let have = read.have;
-    let place = s.place;
-    let step = bam_header::read_on(&block[..have], place);
-    let behind = step.place;
-    BamState {
-        place: behind,
-        have: have,
-        used: step.used,
-        failed: read.failed,
-        ended: read.none,
-        marked: s.marked,
-    }
-}
-
-// The state behind the write of what is due first.
-fn behind_part(s: BamState) -> BamState
-    ensures { λ r. ⌜ r ≡ behindOf s ⌝ }
-{
-    let place = s.place;
-    let mut used = s.used;
-    if s.marked {
-        used = s.have;
-    }
-    BamState {
-        place: place,
-        have: s.have,
-        used: used,
-        failed: s.failed,
-        ended: s.ended,
-        marked: true,
-    }
-}
-
-// Hands over what is due first, the mark or what is left behind it; the state behind it comes from here alone.
-fn write(s: BamState, block: &[u8], part: &[u8]) -> BamBehind
-    requires { ⌜ isBegun (s .place) ≡ true ⌝ }
-    requires { ⌜ now part ≡ partOf s (now block) ⌝ }
-    ensures { λ r. ⌜ r .state ≡ behindOf s ⌝ }
-{
-    let ok = io::write_all(1, part);
-    let state = behind_part(s);
-    BamBehind {
-        state: state,
-        ok: ok,
-    }
-}
-
-// What is left, behind the mark.
-fn write_left(s: BamState, block: &[u8]) -> BamBehind
-    requires { ⌜ isBegun (s .place) ≡ true ⌝ }
-    requires { ⌜ s .marked ≡ true ⌝ }
-    requires { ⌜ (s .used ≤ s .have) × (s .have ≤ length (now block)) ⌝ }
-    ensures { λ r. ⌜ r .state ≡ behindOf s ⌝ }
-{
-    let used = s.used;
-    let have = s.have;
-    write(s, block, &block[used..have])
-}
-
-// All that is due: nothing in the head; the mark, once, and what is left.
-fn write_due(s: BamState, block: &[u8]) -> BamBehind
-    requires { ⌜ (s .used ≤ s .have) × (s .have ≤ length (now block)) ⌝ }
-    ensures { λ r. ⌜ (r .ok ≡ true → r .state ≡ behindAll s) ⌝ }
-{
-    let place = s.place;
-    if !bam_header::begun(place) {
-        return BamBehind { state: s, ok: true };
-    }
-    if s.marked {
-        return write_left(s, block);
-    }
-    let first = write(s, block, &mark());
-    if !first.ok {
-        return first;
-    }
-    let marked = first.state;
-    write_left(marked, block)
 }
 
 // A stream that begins with the magic, of which the first bytes are at hand.
@@ -154,8 +41,8 @@ fn convert(first: Read, block: &mut [u8]) -> BamBehind
     };
     let mut turns: u64 = 0;
     while turns < MOST_TURNS {
-        s = turn(s, block);
-        let behind = write_due(s, block);
+        s = bam_turns::turn(s, block);
+        let behind = bam_turns::write_due(s, block);
         if !behind.ok {
             return behind;
         }

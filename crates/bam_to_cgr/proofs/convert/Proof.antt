@@ -4,7 +4,7 @@ use mathlib.Core.Path.{_≡_}
 use native.Mathlib.Omega.{arith}
 use lib.ListN.{length}
 use borrow.Author.Tests.{not-true, not-false}
-use Rattle.bam_to_cgr.proofs.RunLaws.{BamAlong, along-start, along-on, along-off, along-last}
+use Rattle.bam_turns.proofs.RunLaws.{BamAlong, along-start, along-on, along-off, along-last}
 use Rattle.bam_to_cgr.proofs.convert.Statement.{statement}
 use Rattle.bam_to_cgr.proofs.convert.Tie as tie
 

@@ -4,7 +4,7 @@ use native.Mathlib.Omega.{arith}
 use lib.ListN.{length-take}
 use borrow.Author.Tests.{not-true, not-false}
 use borrow.Author.Needs.{needs}
-use Rattle.bam_to_cgr.specs.Run.{wordOf}
+use Rattle.bam_to_cgr.specs.Words.{wordOf}
 use Rattle.bam_to_cgr.specs.declared.Word.{Word}
 use Rattle.bam_to_cgr.proofs.main.Statement.{statement}
 use Rattle.bam_to_cgr.proofs.main.Tie as tie

@@ -5,9 +5,9 @@ use native.Mathlib.Omega.{arith}
 use lib.ListN.{length, take}
 use lib.Seq.{length-take-le}
 use borrow.Author.Tests.{not-true, not-false}
-use Rattle.report.specs.declared.State.{State}
-use Rattle.report.proofs.TurnLaws.{grown}
-use Rattle.report.proofs.RunLaws.{long, Along, along-start, along-on, along-off, along-last}
+use Rattle.report_turns.specs.declared.State.{State}
+use Rattle.report_turns.proofs.TurnLaws.{grown}
+use Rattle.report_turns.proofs.RunLaws.{long, Along, along-start, along-on, along-off, along-last}
 use Rattle.report.proofs.report.Statement.{statement}
 use Rattle.report.proofs.report.Tie as tie
 
