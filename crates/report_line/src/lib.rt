@@ -3,36 +3,19 @@ ghost use mathlib.Core.Path.{_≡_};
 ghost use Prim.Native.Nat.{_+_, _≤_};
 ghost use lib.ListN.{length};
 ghost use Rattle.answers.specs.Answers.{numberOf};
-ghost use Rattle.report_line.specs.Line.{tabbed, refusedFields, lineOf, oneIf};
-ghost use Rattle.report_line.specs.Inner.{TextPut, rowFields, figuresOf};
+ghost use Rattle.line_rules.specs.Line.{tabbed, refusedFields, lineOf, oneIf};
+ghost use Rattle.line_rules.specs.Inner.{TextPut, rowFields, figuresOf};
 ghost use Rattle.put_text.specs.Puts.{Put};
 use answers::Count;
 use answers::Nat;
 use answers::Refusal;
 use ends::Place1;
+use line_rules::Figures;
+use line_rules::LineRow;
+use line_rules::Text;
 
 // The most bytes of a record's text.
 pub const TEXT_ROOM: usize = 65536;
-
-// What the line has behind the text.
-pub struct LineRow {
-    pub refs: i32,
-    pub query: u64,
-    pub five: i32,
-    pub bin: u32,
-    pub same: bool,
-}
-
-pub enum Figures {
-    Row(LineRow),
-    Refused(Refusal),
-}
-
-// The place behind a text, or why there is none.
-pub enum Text {
-    End(usize),
-    Refused(Refusal),
-}
 
 fn flag(is: bool) -> u64
     ensures { λ r. ⌜ r ≡ oneIf is ⌝ }

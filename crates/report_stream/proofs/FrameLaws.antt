@@ -12,7 +12,7 @@ use borrow.Author.Tests.{lt-ltb, le-ltb, ne-eqb, eqb-true, ltb-true, ltb-false}
 use Rattle.lists.proofs.Walks.{done}
 use Rattle.sam.specs.Record.{le32}
 use Rattle.little_endian.proofs.FrontLaws.{front-number}
-use Rattle.report_line.specs.Line.{lineOf}
+use Rattle.line_rules.specs.Line.{lineOf}
 use Rattle.put_text.specs.Puts.{Put}
 use Rattle.report_stream.specs.Stream.{nextIn, soFar, closing, lastWord, Reports, Reports.line, Reports.over, Reports.short, Reports.none}
 use Rattle.report_stream.specs.Inner.{Gone, Went, goesOn}

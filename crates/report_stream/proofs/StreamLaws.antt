@@ -6,7 +6,7 @@ use mathlib.Core.Logic.{inl}
 use mathlib.Core.List.{List, _++_}
 use native.Mathlib.Omega.{arith}
 use lib.ListN.{length, take, drop, length-drop}
-use Rattle.report_line.specs.Line.{lineOf}
+use Rattle.line_rules.specs.Line.{lineOf}
 use Rattle.report_stream.specs.Stream.{isMarked, nextIn, closing, lastWord, Reports, Reports.line, Reports.over, Reports.short, Reports.none, badInput, Prints}
 use Rattle.report_stream.specs.declared.NextFrame.{NextFrame}
 use Rattle.report_stream.specs.declared.NextFrame.the-variants.{Record, TooLong, CutShort, End, More}

@@ -8,7 +8,7 @@ use lib.Dec.{ltb, eqb}
 use lib.ListN.{length, take, drop}
 use Rattle.sam.specs.Record.{byteAt, le16, le32}
 use Rattle.decimal.specs.Decimal.{decimal}
-use Rattle.report_line.specs.Line.{lineOf}
+use Rattle.line_rules.specs.Line.{lineOf}
 use Rattle.report_stream.specs.declared.NextFrame.{NextFrame}
 use Rattle.report_stream.specs.declared.NextFrame.the-variants.{Record, TooLong, CutShort, End, More}
 

@@ -1,4 +1,2 @@
-pub mod TextLaws
-pub mod LetterLaws
 pub mod PassLaws
 pub mod PutLaws

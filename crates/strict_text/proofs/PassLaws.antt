@@ -19,7 +19,8 @@ use Rattle.text_rules.specs.Valid.{validMapped}
 use Rattle.text_rules.specs.Strict.{strict}
 use Rattle.strict_text.specs.Parsed.{measuredText}
 use Rattle.validity.specs.InnerStages.{codeClass, classOf, stepOf, acceptOf, isWrong}
-use Rattle.strict_text.specs.InnerPass.{OpAt, NoneAt, refBasesOf, tookOf, endingOf, onTook, atStart, walkOf}
+use Rattle.strict_text.specs.InnerPass.{refBasesOf, tookOf, endingOf, onTook, atStart, walkOf}
+use Rattle.tokens.specs.InnerToken.{OpAt, NoneAt}
 use Rattle.validity.specs.InnerClass.{Class, Class.Reference, Class.Other, Class.Soft, Class.Hard, Class.Unknown}
 use Rattle.validity.specs.declared.Stage.{Stage}
 use Rattle.strict_text.specs.declared.SoFar.{SoFar}
@@ -27,7 +28,7 @@ use Rattle.strict_text.specs.declared.Took.{Took}
 use Rattle.strict_text.specs.declared.Took.the-variants.{More, Stop}
 use Rattle.strict_text.specs.declared.Measured.{Measured}
 use Rattle.strict_text.specs.declared.Measured.the-variants as Measured
-use Rattle.strict_text.proofs.TextLaws.{at-end}
+use Rattle.tokens.proofs.TextLaws.{at-end}
 use Rattle.validity.proofs.StageLaws.{refB, class-ref, long-class, short-class, stageAfter, wrong-accept, valid-run}
 
 -- ---- the reference bases

@@ -7,12 +7,12 @@ use Rattle.answers.specs.Answers.{numberOf}
 use Rattle.oplist.specs.Ops.{recordOps}
 use Rattle.decimal.specs.Decimal.{decimal}
 use Rattle.print.specs.Text.{textOf}
-use Rattle.report_line.specs.Line.{tabbed, refusedFields, orStar}
-use Rattle.report_line.specs.Inner.{TextPut, rowFields}
-use Rattle.report_line.specs.declared.Text.{Text}
-use Rattle.report_line.specs.declared.Text.the-variants as Text
+use Rattle.line_rules.specs.Line.{tabbed, refusedFields, orStar}
+use Rattle.line_rules.specs.Inner.{TextPut, rowFields}
+use Rattle.line_rules.specs.declared.Text.{Text}
+use Rattle.line_rules.specs.declared.Text.the-variants as Text
 use Rattle.put_text.proofs.PutLaws.{put-then, put-as, put-dropped}
-use Rattle.report_line.proofs.LineLaws.{line-no-text, line-no-row, line-row}
+use Rattle.line_rules.proofs.LineLaws.{line-no-text, line-no-row, line-row}
 use borrow.Author.Needs.{needs}
 use Rattle.report_line.proofs.line.Statement.{statement}
 use Rattle.report_line.proofs.line.Tie as tie

@@ -4,7 +4,7 @@ use mathlib.Core.Path.{refl, ap}
 use mathlib.Core.List.{[], _∷_, _++_}
 use native.Mathlib.Omega.{arith}
 use Rattle.decimal.specs.Decimal.{decimal}
-use Rattle.report_line.specs.Line.{tabbed}
+use Rattle.line_rules.specs.Line.{tabbed}
 use Rattle.put_text.proofs.PutLaws.{put-then, put-as}
 use borrow.Author.Needs.{needs}
 use Rattle.report_line.proofs.put_refusal.Statement.{statement}

@@ -8,7 +8,7 @@ use mir.Syntax.{w32}
 use mir.Val.{toZ, ofZ}
 use Rattle.decimal.specs.Decimal.{decimal}
 use Rattle.put_text.specs.Puts.{signedDecimal}
-use Rattle.report_line.specs.Line.{tabbed}
+use Rattle.line_rules.specs.Line.{tabbed}
 use Rattle.put_text.proofs.PutLaws.{put-then, put-as}
 use borrow.Author.Needs.{needs}
 use Rattle.report_line.proofs.put_row.Statement.{statement}

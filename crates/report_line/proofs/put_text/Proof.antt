@@ -10,7 +10,7 @@ use borrow.Rule.Slice.PartMut.{putMid}
 use Rattle.answers.specs.declared.Count.the-variants as Count
 use Rattle.put_text.specs.Puts.{Put}
 use Rattle.put_text.proofs.PutLaws.{put-then, put-as}
-use Rattle.report_line.proofs.LineLaws.{star-none, star-some, no-text, TextAt, a-text}
+use Rattle.line_rules.proofs.LineLaws.{star-none, star-some, no-text, TextAt, a-text}
 use borrow.Author.Needs.{needs}
 use Rattle.report_line.proofs.put_text.Statement.{statement}
 use Rattle.report_line.proofs.put_text.Tie as tie

@@ -15,8 +15,8 @@ use Rattle.oplist.specs.Ops.{recordOps}
 use Rattle.oplist.proofs.OpsLaws.{lies, overruns}
 use Rattle.lengths.specs.Lengths.{checkedRefLength}
 use Rattle.answers.specs.declared.Int.the-variants as Int
-use Rattle.report_line.specs.Inner.{rowOf}
-use Rattle.report_line.proofs.LineLaws.{refs-overrun, refs-over, refs-are, figures-are}
+use Rattle.line_rules.specs.Inner.{rowOf}
+use Rattle.line_rules.proofs.LineLaws.{refs-overrun, refs-over, refs-are, figures-are}
 use borrow.Author.Needs.{needs}
 use Rattle.report_line.proofs.row_of.Statement.{statement}
 use Rattle.report_line.proofs.row_of.Tie as tie

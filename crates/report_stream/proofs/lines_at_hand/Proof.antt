@@ -8,7 +8,7 @@ use native.Mathlib.Omega.{arith}
 use lib.ListN.{length, take, drop, length-drop}
 use lib.Seq.{take-all}
 use types.Run.{OneOf}
-use Rattle.report_line.specs.Line.{lineOf}
+use Rattle.line_rules.specs.Line.{lineOf}
 use Rattle.put_text.proofs.PutLaws.{put-as}
 use Rattle.report_stream.specs.Stream.{nextIn, soFar}
 use Rattle.report_stream.specs.Inner.{Gone}

@@ -6,7 +6,8 @@ use borrow.Author.Needs.{needs}
 use lib.ListN.{length}
 use Rattle.text_rules.specs.Text.{isRow, textOps}
 use Rattle.validity.specs.InnerStages.{codeClass}
-use Rattle.strict_text.specs.InnerPass.{OpAt, TokenAt, tookOf, atStart}
+use Rattle.strict_text.specs.InnerPass.{tookOf, atStart}
+use Rattle.tokens.specs.InnerToken.{OpAt, TokenAt}
 use Rattle.strict_text.specs.declared.Took.{Took}
 use Rattle.strict_text.proofs.PassLaws.{leftOf, leftAt, left-measured, took-fits, pass-none, pass-end, pass-more, pass-stop}
 use Rattle.strict_text.proofs.measure.Statement.{statement}

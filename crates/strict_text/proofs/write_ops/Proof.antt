@@ -8,8 +8,8 @@ use lib.ListN.{length, take, drop, length-set}
 use lib.Seq.{sets}
 use Rattle.lists.specs.Lists.{splice}
 use Rattle.text_rules.specs.Text.{textOps}
-use Rattle.strict_text.specs.InnerPass.{OpAt, TokenAt}
-use Rattle.strict_text.proofs.TextLaws.{at-end}
+use Rattle.tokens.specs.InnerToken.{OpAt, TokenAt}
+use Rattle.tokens.proofs.TextLaws.{at-end}
 use Rattle.strict_text.proofs.PutLaws.{put-one, put-none, put-full, put-all}
 use Rattle.strict_text.proofs.write_ops.Statement.{statement}
 use Rattle.strict_text.proofs.write_ops.Tie as tie

@@ -1,7 +1,7 @@
 -- One test tells the word.
 use borrow.Author.Tests.{lt-ltb, le-ltb}
-use Rattle.strict_text.proofs.codes.Statement.{statement}
-use Rattle.strict_text.proofs.codes.Tie as tie
+use Rattle.tokens.proofs.codes.Statement.{statement}
+use Rattle.tokens.proofs.codes.Tie as tie
 
 returns : tie.Need-returns
 returns c = rw (lt-ltb _ 16 (c .if1 .taken))

@@ -1,8 +1,8 @@
 -- Two tests tell how many digits there are.
 use native.Mathlib.Omega.{arith}
 use borrow.Author.Tests.{not-true, not-false}
-use Rattle.strict_text.proofs.width_of.Statement.{statement}
-use Rattle.strict_text.proofs.width_of.Tie as tie
+use Rattle.tokens.proofs.width_of.Statement.{statement}
+use Rattle.tokens.proofs.width_of.Tie as tie
 
 returns : tie.Need-returns
 returns c = (rw (not-true (c .before .args .two) (c .if1 .taken)), omega arith)

@@ -9,7 +9,7 @@ use lib.Dec.{ltb}
 use borrow.Author.Tests.{lt-ltb, le-ltb}
 use Rattle.lists.proofs.Walks.{step, done}
 use Rattle.sam.specs.Op.{opOf}
-use Rattle.strict_text.specs.InnerPass.{OpAt, NoneAt}
+use Rattle.tokens.specs.InnerToken.{OpAt, NoneAt}
 use Rattle.text_rules.specs.Text.{Effect, Effect.Number, Effect.Letter, Effect.Bad, effectOf, rowFrom, opsFrom}
 
 -- ---- one byte on

@@ -3,9 +3,9 @@ use Prim.Native.Nat.{ℕ, _-_, _/_, _%_, _*_, _^_}
 use mathlib.Core.Path.{ap, _∙_}
 use native.Mathlib.Omega.{arith}
 use borrow.Author.Needs.{needs}
-use Rattle.strict_text.proofs.LetterLaws.{code-below, code-above, code-between}
-use Rattle.strict_text.proofs.cigar_op_code.Statement.{statement}
-use Rattle.strict_text.proofs.cigar_op_code.Tie as tie
+use Rattle.tokens.proofs.LetterLaws.{code-below, code-above, code-between}
+use Rattle.tokens.proofs.cigar_op_code.Statement.{statement}
+use Rattle.tokens.proofs.cigar_op_code.Tie as tie
 
 returns : tie.Need-returns
 returns c = code-below _ (c .if1 .taken)

@@ -35,12 +35,12 @@ use Rattle.ends.specs.declared.Place1.the-variants as Place1
 use Rattle.bin.specs.Bin.{recordBin}
 use Rattle.put_text.specs.Puts.{Put, signedDecimal}
 use Rattle.put_text.proofs.PutLaws.{put-then, put-as, put-dropped}
-use Rattle.report_line.specs.Line.{textRoom, textTold, refsTold, fiveTold, binTold, refusalOf, shown, orStar, oneIf, tabbed, refusedFields, lineOf}
-use Rattle.report_line.specs.Inner.{rowOf, figuresOf, rowFields}
-use Rattle.report_line.specs.declared.LineRow.{LineRow}
-use Rattle.report_line.specs.declared.Figures.the-variants as Figures
+use Rattle.line_rules.specs.Line.{textRoom, textTold, refsTold, fiveTold, binTold, refusalOf, shown, orStar, oneIf, tabbed, refusedFields, lineOf}
+use Rattle.line_rules.specs.Inner.{rowOf, figuresOf, rowFields}
+use Rattle.line_rules.specs.declared.LineRow.{LineRow}
+use Rattle.line_rules.specs.declared.Figures.the-variants as Figures
 use Rattle.answers.proofs.Numbers.{not-zero}
-use Rattle.report_line.proofs.OrderLaws.{any-room, text-refused, text-shown, firstGiven, query-is, refusal-long, refusal-short}
+use Rattle.line_rules.proofs.OrderLaws.{any-room, text-refused, text-shown, firstGiven, query-is, refusal-long, refusal-short}
 
 -- ---- the text, where a part of memory was printed into
 

@@ -1,7 +1,7 @@
 -- Two tests tell how many digits there are.
 use borrow.Author.Tests.{not-true, not-false}
-use Rattle.strict_text.proofs.letter_of.Statement.{statement}
-use Rattle.strict_text.proofs.letter_of.Tie as tie
+use Rattle.tokens.proofs.letter_of.Statement.{statement}
+use Rattle.tokens.proofs.letter_of.Tie as tie
 
 returns : tie.Need-returns
 returns c = rw (not-true (c .before .args .two) (c .if1 .taken))

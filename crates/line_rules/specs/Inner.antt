@@ -22,12 +22,12 @@ use Rattle.bin.specs.Bin.{recordBin}
 use Rattle.decimal.specs.Decimal.{decimal}
 use Rattle.print.specs.Text.{textOf, printed}
 use Rattle.put_text.specs.Puts.{Put, signedDecimal}
-use Rattle.report_line.specs.Line.{textRoom, orStar, oneIf}
-use Rattle.report_line.specs.declared.LineRow.{LineRow}
-use Rattle.report_line.specs.declared.Figures.{Figures}
-use Rattle.report_line.specs.declared.Figures.the-variants as Figures
-use Rattle.report_line.specs.declared.Text.{Text}
-use Rattle.report_line.specs.declared.Text.the-variants as Text
+use Rattle.line_rules.specs.Line.{textRoom, orStar, oneIf}
+use Rattle.line_rules.specs.declared.LineRow.{LineRow}
+use Rattle.line_rules.specs.declared.Figures.{Figures}
+use Rattle.line_rules.specs.declared.Figures.the-variants as Figures
+use Rattle.line_rules.specs.declared.Text.{Text}
+use Rattle.line_rules.specs.declared.Text.the-variants as Text
 
 -- the figures, or the first refusal on the way
 unfoldable pub rowOf : Int → ℕ → Place1 → Nat → Bool → Figures

@@ -9,9 +9,9 @@ use Rattle.sam.specs.Text.{isDigit}
 use Rattle.text_rules.specs.Text.{Effect, Effect.Letter}
 use Rattle.sam.proofs.TextLaws.{a-digit}
 use Rattle.text_rules.proofs.ByteLaws.{byte-digit, byte-over, byte-letter, byte-zero, byte-unknown}
-use Rattle.strict_text.proofs.TextLaws.{Reading, reading, read-bad, read-digit, read-letter, read-end}
-use Rattle.strict_text.proofs.long_token.Statement.{statement}
-use Rattle.strict_text.proofs.long_token.Tie as tie
+use Rattle.tokens.proofs.TextLaws.{Reading, reading, read-bad, read-digit, read-letter, read-end}
+use Rattle.tokens.proofs.long_token.Statement.{statement}
+use Rattle.tokens.proofs.long_token.Tie as tie
 
 abbrev Inv-loop : tie.InvT-loop
 Inv-loop text at num₀ i₀ num i = (at ≤ i) × (i ≤ length text) × (num ≤ 268435455) × Reading text at i num

@@ -33,7 +33,7 @@ use Rattle.ends.specs.Ends.{toPlace1, oneBased, fivePrime, noOps, asUnclipped, 
 use Rattle.ends.specs.declared.Unclipped.{Unclipped}
 use Rattle.ends.specs.declared.Unclipped.the-variants as Unclipped
 use Rattle.bin.specs.Bin.{binTo, reg2bin, binUpTo, spanOf, recordBin, binFrom}
-use Rattle.report_line.specs.Line.{textRoom, textTold, refsTold, fiveTold, binTold, order, firstOf, refusalOf}
+use Rattle.line_rules.specs.Line.{textRoom, textTold, refsTold, fiveTold, binTold, order, firstOf, refusalOf}
 
 -- ---- a test over all numbers of a list
 

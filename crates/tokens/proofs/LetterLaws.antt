@@ -10,10 +10,10 @@ use borrow.Author.Tests.{eqb-true}
 use Rattle.lists.proofs.Tables.{below-at}
 use Rattle.sam.specs.Text.{isDigit}
 use Rattle.text_rules.specs.Text.{letterCode, indexOf, effectOf, Effect, Effect.Number, Effect.Letter}
-use Rattle.strict_text.specs.InnerPass.{OpAt, codeWord}
+use Rattle.tokens.specs.InnerToken.{OpAt, codeWord}
 use Rattle.sam.proofs.TextLaws.{a-digit}
 use Rattle.text_rules.proofs.ByteLaws.{byte-digit, byte-letter}
-use Rattle.strict_text.proofs.TextLaws.{Reading, reading, read-digit, read-letter}
+use Rattle.tokens.proofs.TextLaws.{Reading, reading, read-digit, read-letter}
 
 -- ---- the letters
 

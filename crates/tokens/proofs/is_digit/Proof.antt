@@ -1,7 +1,7 @@
 -- The tests are the bounds 48 and 57.
 use borrow.Author.Tests.{lt-leb, le-leb}
-use Rattle.strict_text.proofs.is_digit.Statement.{statement}
-use Rattle.strict_text.proofs.is_digit.Tie as tie
+use Rattle.tokens.proofs.is_digit.Statement.{statement}
+use Rattle.tokens.proofs.is_digit.Tie as tie
 
 returns : tie.Need-returns
 returns c = rw (lt-leb 48 (c .before .args .b) (c .if1 .taken))

@@ -9,9 +9,9 @@ use borrow.Author.Tests.{not-false}
 use Rattle.sam.specs.Text.{isDigit}
 use Rattle.text_rules.specs.Text.{letterCode}
 use Rattle.sam.proofs.TextLaws.{a-digit}
-use Rattle.strict_text.proofs.LetterLaws.{short-op}
-use Rattle.strict_text.proofs.short_token.Statement.{statement}
-use Rattle.strict_text.proofs.short_token.Tie as tie
+use Rattle.tokens.proofs.LetterLaws.{short-op}
+use Rattle.tokens.proofs.short_token.Statement.{statement}
+use Rattle.tokens.proofs.short_token.Tie as tie
 
 -- the bytes that were widened are the text's, and the tests are those of them
 first : (c : tie.After-wide) → isDigit (c .wide .result) ≡ true

@@ -1,9 +1,9 @@
 -- The short form where it tells an op.
 use mathlib.Core.Path.{subst}
 use borrow.Author.Needs.{needs}
-use Rattle.strict_text.specs.InnerPass.{ShortAt}
-use Rattle.strict_text.proofs.token_at.Statement.{statement}
-use Rattle.strict_text.proofs.token_at.Tie as tie
+use Rattle.tokens.specs.InnerToken.{ShortAt}
+use Rattle.tokens.proofs.token_at.Statement.{statement}
+use Rattle.tokens.proofs.token_at.Tie as tie
 
 enum-known-short : tie.Need-enum-known-short
 enum-known-short c = search needs

@@ -1,0 +1,22 @@
+// Document 01, section Program: what the line of a record is, and what the functions of `report_line` come to: definitions and proofs. No function stands here.
+use answers::Refusal;
+
+// What the line has behind the text.
+pub struct LineRow {
+    pub refs: i32,
+    pub query: u64,
+    pub five: i32,
+    pub bin: u32,
+    pub same: bool,
+}
+
+pub enum Figures {
+    Row(LineRow),
+    Refused(Refusal),
+}
+
+// The place behind a text, or why there is none.
+pub enum Text {
+    End(usize),
+    Refused(Refusal),
+}

@@ -1,0 +1,38 @@
+-- An op of a text at a place, as the inner functions of the reader tell it; no public contract cites it. Document 01's rules stand in `text_rules`.
+use Prim.Native.Nat.{ℕ, _≤_, _<_}
+use mathlib.Core.Path.{_≡_}
+use mathlib.Core.Bool.{false, cond}
+use mathlib.Core.List.{List, [], _∷_}
+use lib.ListN.{length, drop}
+use lib.Dec.{ltb}
+use Rattle.sam.specs.Op.{opOf}
+use Rattle.text_rules.specs.Text.{rowFrom, opsFrom}
+use Rattle.tokens.specs.declared.Token.{Token}
+use Rattle.tokens.specs.declared.Token.the-variants as Token
+
+-- an op of the text s from place i on
+pub record OpAt (s : List ℕ) (i len code next : ℕ) : Type 0 where
+  pub ahead : i < next
+  pub inside : next ≤ length s
+  pub some : 0 < len
+  pub most : len ≤ 268435455
+  pub known : code < 9
+  pub row : rowFrom 0 false (drop i s) ≡ rowFrom 0 false (drop next s)
+  pub ops : opsFrom 0 (drop i s) ≡ opOf len code ∷ opsFrom 0 (drop next s)
+
+pub record NoneAt (s : List ℕ) (i : ℕ) : Type 0 where
+  pub row : rowFrom 0 false (drop i s) ≡ false
+  pub ops : opsFrom 0 (drop i s) ≡ []
+
+abbrev pub TokenAt : List ℕ → ℕ → Token → Type 0
+TokenAt s i (Token.Op len code next) = OpAt s i len code next
+TokenAt s i Token.Bad = NoneAt s i
+
+-- the short form of the reader tells an op, or nothing
+abbrev pub ShortAt : List ℕ → ℕ → Token → Type 0
+ShortAt s i (Token.Op len code next) = OpAt s i len code next
+ShortAt s i Token.Bad = Unit {0}
+
+-- sixteen codes, from the lowest four bits on: those of the bytes from 61 on, then from 77 on
+abbrev pub codeWord : ℕ → ℕ
+codeWord place = cond (ltb place 16) 11065724273788819863 11068028851955788080
