@@ -1,7 +1,4 @@
 pub mod Scanner
-pub mod Digits
-pub mod Steps
-pub mod Scans
+pub mod PieceSteps
 pub mod Sums
-pub mod Agree
 pub mod Lent

@@ -51,7 +51,7 @@ use denote.Triple.Call.{calls-at}
 use denote.Triple.Clauses.{ensured, lasts}
 use denote.Triple.Spec.{tripleOf}
 use Rattle.mate_text.specs.declared.DigitRun.{DigitRun}
-use Rattle.mate_text.proofs.Scans.{scan, scan-digit, scan-letter}
+use Rattle.mate_rules.proofs.Scans.{scan, scan-digit, scan-letter}
 use Rattle.mate_text.proofs.Lent.{mach, Push, Take, pushes, takes}
 use Rattle.mate_text.proofs.DigitRun as T
 use Rattle.mate_text.proofs.DigitRun.Laws as T′

@@ -11,12 +11,12 @@ use Rattle.lists.specs.Runs.{leading, holds, afterLast}
 use Rattle.lists.proofs.RunLaws.{after-none}
 use Rattle.signed.specs.Whole.{clamp32}
 use Rattle.signed.proofs.Ranges.{clamp-in, clamp-above}
-use Rattle.mate_text.specs.Mate.{Piece, pieces, counts, total, isRefPiece, isClipPiece, refCount, clipCount, mateLeading, mateReference, mateTrailing, capped}
-use Rattle.mate_text.specs.InnerScan.{leadPiece, trailPiece}
+use Rattle.mate_rules.specs.Pieces.{Piece, pieces, counts, total, isRefPiece, isClipPiece, refCount, clipCount, mateLeading, mateReference, mateTrailing, capped}
+use Rattle.mate_text.specs.InnerPiece.{leadPiece, trailPiece}
 use Rattle.mate_text.specs.declared.Lead.{Lead}
 use Rattle.mate_text.specs.declared.Trail.{Trail}
-use Rattle.mate_text.proofs.Steps.{lead-off, lead-stop, lead-clip, trail-ref, trail-other, trail-early, trail-clip}
-use Rattle.mate_text.proofs.Scans.{scan, overPieces, scan-is}
+use Rattle.mate_text.proofs.PieceSteps.{lead-off, lead-stop, lead-clip, trail-ref, trail-other, trail-early, trail-clip}
+use Rattle.mate_rules.proofs.Scans.{scan, overPieces, scan-is}
 
 -- ---- one step that saturates
 

@@ -1,4 +1,2 @@
-pub mod Run
 pub mod Mate
-pub mod InnerScan
-pub mod Readers
+pub mod InnerPiece

@@ -1,85 +1,12 @@
--- Document 01, module 6: "Reads any bytes. A missing number, or one above 2^31-1, counts 0. Start: position less leading S and H.
--- End: position less 1, plus reference length, plus S and H after the last reference letter. Each step saturates."
-use Prim.Native.Nat.{ℕ, _+_}
-use mathlib.Core.Bool.{Bool, true, false, cond}
-use mathlib.Core.List.{List, [], _∷_}
+-- Document 01, module 6: "Start: position less leading S and H. End: position less 1, plus reference length, plus S and H after the last reference letter. Each step saturates."
+use mathlib.Core.Bool.{Bool, cond}
+use mathlib.Core.List.{List}
+use Prim.Native.Nat.{ℕ}
 use lib.IntN.{ℤ, pos, _+ℤ_, _-ℤ_}
-use lib.Dec.{eqb}
-use Rattle.lists.specs.Runs.{leading, afterLast}
 use Rattle.signed.specs.Whole.{clamp32}
-use Rattle.sam.specs.Text.{value}
 use Rattle.answers.specs.declared.Pos0.{Pos0}
 use Rattle.answers.specs.declared.Pos1.{Pos1}
-use Rattle.mate_text.specs.Run.{isDigit, countsAs}
-
--- this reader's letters: M D N = X of the reference, S H of clips
-abbrev pub refLetters : List ℕ
-refLetters = 77 ∷ 68 ∷ 78 ∷ 61 ∷ 88 ∷ []
-
-abbrev pub clipLetters : List ℕ
-clipLetters = 83 ∷ 72 ∷ []
-
-abbrev pub among : List ℕ → ℕ → Bool
-among [] b = false
-among (x ∷ xs) b = cond (eqb b x) true (among xs b)
-
-unfoldable pub isRefLetter : ℕ → Bool
-isRefLetter b = among refLetters b
-
-unfoldable pub isClipLetter : ℕ → Bool
-isClipLetter b = among clipLetters b
-
--- digits, any number of them or none, and the byte after them that is no digit
-pub record Piece : Type 0 where
-  pub digits : List ℕ
-  pub letter : ℕ
-
--- a digit in front belongs to the first piece; digits with no byte after them are no piece
-abbrev pub withDigit : ℕ → List Piece → List Piece
-withDigit b [] = []
-withDigit b (p ∷ ps) = record { digits = b ∷ p .digits; letter = p .letter } ∷ ps
-
--- the pieces of any bytes
-unfoldable pub pieces : List ℕ → List Piece
-pieces [] = []
-pieces (b ∷ s) = cond (isDigit b) (withDigit b (pieces s)) (record { digits = []; letter = b } ∷ pieces s)
-
--- what a piece counts: its decimal number, however long, 0 where it is missing or above 2^31 - 1
-abbrev pub counts : Piece → ℕ
-counts p = countsAs (value 0 (p .digits))
-
-unfoldable pub total : (Piece → ℕ) → List Piece → ℕ
-total f [] = 0
-total f (p ∷ ps) = f p + total f ps
-
-abbrev pub isRefPiece : Piece → Bool
-isRefPiece p = isRefLetter (p .letter)
-
-abbrev pub isClipPiece : Piece → Bool
-isClipPiece p = isClipLetter (p .letter)
-
--- what it counts of the reference, and of clips
-abbrev pub refCount : Piece → ℕ
-refCount p = cond (isRefPiece p) (counts p) 0
-
-abbrev pub clipCount : Piece → ℕ
-clipCount p = cond (isClipPiece p) (counts p) 0
-
--- "leading S and H"
-unfoldable pub mateLeading : List ℕ → ℕ
-mateLeading s = total counts (leading isClipPiece (pieces s))
-
--- "reference length"
-unfoldable pub mateReference : List ℕ → ℕ
-mateReference s = total refCount (pieces s)
-
--- "S and H after the last reference letter"
-unfoldable pub mateTrailing : List ℕ → ℕ
-mateTrailing s = total clipCount (afterLast isRefPiece (pieces s))
-
--- a sum of counts, each step of which saturates: no count is negative, so it is the sum, at most 2^31 - 1
-abbrev pub capped : ℕ → ℤ
-capped n = clamp32 (pos n)
+use Rattle.mate_rules.specs.Pieces.{mateLeading, mateReference, mateTrailing, capped}
 
 -- "Start: position less leading S and H"
 abbrev pub mateStart : ℤ → List ℕ → ℤ

@@ -1,9 +1,10 @@
 // Document 01, module 6: the mate's unclipped 5' end from text. Reads any bytes, refuses none; each step saturates.
 ghost use mathlib.Core.Path.{_≡_};
 ghost use lib.IntN.{pos};
-ghost use Rattle.mate_text.specs.Run.{isDigit, countsAs, pushOf};
-ghost use Rattle.mate_text.specs.Mate.{isRefLetter, isClipLetter, mateLeading, mateReference, mateTrailing, capped, mateStart, mateEnd, mateFivePrime, saturatedOneBased, mateUnclipped, mateUnclipped1};
-ghost use Rattle.mate_text.specs.InnerScan.{leadPiece, trailPiece};
+ghost use Rattle.mate_rules.specs.Run.{isDigit, countsAs, pushOf};
+ghost use Rattle.mate_rules.specs.Pieces.{isRefLetter, isClipLetter, mateLeading, mateReference, mateTrailing, capped};
+ghost use Rattle.mate_text.specs.Mate.{mateStart, mateEnd, mateFivePrime, saturatedOneBased, mateUnclipped, mateUnclipped1};
+ghost use Rattle.mate_text.specs.InnerPiece.{leadPiece, trailPiece};
 use answers::Pos0;
 use answers::Pos1;
 

@@ -25,8 +25,8 @@ use Rattle.text_rules.proofs.GrammarLaws as Strict
 use Rattle.text_rules.proofs.ValidLaws as Valid
 use Rattle.promises.specs.RoundTrip.{withoutZeros}
 use Rattle.promises.proofs.RoundTrip as Round
-use Rattle.mate_text.specs.Readers.{Agree}
-use Rattle.mate_text.proofs.Agree as Mate
+use Rattle.mate_rules.specs.Readers.{Agree}
+use Rattle.mate_rules.proofs.Agree as Mate
 use Rattle.lookup.specs.Lookup.{lookup}
 use Rattle.lookup.specs.Meaning.{InBounds, Reads}
 use Rattle.lookup.specs.declared.Found.{Found}

@@ -3,7 +3,7 @@ use native.Mathlib.Omega.{arith}
 use mir.Syntax.{w32}
 use mir.Facts.{toZ-pos}
 use borrow.Author.Tests.{le-leb, lt-leb}
-use Rattle.mate_text.specs.Run.{countsAs}
+use Rattle.mate_rules.specs.Run.{countsAs}
 use borrow.Author.Needs.{needs}
 use Rattle.mate_text.proofs.counted.Statement.{statement}
 use Rattle.mate_text.proofs.counted.Tie as tie

@@ -6,8 +6,8 @@ use mir.Syntax.{w32}
 use mir.Val.{toZ, ofZ}
 use borrow.Author.Tests.{not-true, not-false}
 use Rattle.signed.specs.Whole.{clamp32}
-use Rattle.mate_text.specs.Mate.{isClipLetter}
-use Rattle.mate_text.proofs.Steps.{lead-off, lead-stop, lead-clip}
+use Rattle.mate_rules.specs.Pieces.{isClipLetter}
+use Rattle.mate_text.proofs.PieceSteps.{lead-off, lead-stop, lead-clip}
 use borrow.Author.Needs.{needs}
 use Rattle.mate_text.proofs.lead_piece.Statement.{statement}
 use Rattle.mate_text.proofs.lead_piece.Tie as tie

@@ -41,9 +41,10 @@ use denote.Triple.Spec.{Meets, tripleOf}
 use denote.Triple.Table.{entered, cited}
 use denote.Triple.Walked.{says, Stays, stay-none-slice, walkOf, goes-none-slice, Walks, ends-at, walked, walk-meets}
 use denote.Exit.{yes}
-use Rattle.mate_text.specs.InnerScan.{leadPiece}
+use Rattle.mate_text.specs.InnerPiece.{leadPiece}
 use Rattle.mate_text.specs.declared.Lead.{Lead}
-use Rattle.mate_text.proofs.Scans.{scan, scan-off, scan-end}
+use Rattle.mate_rules.proofs.Scans.{scan, scan-end}
+use Rattle.mate_text.proofs.PieceSteps.{scan-off}
 use Rattle.mate_text.proofs.Sums.{leading-is}
 use Rattle.mate_text.proofs.Lent.{Push, Take}
 use Rattle.mate_text.proofs.Scanner.{Finder, finds, scanFn, New, is-false, Piece, to-piece, takes-in, Arm, Ends, counts, scans}

@@ -40,9 +40,9 @@ use denote.Triple.Spec.{Meets, tripleOf}
 use denote.Triple.Table.{entered, cited}
 use denote.Triple.Walked.{says, Stays, stay-none-slice, walkOf, goes-none-slice, Walks, ends-at, walked, walk-meets}
 use denote.Exit.{yes}
-use Rattle.mate_text.specs.InnerScan.{trailPiece}
+use Rattle.mate_text.specs.InnerPiece.{trailPiece}
 use Rattle.mate_text.specs.declared.Trail.{Trail}
-use Rattle.mate_text.proofs.Scans.{scan, scan-end}
+use Rattle.mate_rules.proofs.Scans.{scan, scan-end}
 use Rattle.mate_text.proofs.Sums.{reference-is, trailing-is}
 use Rattle.mate_text.proofs.Lent.{Push, Take}
 use Rattle.mate_text.proofs.Scanner.{Finder, finds, scanFn, New, Piece, to-piece, takes-in, Arm, Ends, counts, scans}

@@ -5,9 +5,9 @@ use Prim.Native.Nat.{_+_, _-_, _*_, min}
 use native.Mathlib.Omega.{arith}
 use borrow.Author.Tests.{not-true, not-false}
 use Rattle.sam.specs.Text.{Digit}
-use Rattle.mate_text.specs.Run.{isDigit, pushOf}
-use Rattle.mate_text.proofs.Digits.{digit-range, push-digit}
-use Rattle.mate_text.proofs.Steps.{push-letter}
+use Rattle.mate_rules.specs.Run.{isDigit, pushOf}
+use Rattle.mate_rules.proofs.Digits.{digit-range, push-digit}
+use Rattle.mate_rules.proofs.Steps.{push-letter}
 use borrow.Author.Needs.{needs}
 use Rattle.mate_text.proofs.pushed.Statement.{statement}
 use Rattle.mate_text.proofs.pushed.Tie as tie

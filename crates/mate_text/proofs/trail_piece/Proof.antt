@@ -6,8 +6,8 @@ use mir.Syntax.{w32}
 use mir.Val.{toZ, ofZ}
 use borrow.Author.Tests.{not-true, not-false}
 use Rattle.signed.specs.Whole.{clamp32}
-use Rattle.mate_text.specs.Mate.{isRefLetter, isClipLetter}
-use Rattle.mate_text.proofs.Steps.{trail-ref, trail-other, trail-early, trail-clip}
+use Rattle.mate_rules.specs.Pieces.{isRefLetter, isClipLetter}
+use Rattle.mate_text.proofs.PieceSteps.{trail-ref, trail-other, trail-early, trail-clip}
 use borrow.Author.Needs.{needs}
 use Rattle.mate_text.proofs.trail_piece.Statement.{statement}
 use Rattle.mate_text.proofs.trail_piece.Tie as tie

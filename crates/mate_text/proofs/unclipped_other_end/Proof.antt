@@ -5,7 +5,7 @@ use denote.Ref.{now}
 use mir.Syntax.{w32}
 use mir.Val.{toZ, ofZ}
 use Rattle.signed.specs.Whole.{clamp32}
-use Rattle.mate_text.specs.Mate.{capped, mateReference}
+use Rattle.mate_rules.specs.Pieces.{capped, mateReference}
 use borrow.Author.Needs.{needs}
 use Rattle.mate_text.proofs.unclipped_other_end.Statement.{statement}
 use Rattle.mate_text.proofs.unclipped_other_end.Tie as tie

@@ -41,7 +41,7 @@ use denote.Triple.Entry.{onEntry}
 use denote.Triple.Spec.{Meets, tripleOf}
 use denote.Triple.Table.{entered, cited}
 use denote.Triple.Walked.{says, Stays, stay-ref, walkOf, AllGo, goes-ref, Walks, ends-at, walked, walk-meets}
-use Rattle.mate_text.specs.Run.{countsAs}
+use Rattle.mate_rules.specs.Run.{countsAs}
 use Rattle.mate_text.specs.declared.DigitRun.{DigitRun}
 use Rattle.mate_text.proofs.DigitRun as T
 use Rattle.mate_text.proofs.DigitRun.Laws as T′

@@ -7,7 +7,7 @@ use native.Mathlib.Omega.{arith}
 use lib.Dec.{ltb, leb}
 use borrow.Author.Tests.{le-ltb, ltb-false, leb-true, leb-false, le-leb, lt-leb}
 use Rattle.sam.specs.Text.{Digit, Digits, value}
-use Rattle.mate_text.specs.Run.{isDigit, countsAs, pushOf}
+use Rattle.mate_rules.specs.Run.{isDigit, countsAs, pushOf}
 
 false-true : false ≡ true → ⊥
 false-true e = let z : _≡_ {A = ℕ} 0 1 = cc in omega arith

@@ -7,12 +7,11 @@ use lib.IntN.{ℤ, pos}
 use lib.ListN.{length, drop, getD}
 use Rattle.lists.proofs.Walks.{step, done}
 use Rattle.sam.specs.Text.{Digits, value}
-use Rattle.mate_text.specs.Run.{isDigit, countsAs, pushOf}
-use Rattle.mate_text.specs.Mate.{Piece, pieces, withDigit, counts}
-use Rattle.mate_text.specs.InnerScan.{runAfter, foundAfter, leadPiece}
-use Rattle.mate_text.specs.declared.Lead.{Lead}
-use Rattle.mate_text.proofs.Digits.{digit-range, digit-test, runOf, run-snoc, digits-snoc, run-counts}
-use Rattle.mate_text.proofs.Steps.{run-digit, run-letter, push-letter, found-digit, found-letter, lead-off}
+use Rattle.mate_rules.specs.Run.{isDigit, countsAs, pushOf}
+use Rattle.mate_rules.specs.Pieces.{Piece, pieces, withDigit, counts}
+use Rattle.mate_rules.specs.InnerScan.{runAfter, foundAfter}
+use Rattle.mate_rules.proofs.Digits.{digit-range, digit-test, runOf, run-snoc, digits-snoc, run-counts}
+use Rattle.mate_rules.proofs.Steps.{run-digit, run-letter, push-letter, found-digit, found-letter}
 
 -- ---- pieces of a text that begins with digits
 
@@ -80,16 +79,3 @@ module _ {S : Type 0} (f : S → ℤ → ℕ → S) where
   pub scan-end : (text : List ℕ) (i x : ℕ) (s : S) → length text ≤ i → scan x s (drop i text) ≡ s
   unfolding scan
   scan-end text i x s h = ap (scan x s) (done text i h)
-
--- once another letter than a clip was met, nothing more is found
-found-off : (x : ℕ) (s : Lead) (b : ℕ) → s .on ≡ false → foundAfter leadPiece x s b ≡ s
-found-off x s b e = go (isDigit b) refl
-  where
-    go : (u : Bool) → isDigit b ≡ u → foundAfter leadPiece x s b ≡ s
-    go true q = found-digit leadPiece x s b q
-    go false q = found-letter leadPiece x s b q ∙ lead-off s (pos (countsAs x)) b e
-
-pub scan-off : (t : List ℕ) (x : ℕ) (s : Lead) → s .on ≡ false → scan leadPiece x s t ≡ s
-unfolding scan
-scan-off [] x s e = refl
-scan-off (b ∷ t) x s e = ap (λ (r : Lead). scan leadPiece (runAfter x b) r t) (found-off x s b e) ∙ scan-off t (runAfter x b) s e

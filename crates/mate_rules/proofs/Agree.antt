@@ -12,11 +12,11 @@ use Rattle.sam.specs.Op.{lenOf, codeOf, opOf, letters, isRef, refLen}
 use Rattle.sam.specs.Text.{value, Spells, end, op}
 use Rattle.ops.specs.Ops.{isClip}
 use Rattle.clip_runs.specs.Clips.{clipLen, leadingClips, trailingClips}
-use Rattle.mate_text.specs.Run.{isDigit}
-use Rattle.mate_text.specs.Mate.{refLetters, clipLetters, isRefLetter, isClipLetter, Piece, pieces, counts, total, isRefPiece, isClipPiece, refCount, clipCount, mateLeading, mateReference, mateTrailing}
-use Rattle.mate_text.specs.Readers.{Short, Agree}
-use Rattle.mate_text.proofs.Digits.{count-small}
-use Rattle.mate_text.proofs.Scans.{first-piece}
+use Rattle.mate_rules.specs.Run.{isDigit}
+use Rattle.mate_rules.specs.Pieces.{refLetters, clipLetters, isRefLetter, isClipLetter, Piece, pieces, counts, total, isRefPiece, isClipPiece, refCount, clipCount, mateLeading, mateReference, mateTrailing}
+use Rattle.mate_rules.specs.Readers.{Short, Agree}
+use Rattle.mate_rules.proofs.Digits.{count-small}
+use Rattle.mate_rules.proofs.Scans.{first-piece}
 
 -- ---- the letters are the specification's
 

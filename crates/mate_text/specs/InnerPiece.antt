@@ -1,21 +1,11 @@
--- Document 01, module 6, "The digit run belongs to the scan": what the scan holds after one byte more. What it comes to over a text is said in Mate.antt
--- without it, and proofs/Scans.antt has the law that the two agree.
+-- What the two scans take in of a piece: its number, and the letter that ends it.
 use Prim.Native.Nat.{ℕ}
 use mathlib.Core.Bool.{true, false, cond}
 use lib.IntN.{ℤ, pos, _+ℤ_}
 use Rattle.signed.specs.Whole.{clamp32}
-use Rattle.mate_text.specs.Run.{isDigit, pushOf, countsAs}
-use Rattle.mate_text.specs.Mate.{isRefLetter, isClipLetter}
+use Rattle.mate_rules.specs.Pieces.{isRefLetter, isClipLetter}
 use Rattle.mate_text.specs.declared.Lead.{Lead}
 use Rattle.mate_text.specs.declared.Trail.{Trail}
-
--- the run: a byte that is no digit empties it
-unfoldable pub runAfter : ℕ → ℕ → ℕ
-runAfter x b = cond (isDigit b) (pushOf x b) 0
-
--- what a scan found: f takes in the piece that the byte ends
-unfoldable pub foundAfter : {S : Type 0} → (S → ℤ → ℕ → S) → ℕ → S → ℕ → S
-foundAfter f x s b = cond (isDigit b) s (f s (pos (countsAs x)) b)
 
 -- the leading clips: up to the first letter that is no clip
 unfoldable pub leadPiece : Lead → ℤ → ℕ → Lead

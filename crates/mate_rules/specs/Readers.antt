@@ -6,7 +6,7 @@ use mathlib.Core.List.{List}
 use Rattle.lists.specs.Lists.{Each, sumOf}
 use Rattle.sam.specs.Op.{lenOf, refLen}
 use Rattle.clip_runs.specs.Clips.{leadingClips, trailingClips}
-use Rattle.mate_text.specs.Mate.{mateLeading, mateReference, mateTrailing}
+use Rattle.mate_rules.specs.Pieces.{mateLeading, mateReference, mateTrailing}
 
 abbrev pub Short : List ℕ → Type 0
 Short ops = Each (λ o. lenOf o ≤ 268435455) ops

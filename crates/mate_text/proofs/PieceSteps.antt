@@ -1,12 +1,16 @@
--- What a piece and a byte do to the scans, case by case: each is the definition at a test's two answers.
-use mathlib.Core.Path.{_≡_}
-use mathlib.Core.Bool.{true, false}
+-- What a piece does to the scans, case by case: each is the definition at a test's two answers.
+use mathlib.Core.Path.{_≡_, refl, ap, _∙_}
+use mathlib.Core.Bool.{Bool, true, false}
+use mathlib.Core.List.{List, [], _∷_}
 use Prim.Native.Nat.{ℕ}
 use lib.IntN.{ℤ, pos, _+ℤ_}
 use Rattle.signed.specs.Whole.{clamp32}
-use Rattle.mate_text.specs.Run.{isDigit, pushOf, countsAs}
-use Rattle.mate_text.specs.Mate.{isRefLetter, isClipLetter}
-use Rattle.mate_text.specs.InnerScan.{runAfter, foundAfter, leadPiece, trailPiece}
+use Rattle.mate_rules.specs.Run.{isDigit, countsAs}
+use Rattle.mate_rules.specs.Pieces.{isRefLetter, isClipLetter}
+use Rattle.mate_rules.specs.InnerScan.{runAfter, foundAfter}
+use Rattle.mate_rules.proofs.Steps.{found-digit, found-letter}
+use Rattle.mate_rules.proofs.Scans.{scan}
+use Rattle.mate_text.specs.InnerPiece.{leadPiece, trailPiece}
 use Rattle.mate_text.specs.declared.Lead.{Lead}
 use Rattle.mate_text.specs.declared.Trail.{Trail}
 
@@ -40,25 +44,15 @@ module _ (s : Trail) (n : ℤ) (b : ℕ) where
   unfolding trailPiece
   trail-clip e f g = rw (e, f, g)
 
-module _ (x b : ℕ) where
-  pub run-digit : isDigit b ≡ true → runAfter x b ≡ pushOf x b
-  unfolding runAfter
-  run-digit e = rw e
+-- once another letter than a clip was met, nothing more is found
+found-off : (x : ℕ) (s : Lead) (b : ℕ) → s .on ≡ false → foundAfter leadPiece x s b ≡ s
+found-off x s b e = go (isDigit b) refl
+  where
+    go : (u : Bool) → isDigit b ≡ u → foundAfter leadPiece x s b ≡ s
+    go true q = found-digit leadPiece x s b q
+    go false q = found-letter leadPiece x s b q ∙ lead-off s (pos (countsAs x)) b e
 
-  pub run-letter : isDigit b ≡ false → runAfter x b ≡ 0
-  unfolding runAfter
-  run-letter e = rw e
-
-  -- a byte that is no digit leaves the run to be counted
-  pub push-letter : isDigit b ≡ false → pushOf x b ≡ x
-  unfolding pushOf
-  push-letter e = rw e
-
-module _ {S : Type 0} (f : S → ℤ → ℕ → S) (x : ℕ) (s : S) (b : ℕ) where
-  pub found-digit : isDigit b ≡ true → foundAfter f x s b ≡ s
-  unfolding foundAfter
-  found-digit e = rw e
-
-  pub found-letter : isDigit b ≡ false → foundAfter f x s b ≡ f s (pos (countsAs x)) b
-  unfolding foundAfter
-  found-letter e = rw e
+pub scan-off : (t : List ℕ) (x : ℕ) (s : Lead) → s .on ≡ false → scan leadPiece x s t ≡ s
+unfolding scan
+scan-off [] x s e = refl
+scan-off (b ∷ t) x s e = ap (λ (r : Lead). scan leadPiece (runAfter x b) r t) (found-off x s b e) ∙ scan-off t (runAfter x b) s e

@@ -1,0 +1,4 @@
+pub mod Digits
+pub mod Steps
+pub mod Scans
+pub mod Agree

@@ -1,0 +1,4 @@
+pub mod Run
+pub mod Pieces
+pub mod InnerScan
+pub mod Readers
