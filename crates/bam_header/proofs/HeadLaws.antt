@@ -8,6 +8,7 @@ use lib.Dec.{ltb, eqb}
 use lib.ListN.{length, drop, length-append, length-drop}
 use lib.Seq.{drop-append-le, drop-drop}
 use borrow.Author.Tests.{lt-ltb, le-ltb, ltb-true, ltb-false, eq-eqb, eqb-true, eqb-false}
+use Rattle.lists.proofs.Absurd.{never}
 use Rattle.sam.specs.Record.{byteAt, le32}
 use Rattle.little_endian.proofs.FrontLaws.{front-number}
 use Rattle.bam_header.specs.Header.{Head, Head.Records, Head.CutShort, isBam, pastBytes, pastNumber, references, counted, texted}
@@ -90,7 +91,7 @@ pub part-in : (part : HeadPart) (s ys : List ℕ) → isRecords part ≡ false �
 unfolding references counted texted
 part-in TextSize s ys e h = number-in (λ size. pastBytes size counted) s ys h
 part-in Count s ys e h = number-in references s ys h ∙ sym (past-none (references (le32 s 0)) (drop 4 s ++ ys))
-part-in (Names zero) s ys e h = let z : _≡_ {A = ℕ} 0 1 = cc in absurd (omega arith)
+part-in (Names zero) s ys e h = never (cc)
 part-in (Names (suc n)) s ys e h =
     number-in (λ size. pastBytes size (pastBytes 4 (references n))) s ys h
     ∙ past-both (le32 s 0) 4 (references n) (drop 4 s ++ ys)
@@ -100,13 +101,13 @@ part-short : (part : HeadPart) (s : List ℕ) → isRecords part ≡ false → l
 unfolding references counted texted
 part-short TextSize s e h = number-short (λ size. pastBytes size counted) s h
 part-short Count s e h = number-short references s h
-part-short (Names zero) s e h = let z : _≡_ {A = ℕ} 0 1 = cc in absurd (omega arith)
+part-short (Names zero) s e h = never (cc)
 part-short (Names (suc n)) s e h = number-short (λ size. pastBytes size (pastBytes 4 (references n))) s h
 
 part-records : (part : HeadPart) (s : List ℕ) → isRecords part ≡ true → fromPart part s ≡ Records s
 unfolding references
-part-records TextSize s e = let z : _≡_ {A = ℕ} 0 1 = cc in absurd (omega arith)
-part-records Count s e = let z : _≡_ {A = ℕ} 0 1 = cc in absurd (omega arith)
+part-records TextSize s e = never (cc)
+part-records Count s e = never (cc)
 part-records (Names zero) s e = refl
 part-records (Names (suc n)) s e = absurd (omega (arith, eqb-true (suc n) 0 e))
 
@@ -122,7 +123,7 @@ pub ready-number : (p : HeadPlace) (n : ℕ) → isReady p n ≡ true → p .ski
 ready-number p n e h = go (isRecords (p .part)) refl (simp (le-ltb 0 (p .skip) h) at e)
   where
     go : (t : Bool) → isRecords (p .part) ≡ t → cond t false (ltb 3 n) ≡ true → (isRecords (p .part) ≡ false) × (3 < n)
-    go true q f = let z : _≡_ {A = ℕ} 0 1 = cc in absurd (omega arith)
+    go true q f = never (cc)
     go false q f = (q, ltb-true 3 n f)
 
 -- bytes that are not enough to go on
@@ -144,7 +145,7 @@ pub begun-records : (p : HeadPlace) (s : List ℕ) → isBegun p ≡ true → fr
 begun-records p s b = go (ltb 0 (p .skip)) refl b
   where
     go : (t : Bool) → ltb 0 (p .skip) ≡ t → cond t false (isRecords (p .part)) ≡ true → fromPlace p s ≡ Records s
-    go true q b = let z : _≡_ {A = ℕ} 0 1 = cc in absurd (omega arith)
+    go true q b = never (cc)
     go false q b =
         let z : p .skip ≡ 0 = omega (arith, ltb-false 0 (p .skip) q) in
         ap (λ (k : ℕ). pastBytes k (fromPart (p .part)) s) z ∙ past-none (fromPart (p .part)) s ∙ part-records (p .part) s b

@@ -8,6 +8,7 @@ use lib.Dec.{ltb, eqb}
 use lib.ListN.{length, take, drop, length-append, length-take, length-drop, List·getD-append}
 use lib.Seq.{drop-append-le, length-take-le}
 use borrow.Author.Tests.{le-ltb, ltb-false}
+use Rattle.lists.proofs.Absurd.{never}
 use Rattle.lists.proofs.Walks.{done}
 use Rattle.sam.specs.Record.{byteAt}
 use Rattle.blocks.specs.Fill.{First}
@@ -42,7 +43,7 @@ unfolding isBam
 long first e = go (ltb (length first) 4) refl e
   where
     go : (b : Bool) → ltb (length first) 4 ≡ b → cond b false (eqb (byteAt first 0) 66 && (eqb (byteAt first 1) 65 && (eqb (byteAt first 2) 77 && eqb (byteAt first 3) 1))) ≡ true → 4 ≤ length first
-    go true p f = let z : _≡_ {A = ℕ} 0 1 = cc in absurd (omega arith)
+    go true p f = never (cc)
     go false p f = ltb-false (length first) 4 p
 
 head-is : (first ys : List ℕ) → isBam first ≡ true → headOf (first ++ ys) ≡ texted (drop 4 first ++ ys)
@@ -84,7 +85,7 @@ module _ {s r : BamState} {block block' : List ℕ} (t : BamTurn s block r block
       go true e = (e, all true e refl)
       go false e =
           let p : Records (take (r .have) block') ≡ CutShort = sym (begun-records (s .place) (take (r .have) block') b) ∙ t .went .ends e in
-          let z : _≡_ {A = ℕ} 0 1 = cc in absurd (omega arith)
+          never (cc)
 
 -- the state behind the writes
 relieved-begun : (r : BamState) → isBegun (r .place) ≡ true → behindAll r ≡ record { place = r .place; have = r .have; used = r .have; failed = r .failed; ended = r .ended; marked = true }
@@ -152,7 +153,7 @@ stands : {read written block : List ℕ} {s : BamState} → BamRan read written 
 stands (starts {read} {block} {r} {p} g m next) =
     inside refl refl
     (λ ys. ap (λ (l : List ℕ). headOf (l ++ ys)) (sym (gathered g)) ∙ head-is (take (r .have) block) ys m ∙ sym (next (drop 4 (take (r .have) block) ++ ys)))
-    (λ e. let z : _≡_ {A = ℕ} 0 1 = cc in absurd (omega arith))
+    (λ e. never (cc))
 stands (turns {read} {written} {block} {block'} {s} {r} ran on t) = go (stands ran)
   where
     go : Stands read written s block → Stands (read ++ readIn s r block') (written ++ dueBytes r block') (behindAll r) block'
@@ -236,7 +237,7 @@ module _ {s s₁ s₂ : BamState} {block block₁ : List ℕ} (n : ℕ) (a : Bam
     read = a .read ++ readIn s s₁ block₁;
     written = a .written ++ dueBytes s₁ block₁;
     ran = subst (λ (q : BamState). BamRan (a .read ++ readIn s s₁ block₁) (a .written ++ dueBytes s₁ block₁) q block₁) (sym e) (turns (a .ran) (a .on) t);
-    last = λ h. let z : _≡_ {A = ℕ} 0 1 = cc in absurd (omega arith);
+    last = λ h. never (cc);
   }
 
 pub along-last : {s : BamState} {block : List ℕ} (n : ℕ) → 140737488355328 ≤ n → BamAlong n s block → BamCame s block

@@ -2,7 +2,7 @@
 -- what `blocks` says of a read, and that what is handed to `write_all` is written where it answers true.
 use Prim.Native.Nat.{ℕ, _+_, _-_, _≤_, _<_}
 use mathlib.Core.Path.{_≡_}
-use mathlib.Core.Bool.{Bool, true, false, cond}
+use mathlib.Core.Bool.{true, false, cond}
 use mathlib.Core.List.{List, [], _++_}
 use lib.ListN.{length, take, drop}
 use Rattle.blocks.specs.Fill.{Filled, Gathers, First}

@@ -6,11 +6,9 @@ use Prim.Native.Nat.{ℕ, _+_, _-_, _*_, _≤_, _<_, min}
 use native.Mathlib.Omega.{arith}
 use lib.Dec.{ltb, leb}
 use borrow.Author.Tests.{le-ltb, ltb-false, leb-true, leb-false, le-leb, lt-leb}
+use Rattle.lists.proofs.Absurd.{false-true}
 use Rattle.sam.specs.Text.{Digit, Digits, value}
 use Rattle.mate_rules.specs.Run.{isDigit, countsAs, pushOf}
-
-false-true : false ≡ true → ⊥
-false-true e = let z : _≡_ {A = ℕ} 0 1 = cc in omega arith
 
 -- ---- the test of a byte
 
@@ -18,7 +16,7 @@ pub digit-range : (b : ℕ) → isDigit b ≡ true → Digit b
 digit-range b e = go (ltb b 48) refl
   where
     go : (t : Bool) → ltb b 48 ≡ t → Digit b
-    go true q = absurd (false-true (rw q at e))
+    go true q = false-true ((rw q at e))
     go false q = record { least = ltb-false b 48 q; most = leb-true b 57 (rw q at e) }
 
 pub digit-test : (b : ℕ) → Digit b → isDigit b ≡ true

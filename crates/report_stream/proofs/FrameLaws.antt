@@ -9,6 +9,7 @@ use lib.Dec.{ltb, eqb}
 use lib.ListN.{length, take, drop, length-append, length-take, length-drop}
 use lib.Seq.{drop-append-le, take-append-le, drop-drop, take-take, length-take-le}
 use borrow.Author.Tests.{lt-ltb, le-ltb, ne-eqb, eqb-true, ltb-true, ltb-false}
+use Rattle.lists.proofs.Absurd.{never}
 use Rattle.lists.proofs.Walks.{done}
 use Rattle.sam.specs.Record.{le32}
 use Rattle.little_endian.proofs.FrontLaws.{front-number}
@@ -38,10 +39,10 @@ record-fits s size e = go (eqb (length s) 0) (ltb (length s) 4) refl (ltb 32768 
   where
     go : (a b : Bool) → ltb (length s) 4 ≡ b → (c : Bool) → ltb 32768 (le32 s 0) ≡ c → (d : Bool) → ltb (length s) (4 + le32 s 0) ≡ d
         → cond a End (cond b CutShort (cond c TooLong (cond d CutShort (Record (le32 s 0))))) ≡ Record size → Fits s size
-    go true b p c q d r f = let z : _≡_ {A = ℕ} 0 1 = cc in absurd (omega arith)
-    go false true p c q d r f = let z : _≡_ {A = ℕ} 0 1 = cc in absurd (omega arith)
-    go false false p true q d r f = let z : _≡_ {A = ℕ} 0 1 = cc in absurd (omega arith)
-    go false false p false q true r f = let z : _≡_ {A = ℕ} 0 1 = cc in absurd (omega arith)
+    go true b p c q d r f = never (cc)
+    go false true p c q d r f = never (cc)
+    go false false p true q d r f = never (cc)
+    go false false p false q true r f = never (cc)
     go false false p false q false r f =
         let g : le32 s 0 ≡ size = cc in
         record { whole = omega (arith, ltb-false (length s) (4 + le32 s 0) r); is = sym g; small = omega (arith, ltb-false 32768 (le32 s 0) q) }
@@ -56,10 +57,10 @@ next-more s ys size e =
 pub far-record : (whole : Bool) (n : NextFrame) (size : ℕ) → soFar whole n ≡ Record size → n ≡ Record size
 far-record true n size e = e
 far-record false (Record k) size e = e
-far-record false TooLong size e = let z : _≡_ {A = ℕ} 0 1 = cc in absurd (omega arith)
-far-record false CutShort size e = let z : _≡_ {A = ℕ} 0 1 = cc in absurd (omega arith)
-far-record false End size e = let z : _≡_ {A = ℕ} 0 1 = cc in absurd (omega arith)
-far-record false More size e = let z : _≡_ {A = ℕ} 0 1 = cc in absurd (omega arith)
+far-record false TooLong size e = never (cc)
+far-record false CutShort size e = never (cc)
+far-record false End size e = never (cc)
+far-record false More size e = never (cc)
 
 -- ---- where reading ends, and where it goes on
 
@@ -76,11 +77,11 @@ over-more s ys e = go (eqb (length s) 0) (ltb (length s) 4) refl (ltb 32768 (le3
 
     go : (a b : Bool) → ltb (length s) 4 ≡ b → (c : Bool) → ltb 32768 (le32 s 0) ≡ c → (d : Bool)
         → cond a End (cond b CutShort (cond c TooLong (cond d CutShort (Record (le32 s 0))))) ≡ TooLong → nextIn (s ++ ys) ≡ TooLong
-    go true b p c q d f = let z : _≡_ {A = ℕ} 0 1 = cc in absurd (omega arith)
-    go false true p c q d f = let z : _≡_ {A = ℕ} 0 1 = cc in absurd (omega arith)
+    go true b p c q d f = never (cc)
+    go false true p c q d f = never (cc)
     go false false p true q d f = more (ltb-false (length s) 4 p) (ltb-true 32768 (le32 s 0) q)
-    go false false p false q true f = let z : _≡_ {A = ℕ} 0 1 = cc in absurd (omega arith)
-    go false false p false q false f = let z : _≡_ {A = ℕ} 0 1 = cc in absurd (omega arith)
+    go false false p false q true f = never (cc)
+    go false false p false q false f = never (cc)
 
 -- the last lines are those of the stream, whatever follows the bytes at hand
 pub ends-there : (failed whole : Bool) (n : ℕ) (s ys : List ℕ) → (whole ≡ true → ys ≡ []) → goesOn (soFar whole (nextIn s)) ≡ false
@@ -91,16 +92,16 @@ ends-there failed whole n s ys f h = go whole f (nextIn s) refl h
     all e = sym (ap (λ (l : List ℕ). s ++ l) e ∙ append-nil s)
 
     go : (b : Bool) → (b ≡ true → ys ≡ []) → (w : NextFrame) → nextIn s ≡ w → goesOn (soFar b w) ≡ false → Reports failed n (s ++ ys) (closing (lastWord failed (soFar b w)) n)
-    go true f (Record k) e h = let z : _≡_ {A = ℕ} 0 1 = cc in absurd (omega arith)
+    go true f (Record k) e h = never (cc)
     go true f TooLong e h = Reports.over (over-more s ys e)
     go true f CutShort e h = subst (λ (l : List ℕ). Reports failed n l (closing CutShort n)) (all (f refl)) (Reports.short e)
     go true f End e h = subst (λ (l : List ℕ). Reports failed n l (closing (lastWord failed End) n)) (all (f refl)) (Reports.none e)
-    go true f More e h = let z : _≡_ {A = ℕ} 0 1 = cc in absurd (omega arith)
-    go false f (Record k) e h = let z : _≡_ {A = ℕ} 0 1 = cc in absurd (omega arith)
+    go true f More e h = never (cc)
+    go false f (Record k) e h = never (cc)
     go false f TooLong e h = Reports.over (over-more s ys e)
-    go false f CutShort e h = let z : _≡_ {A = ℕ} 0 1 = cc in absurd (omega arith)
-    go false f End e h = let z : _≡_ {A = ℕ} 0 1 = cc in absurd (omega arith)
-    go false f More e h = let z : _≡_ {A = ℕ} 0 1 = cc in absurd (omega arith)
+    go false f CutShort e h = never (cc)
+    go false f End e h = never (cc)
+    go false f More e h = never (cc)
 
 -- no more has to be read where all is at hand, or as much as the longest record takes
 pub no-more : (whole : Bool) (s : List ℕ) → (whole ≡ true) ⊎ (32772 ≤ length s) → soFar whole (nextIn s) ≡ More → ⊥
@@ -109,17 +110,17 @@ no-more whole s h e = go whole h (eqb (length s) 0) refl (ltb (length s) 4) refl
   where
     go : (w : Bool) → (w ≡ true) ⊎ (32772 ≤ length s) → (a : Bool) → eqb (length s) 0 ≡ a → (b : Bool) → ltb (length s) 4 ≡ b → (c : Bool) → ltb 32768 (le32 s 0) ≡ c
         → (d : Bool) → ltb (length s) (4 + le32 s 0) ≡ d → soFar w (cond a End (cond b CutShort (cond c TooLong (cond d CutShort (Record (le32 s 0)))))) ≡ More → ⊥
-    go true h true o b p c q d r f = let z : _≡_ {A = ℕ} 0 1 = cc in omega arith
-    go true h false o true p c q d r f = let z : _≡_ {A = ℕ} 0 1 = cc in omega arith
-    go true h false o false p true q d r f = let z : _≡_ {A = ℕ} 0 1 = cc in omega arith
-    go true h false o false p false q true r f = let z : _≡_ {A = ℕ} 0 1 = cc in omega arith
-    go true h false o false p false q false r f = let z : _≡_ {A = ℕ} 0 1 = cc in omega arith
-    go false (inl k) a o b p c q d r f = let z : _≡_ {A = ℕ} 0 1 = cc in omega arith
+    go true h true o b p c q d r f = never (cc)
+    go true h false o true p c q d r f = never (cc)
+    go true h false o false p true q d r f = never (cc)
+    go true h false o false p false q true r f = never (cc)
+    go true h false o false p false q false r f = never (cc)
+    go false (inl k) a o b p c q d r f = never (cc)
     go false (inr k) true o b p c q d r f = omega (arith, eqb-true (length s) 0 o)
     go false (inr k) false o true p c q d r f = omega (arith, ltb-true (length s) 4 p)
-    go false (inr k) false o false p true q d r f = let z : _≡_ {A = ℕ} 0 1 = cc in omega arith
+    go false (inr k) false o false p true q d r f = never (cc)
     go false (inr k) false o false p false q true r f = omega (arith, ltb-false 32768 (le32 s 0) q, ltb-true (length s) (4 + le32 s 0) r)
-    go false (inr k) false o false p false q false r f = let z : _≡_ {A = ℕ} 0 1 = cc in omega arith
+    go false (inr k) false o false p false q false r f = never (cc)
 
 -- ---- lines that were put
 
@@ -186,7 +187,7 @@ went-on {s} {whole = whole} {at = at} {r} w h e k = go (r .next) refl e (r .used
     go : (x : NextFrame) → r .next ≡ x → goesOn x ≡ true → (n : ℕ) → r .used ≡ n → 0 < n
     go x p q (suc n) u = omega arith
     go (Record size) p q zero u = let l = w .gone .earned (omega (arith, w .full size p)) in absurd (omega arith)
-    go TooLong p q zero u = let z : _≡_ {A = ℕ} 0 1 = cc in absurd (omega arith)
-    go CutShort p q zero u = let z : _≡_ {A = ℕ} 0 1 = cc in absurd (omega arith)
-    go End p q zero u = let z : _≡_ {A = ℕ} 0 1 = cc in absurd (omega arith)
+    go TooLong p q zero u = never (cc)
+    go CutShort p q zero u = never (cc)
+    go End p q zero u = never (cc)
     go More p q zero u = absurd (no-more whole s k (ap (λ (n : ℕ). soFar whole (nextIn (drop n s))) (sym u) ∙ sym (w .next) ∙ p))

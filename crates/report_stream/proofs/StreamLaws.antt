@@ -6,6 +6,7 @@ use mathlib.Core.Logic.{inl}
 use mathlib.Core.List.{List, _++_}
 use native.Mathlib.Omega.{arith}
 use lib.ListN.{length, take, drop, length-drop}
+use Rattle.lists.proofs.Absurd.{never}
 use Rattle.line_rules.specs.Line.{lineOf}
 use Rattle.report_stream.specs.Stream.{isMarked, nextIn, closing, lastWord, Reports, Reports.line, Reports.over, Reports.short, Reports.none, badInput, Prints}
 use Rattle.report_stream.specs.declared.NextFrame.{NextFrame}
@@ -18,20 +19,20 @@ reports-unique {failed} {n} {s} (Reports.line {size = a} {t = t} p x) (Reports.l
     let e : a ≡ b = cc in
     let y' : Reports failed (n + 1) (drop (4 + a) s) u = subst (λ (k : ℕ). Reports failed (n + 1) (drop (4 + k) s) u) (sym e) y in
     ap (λ (l : List ℕ). lineOf (n + 1) (take a (drop 4 s)) ++ l) (reports-unique x y') ∙ ap (λ (k : ℕ). lineOf (n + 1) (take k (drop 4 s)) ++ u) e
-reports-unique (Reports.line p x) (Reports.over q) = let z : _≡_ {A = ℕ} 0 1 = cc in absurd (omega arith)
-reports-unique (Reports.line p x) (Reports.short q) = let z : _≡_ {A = ℕ} 0 1 = cc in absurd (omega arith)
-reports-unique (Reports.line p x) (Reports.none q) = let z : _≡_ {A = ℕ} 0 1 = cc in absurd (omega arith)
-reports-unique (Reports.over p) (Reports.line q y) = let z : _≡_ {A = ℕ} 0 1 = cc in absurd (omega arith)
+reports-unique (Reports.line p x) (Reports.over q) = never (cc)
+reports-unique (Reports.line p x) (Reports.short q) = never (cc)
+reports-unique (Reports.line p x) (Reports.none q) = never (cc)
+reports-unique (Reports.over p) (Reports.line q y) = never (cc)
 reports-unique (Reports.over p) (Reports.over q) = refl
-reports-unique (Reports.over p) (Reports.short q) = let z : _≡_ {A = ℕ} 0 1 = cc in absurd (omega arith)
-reports-unique (Reports.over p) (Reports.none q) = let z : _≡_ {A = ℕ} 0 1 = cc in absurd (omega arith)
-reports-unique (Reports.short p) (Reports.line q y) = let z : _≡_ {A = ℕ} 0 1 = cc in absurd (omega arith)
-reports-unique (Reports.short p) (Reports.over q) = let z : _≡_ {A = ℕ} 0 1 = cc in absurd (omega arith)
+reports-unique (Reports.over p) (Reports.short q) = never (cc)
+reports-unique (Reports.over p) (Reports.none q) = never (cc)
+reports-unique (Reports.short p) (Reports.line q y) = never (cc)
+reports-unique (Reports.short p) (Reports.over q) = never (cc)
 reports-unique (Reports.short p) (Reports.short q) = refl
-reports-unique (Reports.short p) (Reports.none q) = let z : _≡_ {A = ℕ} 0 1 = cc in absurd (omega arith)
-reports-unique (Reports.none p) (Reports.line q y) = let z : _≡_ {A = ℕ} 0 1 = cc in absurd (omega arith)
-reports-unique (Reports.none p) (Reports.over q) = let z : _≡_ {A = ℕ} 0 1 = cc in absurd (omega arith)
-reports-unique (Reports.none p) (Reports.short q) = let z : _≡_ {A = ℕ} 0 1 = cc in absurd (omega arith)
+reports-unique (Reports.short p) (Reports.none q) = never (cc)
+reports-unique (Reports.none p) (Reports.line q y) = never (cc)
+reports-unique (Reports.none p) (Reports.over q) = never (cc)
+reports-unique (Reports.none p) (Reports.short q) = never (cc)
 reports-unique (Reports.none p) (Reports.none q) = refl
 
 -- a text that the definition admits

@@ -9,6 +9,7 @@ use lib.Dec.{ltb, leb, eqb}
 use lib.ListN.{length, take, drop, length-append, length-drop, take-append-drop, List·getD-append}
 use lib.Seq.{take-take, length-take-le, drop-append-le}
 use borrow.Author.Tests.{le-ltb, ltb-false, leb-true}
+use Rattle.lists.proofs.Absurd.{never}
 use Rattle.sam.specs.Record.{byteAt, le16}
 use Rattle.blocks.specs.Fill.{Gathers, First}
 use Rattle.blocks.specs.declared.Read.{Read}
@@ -94,7 +95,7 @@ unfolding isMarked
 long head e = go (ltb (length head) 5) refl e
   where
     go : (b : Bool) → ltb (length head) 5 ≡ b → cond b false (eqb (byteAt head 0) 67 && (eqb (byteAt head 1) 71 && (eqb (byteAt head 2) 82 && eqb (le16 head 3) 1))) ≡ true → 5 ≤ length head
-    go true p f = let z : _≡_ {A = ℕ} 0 1 = cc in absurd (omega arith)
+    go true p f = never (cc)
     go false p f = ltb-false (length head) 5 p
 
 module _ {read block : List ℕ} {r : Read} (g : Gathers read r block) (m : isMarked (take (r .have) block) ≡ true) where
@@ -126,7 +127,7 @@ so-far (turns {read} {written} {block₁ = block₁} {out₁ = out₁} {s = s} {
 -- at the end: where a read gave nothing, nothing follows
 pub printed : {read written block out : List ℕ} {s : State} → Ran read written s block out → s .going ≡ false → (ys : List ℕ) → (s .whole ≡ true → ys ≡ [])
     → Reports (s .failed) 0 (drop 5 (read ++ ys)) written
-printed (starts g m moved) e ys none = let z : _≡_ {A = ℕ} 0 1 = cc in absurd (omega arith)
+printed (starts g m moved) e ys none = never (cc)
 printed (turns {read} {written} {block₁ = block₁} {out = out} {out₁} {s} {s₁} {s₂} ran on f w) e ys none =
     subst (λ (b : Bool). Reports b 0 (drop 5 (read ++ readBehind s s₁ block₁ ++ ys)) (written ++ take (dueOf s₂) out₁)) (sym (w .same .1))
     (subst (λ (l : List ℕ). Reports (s₁ .failed) 0 (drop 5 l) (written ++ take (dueOf s₂) out₁)) (sym (append-assoc read (readBehind s s₁ block₁) ys))
@@ -177,7 +178,7 @@ module _ {s s₁ s₂ r : State} {block block₁ block₂ out out₁ : List ℕ}
     read = a .read ++ readBehind s s₁ block₁;
     written = a .written ++ take (dueOf s₂) out₁;
     ran = subst (λ (q : State). Ran (a .read ++ readBehind s s₁ block₁) (a .written ++ take (dueOf s₂) out₁) q block₂ out₁) (sym e) (turns (a .ran) (a .on) f w);
-    last = λ h. let z : _≡_ {A = ℕ} 0 1 = cc in absurd (omega arith);
+    last = λ h. never (cc);
   }
 
 pub along-last : {s : State} {block out : List ℕ} (n : ℕ) → 140737488355328 ≤ n → Along n s block out → Came s block out

@@ -7,6 +7,7 @@ use mathlib.Core.List.{List, _++_}
 use native.Mathlib.Omega.{arith}
 use lib.ListN.{length, take, drop, length-take}
 use lib.Seq.{take-take, take-append-le, drop-append-le, length-take-le}
+use Rattle.lists.proofs.Absurd.{never}
 use Rattle.blocks.proofs.BlockLaws.{drop-take, fill-more, fill-some}
 use Rattle.put_text.specs.Puts.{Put}
 use Rattle.report_stream.specs.Stream.{closing, lastWord, Reports}
@@ -51,7 +52,7 @@ module _ (s : State) (block out : List ℕ) (w : Block) (out₁ : List ℕ) (wen
         same = (refl, refl);
         uses = λ e k. omega (arith, within, went-on went low on (at-hand k));
         goes = λ e failed ys t p. g .lines failed ys t (subst (λ (l : List ℕ). Reports failed (w .records) (l ++ ys) t) (moved ∙ sym (drop-take (w .used) (s .have) block)) p);
-        ends = λ e. let z : _≡_ {A = ℕ} 0 1 = cc in absurd (omega arith);
+        ends = λ e. never (cc);
       }
     where
       at-hand : Enough s → (s .whole ≡ true) ⊎ (32772 ≤ length (take (s .have) block))
@@ -68,8 +69,8 @@ module _ (s : State) (block out : List ℕ) (w : Block) (out₁ : List ℕ) (wen
       let m : take end out₂ ≡ take (w .put) out₁ ++ last = ap (λ (k : ℕ). take k out₂) (p .next) ∙ p .head in record {
         kept = ap (take (s .put)) m ∙ take-append-le (s .put) (take (w .put) out₁) last (omega arith) ∙ take-take (s .put) (w .put) out₁ b ∙ g .kept;
         same = (refl, refl);
-        uses = λ e. let z : _≡_ {A = ℕ} 0 1 = cc in absurd (omega arith);
-        goes = λ e. let z : _≡_ {A = ℕ} 0 1 = cc in absurd (omega arith);
+        uses = λ e. never (cc);
+        goes = λ e. never (cc);
         ends = λ e ys none.
             subst (λ (l : List ℕ). Reports (s .failed) (s .records) (take (s .have) block ++ ys) l)
             (sym (ap (drop (s .put)) m ∙ drop-append-le (s .put) (take (w .put) out₁) last (omega arith)))

@@ -1,9 +1,10 @@
 -- The lent memory stays as long as it was, and the program ran so far.
-use Prim.Native.Nat.{ℕ, _-_, _≤_}
+use Prim.Native.Nat.{_-_, _≤_}
 use mathlib.Core.Path.{_≡_}
 use native.Mathlib.Omega.{arith}
 use lib.ListN.{length}
 use borrow.Author.Tests.{not-true, not-false}
+use Rattle.lists.proofs.Absurd.{never}
 use Rattle.bam_turns.proofs.RunLaws.{BamAlong, along-start, along-on, along-off, along-last}
 use Rattle.bam_to_cgr.proofs.convert.Statement.{statement}
 use Rattle.bam_to_cgr.proofs.convert.Tie as tie
@@ -30,7 +31,7 @@ same-length : tie.Need-same-length Inv-loop μ-loop
 same-length c = let t = c .before .before .before .before .before .before in omega (arith, t)
 
 returns : tie.Need-returns Inv-loop μ-loop
-returns c = λ e. let h = not-true (c .before .before .write-due .result .ok) (c .if1 .taken) in let z : _≡_ {A = ℕ} 0 1 = cc in absurd (omega arith)
+returns c = λ e. let h = not-true (c .before .before .write-due .result .ok) (c .if1 .taken) in never (cc)
 
 same-length-2 : tie.Need-same-length-2 Inv-loop μ-loop
 same-length-2 c = let t = c .before .before .before .before .before .before .before .before in omega (arith, t)

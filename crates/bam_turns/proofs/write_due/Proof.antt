@@ -1,10 +1,10 @@
 -- The mark is handed over once, before what is left.
-use Prim.Native.Nat.{ℕ}
 use mathlib.Core.Path.{_≡_, sym, ap, _∙_}
 use mathlib.Core.Bool.{true}
 use native.Mathlib.Omega.{arith}
 use borrow.Author.Tests.{not-true, not-false}
 use borrow.Author.Needs.{needs}
+use Rattle.lists.proofs.Absurd.{never}
 use Rattle.bam_header.specs.Inner.{isBegun}
 use Rattle.bam_turns.specs.Run.{behindOf}
 use Rattle.bam_turns.specs.declared.BamState.{BamState}
@@ -39,7 +39,7 @@ write-requires : tie.Need-write-requires
 write-requires c κs = let m = c .before in (begins (m .before .before), simp (m .before .if2 .left) (m .mark .ensures))
 
 returns-3 : tie.Need-returns-3
-returns-3 c = λ e. let h = not-true (c .before .before .write .result .ok) (c .if3 .taken) in let z : _≡_ {A = ℕ} 0 1 = cc in absurd (omega arith)
+returns-3 c = λ e. let h = not-true (c .before .before .write .result .ok) (c .if3 .taken) in never (cc)
 
 write-left-requires-2 : tie.Need-write-left-requires-2
 write-left-requires-2 c κs =

@@ -1,10 +1,11 @@
 -- The lent memory stays as long as it was, a turn counts no more records than it has bytes at hand, and the program ran so far.
-use Prim.Native.Nat.{ℕ, _*_, _-_, _≤_}
+use Prim.Native.Nat.{_*_, _-_, _≤_}
 use mathlib.Core.Path.{_≡_, ap}
 use native.Mathlib.Omega.{arith}
 use lib.ListN.{length, take}
 use lib.Seq.{length-take-le}
 use borrow.Author.Tests.{not-true, not-false}
+use Rattle.lists.proofs.Absurd.{never}
 use Rattle.report_turns.specs.declared.State.{State}
 use Rattle.report_turns.proofs.TurnLaws.{grown}
 use Rattle.report_turns.proofs.RunLaws.{long, Along, along-start, along-on, along-off, along-last}
@@ -71,7 +72,7 @@ same-length-2 : tie.Need-same-length-2 Inv-loop μ-loop
 same-length-2 c = let t = c .before .before .before .before .before .before .before .before in omega (arith, t)
 
 returns : tie.Need-returns Inv-loop μ-loop
-returns c = λ e. let h = not-true (c .before .before .write-due .result .ok) (c .if1 .taken) in let z : _≡_ {A = ℕ} 0 1 = cc in absurd (omega arith)
+returns c = λ e. let h = not-true (c .before .before .write-due .result .ok) (c .if1 .taken) in never (cc)
 
 same-length-3 : tie.Need-same-length-3 Inv-loop μ-loop
 same-length-3 c = let t = c .before .before .before .before .before .before .before .before .before .before .before in omega (arith, t)
