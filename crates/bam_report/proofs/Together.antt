@@ -8,7 +8,7 @@ use lib.ListN.{length, drop}
 use borrow.Author.Tests.{le-ltb}
 use Rattle.bam_header.specs.Header.{Head, Head.Records, Head.CutShort, Head.NotBam, headOf}
 use Rattle.bam_header.specs.Converted.{cgrMark, converted}
-use Rattle.report_stream.specs.Stream.{isMarked, Reports, badInput, Prints}
+use Rattle.stream_rules.specs.Stream.{isMarked, Reports, badInput, Prints}
 use Rattle.bam_report.specs.Reported.{Reported}
 
 mark-first : (s : List ℕ) → isMarked (cgrMark ++ s) ≡ true

@@ -4,7 +4,7 @@ use mathlib.Core.Path.{_≡_}
 use mathlib.Core.Bool.{false}
 use mathlib.Core.List.{List}
 use Rattle.bam_header.specs.Header.{Head, Head.Records, Head.CutShort, Head.NotBam}
-use Rattle.report_stream.specs.Stream.{Reports, badInput}
+use Rattle.stream_rules.specs.Stream.{Reports, badInput}
 
 abbrev pub Reported : Head → List ℕ → Type 0
 Reported (Records s) t = Reports false 0 s t

@@ -4,7 +4,7 @@ ghost use mathlib.Core.Path.{_≡_};
 ghost use mathlib.Core.Bool.{true, false};
 ghost use lib.ListN.{length, take};
 ghost use Rattle.blocks.specs.Fill.{First};
-ghost use Rattle.report_stream.specs.Stream.{isMarked, badInput};
+ghost use Rattle.stream_rules.specs.Stream.{isMarked, badInput};
 ghost use Rattle.report_turns.specs.Run.{begun, Came};
 use blocks::Read;
 use report_turns::Behind;

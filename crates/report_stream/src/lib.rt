@@ -3,31 +3,16 @@ ghost use mathlib.Core.Path.{_≡_};
 ghost use Prim.Native.Nat.{_+_, _≤_};
 ghost use lib.ListN.{length};
 ghost use Rattle.put_text.specs.Puts.{Put};
-ghost use Rattle.report_stream.specs.Stream.{isMarked, nextIn, soFar, closing, closingWord};
-ghost use Rattle.report_stream.specs.Inner.{Went, goesOn};
+ghost use Rattle.stream_rules.specs.Stream.{isMarked, nextIn, soFar, closing, closingWord};
+ghost use Rattle.stream_rules.specs.Inner.{Went, goesOn};
+use stream_rules::Block;
+use stream_rules::NextFrame;
 
 // The most bytes of a record.
 pub const MOST_BYTES: u32 = 32768;
 
 // The most bytes that output holds where one more line may be put behind them.
 pub const FULL: usize = 65280;
-
-// What comes next in a stream: a record of so many bytes behind its size, one of the ways to end, or more of it has to be read first.
-pub enum NextFrame {
-    Record(usize),
-    TooLong,
-    CutShort,
-    End,
-    More,
-}
-
-// How far a block of input went: the bytes used, the records in all, the bytes of output, and what comes next.
-pub struct Block {
-    pub used: usize,
-    pub records: u64,
-    pub put: usize,
-    pub next: NextFrame,
-}
 
 // Whether a stream begins with its mark and version.
 pub fn marked(s: &[u8]) -> bool

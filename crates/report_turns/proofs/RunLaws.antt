@@ -1,20 +1,20 @@
 -- Whatever sizes the reads have, what a run has written at its end is what is printed of what it read: turn by turn, whatever follows.
 use Prim.Native.Nat.{ℕ, _+_, _-_, _*_, _≤_, _<_}
 use mathlib.Core.Path.{_≡_, refl, sym, ap, _∙_, subst}
-use mathlib.Core.Bool.{Bool, true, false, cond, _&&_}
+use mathlib.Core.Bool.{Bool, true, false, cond}
 use mathlib.Core.Logic.{_⊎_, inl, inr}
 use mathlib.Core.List.{List, [], _++_, append-nil, append-assoc}
 use native.Mathlib.Omega.{arith}
-use lib.Dec.{ltb, leb, eqb}
-use lib.ListN.{length, take, drop, length-append, length-drop, take-append-drop, List·getD-append}
+use lib.Dec.{leb}
+use lib.ListN.{length, take, drop, length-append, length-drop, take-append-drop}
 use lib.Seq.{take-take, length-take-le, drop-append-le}
-use borrow.Author.Tests.{le-ltb, ltb-false, leb-true}
+use borrow.Author.Tests.{leb-true}
 use Rattle.lists.proofs.Absurd.{never}
-use Rattle.sam.specs.Record.{byteAt, le16}
 use Rattle.blocks.specs.Fill.{Gathers, First}
 use Rattle.blocks.specs.declared.Read.{Read}
 use Rattle.blocks.proofs.BlockLaws.{drop-take, gathered}
-use Rattle.report_stream.specs.Stream.{isMarked, Reports, badInput, Prints}
+use Rattle.stream_rules.proofs.MarkLaws.{same-mark, long}
+use Rattle.stream_rules.specs.Stream.{isMarked, Reports, badInput, Prints}
 use Rattle.report_turns.specs.Run.{atHand, waiting, begun, Refilled, readBehind, Turned, added, dueOf, relievedOf, Ran, Ran.starts, Ran.turns, Came}
 use Rattle.report_turns.specs.declared.State.{State}
 use Rattle.report_turns.proofs.TurnLaws.{grown}
@@ -74,29 +74,6 @@ module _ {s s₁ s₂ : State} {block block₁ block₂ out out₁ : List ℕ} (
       ∙ sym (append-assoc written (take (dueOf s₂) out₁) (waiting (relievedOf s₂) out₁ ++ t))
 
 -- ---- the mark
-
--- it is told by the first five bytes
-same-mark : (head ys : List ℕ) → 5 ≤ length head → isMarked (head ++ ys) ≡ isMarked head
-unfolding isMarked
-same-mark head ys h =
-    let l = length-append head ys in
-    simp (
-      le-ltb (length (head ++ ys)) 5 (omega arith),
-      le-ltb (length head) 5 h,
-      List·getD-append head ys 0 0 (omega arith),
-      List·getD-append head ys 0 1 (omega arith),
-      List·getD-append head ys 0 2 (omega arith),
-      List·getD-append head ys 0 3 (omega arith),
-      List·getD-append head ys 0 (3 + 1) (omega arith),
-    )
-
-pub long : (head : List ℕ) → isMarked head ≡ true → 5 ≤ length head
-unfolding isMarked
-long head e = go (ltb (length head) 5) refl e
-  where
-    go : (b : Bool) → ltb (length head) 5 ≡ b → cond b false (eqb (byteAt head 0) 67 && (eqb (byteAt head 1) 71 && (eqb (byteAt head 2) 82 && eqb (le16 head 3) 1))) ≡ true → 5 ≤ length head
-    go true p f = never (cc)
-    go false p f = ltb-false (length head) 5 p
 
 module _ {read block : List ℕ} {r : Read} (g : Gathers read r block) (m : isMarked (take (r .have) block) ≡ true) where
   mark-first : 5 ≤ length read

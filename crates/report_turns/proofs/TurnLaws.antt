@@ -10,11 +10,11 @@ use lib.Seq.{take-take, take-append-le, drop-append-le, length-take-le}
 use Rattle.lists.proofs.Absurd.{never}
 use Rattle.blocks.proofs.BlockLaws.{drop-take, fill-more, fill-some}
 use Rattle.put_text.specs.Puts.{Put}
-use Rattle.report_stream.specs.Stream.{closing, lastWord, Reports}
-use Rattle.report_stream.specs.Inner.{Went, goesOn}
-use Rattle.report_stream.specs.declared.NextFrame.{NextFrame}
-use Rattle.report_stream.specs.declared.Block.{Block}
-use Rattle.report_stream.proofs.FrameLaws.{ends-there, went-on}
+use Rattle.stream_rules.specs.Stream.{closing, lastWord, Reports}
+use Rattle.stream_rules.specs.Inner.{Went, goesOn}
+use Rattle.stream_rules.specs.declared.NextFrame.{NextFrame}
+use Rattle.stream_rules.specs.declared.Block.{Block}
+use Rattle.stream_rules.proofs.FrameLaws.{ends-there, went-on}
 use Rattle.report_turns.specs.Run.{atHand, Enough, Refilled, Refilled.enough, Refilled.reads, Turned}
 use Rattle.report_turns.specs.declared.State.{State}
 

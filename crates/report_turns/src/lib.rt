@@ -2,9 +2,9 @@
 ghost use mathlib.Core.Path.{_≡_};
 ghost use Prim.Native.Nat.{_+_, _≤_, _<_};
 ghost use lib.ListN.{length, take};
-ghost use Rattle.report_stream.specs.Stream.{lastWord};
+ghost use Rattle.stream_rules.specs.Stream.{lastWord};
 ghost use Rattle.report_turns.specs.Run.{Refilled, Turned, dueOf, relievedOf};
-use report_stream::NextFrame;
+use stream_rules::NextFrame;
 
 // The most bytes that a record and its size take: with so many at hand none has to be read.
 const ENOUGH: usize = 32772;

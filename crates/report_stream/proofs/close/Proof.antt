@@ -1,6 +1,6 @@
 -- Word behind word.
 use native.Mathlib.Omega.{arith}
-use Rattle.report_stream.specs.Stream.{closing, recordsLine}
+use Rattle.stream_rules.specs.Stream.{closing, recordsLine}
 use Rattle.put_text.proofs.PutLaws.{put-then}
 use borrow.Author.Needs.{needs}
 use Rattle.report_stream.proofs.close.Statement.{statement}

@@ -1,6 +1,6 @@
 -- What the two calls ensure.
 use mathlib.Core.Path.{ap, _∙_}
-use Rattle.report_stream.specs.Stream.{soFar}
+use Rattle.stream_rules.specs.Stream.{soFar}
 use borrow.Author.Needs.{needs}
 use Rattle.report_stream.proofs.comes_next.Statement.{statement}
 use Rattle.report_stream.proofs.comes_next.Tie as tie

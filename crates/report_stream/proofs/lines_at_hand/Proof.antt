@@ -10,10 +10,10 @@ use lib.Seq.{take-all}
 use types.Run.{OneOf}
 use Rattle.line_rules.specs.Line.{lineOf}
 use Rattle.put_text.proofs.PutLaws.{put-as}
-use Rattle.report_stream.specs.Stream.{nextIn, soFar}
-use Rattle.report_stream.specs.Inner.{Gone}
-use Rattle.report_stream.specs.declared.NextFrame.the-variants.{Record}
-use Rattle.report_stream.proofs.FrameLaws.{far-record, gone-start, gone-turn, record-in}
+use Rattle.stream_rules.specs.Stream.{nextIn, soFar}
+use Rattle.stream_rules.specs.Inner.{Gone}
+use Rattle.stream_rules.specs.declared.NextFrame.the-variants.{Record}
+use Rattle.stream_rules.proofs.FrameLaws.{far-record, gone-start, gone-turn, record-in}
 use Rattle.report_stream.proofs.lines_at_hand.Statement.{statement}
 use Rattle.report_stream.proofs.lines_at_hand.Tie as tie
 

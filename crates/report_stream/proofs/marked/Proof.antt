@@ -3,7 +3,7 @@ use Prim.Native.Nat.{ℕ}
 use mathlib.Core.Path.{ap}
 use lib.Dec.{eqb}
 use borrow.Author.Tests.{lt-ltb, le-ltb, eq-eqb, ne-eqb}
-use Rattle.report_stream.specs.Stream.{isMarked}
+use Rattle.stream_rules.specs.Stream.{isMarked}
 use borrow.Author.Needs.{needs}
 use Rattle.report_stream.proofs.marked.Statement.{statement}
 use Rattle.report_stream.proofs.marked.Tie as tie

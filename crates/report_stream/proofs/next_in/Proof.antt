@@ -5,8 +5,8 @@ use native.Mathlib.Omega.{arith}
 use lib.ListN.{length}
 use borrow.Author.Tests.{lt-ltb, le-ltb, eq-eqb, ne-eqb}
 use Rattle.sam.specs.Record.{le32}
-use Rattle.report_stream.specs.Stream.{nextIn}
-use Rattle.report_stream.proofs.FrameLaws.{next-record}
+use Rattle.stream_rules.specs.Stream.{nextIn}
+use Rattle.stream_rules.proofs.FrameLaws.{next-record}
 use borrow.Author.Needs.{needs}
 use Rattle.report_stream.proofs.next_in.Statement.{statement}
 use Rattle.report_stream.proofs.next_in.Tie as tie

@@ -1,7 +1,7 @@
 -- By cases.
 use mathlib.Core.Path.{refl, sym, ap}
 use native.Mathlib.Omega.{arith}
-use Rattle.report_stream.specs.Stream.{closingWord}
+use Rattle.stream_rules.specs.Stream.{closingWord}
 use Rattle.put_text.proofs.PutLaws.{put-as, put-none}
 use borrow.Author.Needs.{needs}
 use Rattle.report_stream.proofs.put_word.Statement.{statement}

@@ -5,8 +5,8 @@ use native.Mathlib.Omega.{arith}
 use lib.ListN.{length-take}
 use borrow.Author.Tests.{not-true, not-false}
 use Rattle.put_text.proofs.PutLaws.{put-as}
-use Rattle.report_stream.specs.Stream.{closing}
-use Rattle.report_stream.specs.declared.NextFrame.{NextFrame}
+use Rattle.stream_rules.specs.Stream.{closing}
+use Rattle.stream_rules.specs.declared.NextFrame.{NextFrame}
 use Rattle.report_turns.proofs.TurnLaws.{within, turned-on, turned-off}
 use borrow.Author.Needs.{needs}
 use Rattle.report_turns.proofs.turn.Statement.{statement}

@@ -1,2 +1,3 @@
 pub mod FrameLaws
 pub mod StreamLaws
+pub mod MarkLaws

@@ -4,10 +4,10 @@ use mathlib.Core.Path.{_≡_}
 use mathlib.Core.Bool.{Bool, true, false}
 use mathlib.Core.List.{List, _++_}
 use lib.ListN.{length, take, drop}
-use Rattle.report_stream.specs.Stream.{nextIn, soFar, Reports}
-use Rattle.report_stream.specs.declared.NextFrame.{NextFrame}
-use Rattle.report_stream.specs.declared.NextFrame.the-variants.{Record, TooLong, CutShort, End, More}
-use Rattle.report_stream.specs.declared.Block.{Block}
+use Rattle.stream_rules.specs.Stream.{nextIn, soFar, Reports}
+use Rattle.stream_rules.specs.declared.NextFrame.{NextFrame}
+use Rattle.stream_rules.specs.declared.NextFrame.the-variants.{Record, TooLong, CutShort, End, More}
+use Rattle.stream_rules.specs.declared.Block.{Block}
 
 -- Of bytes s at hand so many are used, and their records' lines are put from place at on: whatever follows s, and whatever t is printed of the rest,
 -- these lines and t are printed of s and what follows.

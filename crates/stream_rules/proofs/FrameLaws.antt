@@ -15,11 +15,11 @@ use Rattle.sam.specs.Record.{le32}
 use Rattle.little_endian.proofs.FrontLaws.{front-number}
 use Rattle.line_rules.specs.Line.{lineOf}
 use Rattle.put_text.specs.Puts.{Put}
-use Rattle.report_stream.specs.Stream.{nextIn, soFar, closing, lastWord, Reports, Reports.line, Reports.over, Reports.short, Reports.none}
-use Rattle.report_stream.specs.Inner.{Gone, Went, goesOn}
-use Rattle.report_stream.specs.declared.NextFrame.{NextFrame}
-use Rattle.report_stream.specs.declared.NextFrame.the-variants.{Record, TooLong, CutShort, End, More}
-use Rattle.report_stream.specs.declared.Block.{Block}
+use Rattle.stream_rules.specs.Stream.{nextIn, soFar, closing, lastWord, Reports, Reports.line, Reports.over, Reports.short, Reports.none}
+use Rattle.stream_rules.specs.Inner.{Gone, Went, goesOn}
+use Rattle.stream_rules.specs.declared.NextFrame.{NextFrame}
+use Rattle.stream_rules.specs.declared.NextFrame.the-variants.{Record, TooLong, CutShort, End, More}
+use Rattle.stream_rules.specs.declared.Block.{Block}
 
 -- ---- a record that is next
 

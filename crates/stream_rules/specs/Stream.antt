@@ -9,8 +9,8 @@ use lib.ListN.{length, take, drop}
 use Rattle.sam.specs.Record.{byteAt, le16, le32}
 use Rattle.decimal.specs.Decimal.{decimal}
 use Rattle.line_rules.specs.Line.{lineOf}
-use Rattle.report_stream.specs.declared.NextFrame.{NextFrame}
-use Rattle.report_stream.specs.declared.NextFrame.the-variants.{Record, TooLong, CutShort, End, More}
+use Rattle.stream_rules.specs.declared.NextFrame.{NextFrame}
+use Rattle.stream_rules.specs.declared.NextFrame.the-variants.{Record, TooLong, CutShort, End, More}
 
 -- "`CGR`, version 1 as a little-endian u16"
 unfoldable pub isMarked : List ℕ → Bool

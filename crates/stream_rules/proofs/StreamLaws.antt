@@ -8,10 +8,10 @@ use native.Mathlib.Omega.{arith}
 use lib.ListN.{length, take, drop, length-drop}
 use Rattle.lists.proofs.Absurd.{never}
 use Rattle.line_rules.specs.Line.{lineOf}
-use Rattle.report_stream.specs.Stream.{isMarked, nextIn, closing, lastWord, Reports, Reports.line, Reports.over, Reports.short, Reports.none, badInput, Prints}
-use Rattle.report_stream.specs.declared.NextFrame.{NextFrame}
-use Rattle.report_stream.specs.declared.NextFrame.the-variants.{Record, TooLong, CutShort, End, More}
-use Rattle.report_stream.proofs.FrameLaws.{record-fits, no-more}
+use Rattle.stream_rules.specs.Stream.{isMarked, nextIn, closing, lastWord, Reports, Reports.line, Reports.over, Reports.short, Reports.none, badInput, Prints}
+use Rattle.stream_rules.specs.declared.NextFrame.{NextFrame}
+use Rattle.stream_rules.specs.declared.NextFrame.the-variants.{Record, TooLong, CutShort, End, More}
+use Rattle.stream_rules.proofs.FrameLaws.{record-fits, no-more}
 
 -- two texts that the definition admits are the same
 pub reports-unique : {failed : Bool} {n : ℕ} {s t u : List ℕ} → Reports failed n s t → Reports failed n s u → t ≡ u
