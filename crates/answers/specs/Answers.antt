@@ -13,6 +13,10 @@ use Rattle.answers.specs.declared.Count.{Count}
 use Rattle.answers.specs.declared.Count.the-variants as Count
 use Rattle.answers.specs.declared.Flag.{Flag}
 use Rattle.answers.specs.declared.Flag.the-variants as Flag
+use Rattle.answers.specs.declared.Place0.{Place0}
+use Rattle.answers.specs.declared.Place0.the-variants as Place0
+use Rattle.answers.specs.declared.Place1.{Place1}
+use Rattle.answers.specs.declared.Place1.the-variants as Place1
 
 abbrev pub numberOf : Refusal → ℕ
 numberOf ShortRecord = 1
@@ -62,3 +66,22 @@ tellCount (Count.Refused r) = refused r
 abbrev pub tellFlag : Flag → Told
 tellFlag (Flag.Is b) = answered (flagValue b ∷ [])
 tellFlag (Flag.Refused r) = refused r
+
+-- a place as a plain number; one that its call always finds is told so
+abbrev pub bare0 : Place0 → Int
+bare0 (Place0.At p) = Int.Number (p .0)
+bare0 (Place0.Refused r) = Int.Refused r
+
+abbrev pub bare1 : Place1 → Int
+bare1 (Place1.At p) = Int.Number (p .0)
+bare1 Place1.Nothing = Int.Number (pos 0)
+bare1 (Place1.Refused r) = Int.Refused r
+
+abbrev pub tellPlace0 : Place0 → Told
+tellPlace0 p = tellInt (bare0 p)
+
+-- a place that may be none
+abbrev pub tellPlace1 : Place1 → Told
+tellPlace1 (Place1.At p) = answered (some (p .0))
+tellPlace1 Place1.Nothing = answered none
+tellPlace1 (Place1.Refused r) = refused r

@@ -1,6 +1,6 @@
 // What calls answer: a value, "none", or the refusal. Document 01, "Numbers and their bounds".
 ghost use mathlib.Core.Path.{_≡_};
-ghost use Rattle.answers.specs.Answers.{numberOf};
+ghost use Rattle.answers.specs.Answers.{numberOf, bare0, bare1};
 
 // Why a call answers no value: one variant for each of the ten numbers, in their order.
 pub enum Refusal {
@@ -46,6 +46,19 @@ pub struct Pos0(pub i32);
 // A position as answers have it, counted from 1.
 pub struct Pos1(pub i32);
 
+// A position, counted from 0.
+pub enum Place0 {
+    At(Pos0),
+    Refused(Refusal),
+}
+
+// A position, counted from 1, or none.
+pub enum Place1 {
+    At(Pos1),
+    Nothing,
+    Refused(Refusal),
+}
+
 // Document 01's number of a refusal.
 pub fn number(why: Refusal) -> u32
     ensures { λ r. ⌜ r ≡ numberOf why ⌝ }
@@ -61,5 +74,26 @@ pub fn number(why: Refusal) -> u32
         Refusal::TooLong => 8,
         Refusal::BadStart => 9,
         Refusal::BadLength => 10,
+    }
+}
+
+// A place as a plain number.
+pub fn bare0(place: Place0) -> Int
+    ensures { λ r. ⌜ r ≡ bare0 place ⌝ }
+{
+    match place {
+        Place0::At(p) => Int::Number(p.0),
+        Place0::Refused(why) => Int::Refused(why),
+    }
+}
+
+// The same; none is 0.
+pub fn bare1(place: Place1) -> Int
+    ensures { λ r. ⌜ r ≡ bare1 place ⌝ }
+{
+    match place {
+        Place1::At(p) => Int::Number(p.0),
+        Place1::Nothing => Int::Number(0),
+        Place1::Refused(why) => Int::Refused(why),
     }
 }

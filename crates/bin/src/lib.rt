@@ -8,6 +8,7 @@ ghost use Rattle.bin.specs.Bin.{shr, binOf, low16, reg2bin, spanOf, binF
 ghost use Rattle.answers.specs.declared.Int.the-variants.{Number};
 use answers::Int;
 use answers::Nat;
+use answers::Pos0;
 use answers::Refusal;
 use signed::Sum;
 
@@ -67,11 +68,11 @@ fn bin_of(beg: i32, last: i32) -> u32
 }
 
 // The bin of the region from beg to before end. Refusal 4.
-pub fn reg2bin(beg: i32, end: i32) -> Nat
-    ensures { λ r. ⌜ r ≡ reg2bin beg end ⌝ }
+pub fn reg2bin(beg: Pos0, end: i32) -> Nat
+    ensures { λ r. ⌜ r ≡ reg2bin (beg .0) end ⌝ }
 {
     match signed::checked_sub(end, 1) {
-        Sum::Number(last) => Nat::Number(bin_of(beg, last)),
+        Sum::Number(last) => Nat::Number(bin_of(beg.0, last)),
         Sum::Over => Nat::Refused(Refusal::Overflow),
     }
 }
@@ -84,10 +85,10 @@ fn span_of(n: i32) -> i32
 }
 
 // The bin of a region of n bases, at least 1. Refusal 4.
-fn bin_from(beg: i32, n: i32) -> Nat
-    ensures { λ r. ⌜ r ≡ binFrom beg (Number n) ⌝ }
+fn bin_from(beg: Pos0, n: i32) -> Nat
+    ensures { λ r. ⌜ r ≡ binFrom (beg .0) (Number n) ⌝ }
 {
-    match signed::checked_add(beg, span_of(n)) {
+    match signed::checked_add(beg.0, span_of(n)) {
         Sum::Number(end) => reg2bin(beg, end),
         Sum::Over => Nat::Refused(Refusal::Overflow),
     }
@@ -100,8 +101,8 @@ pub fn bin_from_raw_bam(bam: &[u8]) -> Nat
     if bam.len() < 32 {
         return Nat::Refused(Refusal::ShortRecord);
     }
-    let start = little_endian::i32_at(bam, 4);
-    if start < 0 {
+    let start = fields::own_place(bam);
+    if start.0 < 0 {
         return Nat::Number(UNMAPPED_BIN);
     }
     match lengths::asked_length(bam) {

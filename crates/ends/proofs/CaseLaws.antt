@@ -4,33 +4,31 @@ use mathlib.Core.Path.{_≡_, sym, ap, _∙_}
 use mathlib.Core.Bool.{Bool, true, false}
 use mathlib.Core.List.{List}
 use borrow.Author.Tests.{le-ltb, eq-eqb, ne-eqb}
-use lib.Dec.{eqb}
 use lib.IntN.{ℤ, pos}
 use lib.ListN.{length}
 use lib.Signed.{ltZ}
 use Rattle.lists.specs.Lists.{sumOf}
-use Rattle.signed.specs.Whole.{natural}
 use Rattle.signed.specs.declared.Sum.the-variants.{Number}
 use Rattle.sam.specs.Op.{refLen}
 use Rattle.sam.specs.Record.{posOf, flagsOf, isUnmapped, isReverse}
 use Rattle.oplist.specs.Ops.{recordOps}
-use Rattle.lengths.specs.Lengths.{refLengthOrZero}
+use Rattle.lengths.specs.Lengths.{askedLength}
 use Rattle.clip_runs.specs.Clips.{leadingClips, trailingClips}
 use Rattle.answers.specs.declared.Pos0.{Pos0}
-use Rattle.ends.specs.declared.Found1.the-variants.{Nothing}
+use Rattle.answers.specs.declared.Place0.the-variants as Place0
+use Rattle.answers.specs.declared.Place1.the-variants.{Nothing}
 use Rattle.ends.specs.declared.Unclipped.the-variants.{Unmapped, NoOps}
-use Rattle.ends.specs.declared.Place0.the-variants as Place0
 use Rattle.ends.specs.declared.tails.Tail.{Tail}
 use Rattle.ends.specs.Sums.{_⊕_, _⊖_, summed}
 use Rattle.ends.specs.Tails.{greatestRun}
-use Rattle.ends.specs.Ends.{provided, trailingSum, unclippedStart, unclippedEnd, toPlace0, toPlace1, toFound1, oneBased, fivePrime, noOps, unclippedAt, unclippedOf, unclippedFrom, alignmentStart, alignmentEnd}
+use Rattle.ends.specs.Ends.{provided, trailingSum, unclippedStart, unclippedEnd, toPlace0, plusOne, oneBased, fivePrime, noOps, unclippedAt, unclippedOf, unclippedFrom, alignmentStart, endAt, alignmentEnd}
 
 module _ (b : List ℕ) (h : 32 ≤ length b) where
   pub start-none : ltZ (posOf b) (pos 0) ≡ true → Nothing ≡ alignmentStart b
   unfolding alignmentStart
   start-none t = simp (le-ltb (length b) 32 h, t)
 
-  pub start-at : ltZ (posOf b) (pos 0) ≡ false → toFound1 (oneBased (record { 0 = posOf b })) ≡ alignmentStart b
+  pub start-at : ltZ (posOf b) (pos 0) ≡ false → oneBased (record { 0 = posOf b }) ≡ alignmentStart b
   unfolding alignmentStart
   start-at t = simp (le-ltb (length b) 32 h, t)
 
@@ -38,13 +36,9 @@ module _ (b : List ℕ) (h : 32 ≤ length b) where
   unfolding alignmentEnd
   end-none t = simp (le-ltb (length b) 32 h, t)
 
-  pub end-bare : ltZ (posOf b) (pos 0) ≡ false → eqb (natural (refLengthOrZero b)) 0 ≡ true → Nothing ≡ alignmentEnd b
+  pub end-at : ltZ (posOf b) (pos 0) ≡ false → endAt (posOf b) (askedLength b) ≡ alignmentEnd b
   unfolding alignmentEnd
-  end-bare t u = simp (le-ltb (length b) 32 h, t, u)
-
-  pub end-at : ltZ (posOf b) (pos 0) ≡ false → eqb (natural (refLengthOrZero b)) 0 ≡ false → toFound1 (toPlace1 (Number (posOf b) ⊕ Number (refLengthOrZero b))) ≡ alignmentEnd b
-  unfolding alignmentEnd
-  end-at t u = simp (le-ltb (length b) 32 h, t, u)
+  end-at t = simp (le-ltb (length b) 32 h, t)
 
   pub is-unmapped : isUnmapped (flagsOf b) ≡ true → Unmapped ≡ unclippedOf b
   unfolding unclippedOf
@@ -54,7 +48,7 @@ module _ (b : List ℕ) (h : 32 ≤ length b) where
   unfolding unclippedOf
   no-ops t u = simp (le-ltb (length b) 32 h, t, u)
 
-  pub is-placed : isUnmapped (flagsOf b) ≡ false → noOps b ≡ false → unclippedAt (oneBased (record { 0 = posOf b })) (isReverse (flagsOf b)) (recordOps b) ≡ unclippedOf b
+  pub is-placed : isUnmapped (flagsOf b) ≡ false → noOps b ≡ false → unclippedAt (plusOne (record { 0 = posOf b })) (isReverse (flagsOf b)) (recordOps b) ≡ unclippedOf b
   unfolding unclippedOf
   is-placed t u = simp (le-ltb (length b) 32 h, t, u)
 

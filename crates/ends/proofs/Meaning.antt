@@ -3,9 +3,9 @@ use Prim.Native.Nat.{ℕ}
 use mathlib.Core.Path.{_≡_, refl, sym, ap, _∙_}
 use mathlib.Core.Bool.{Bool, true, false, cond}
 use mathlib.Core.List.{List}
-use native.Mathlib.Omega.{arith}
 use lib.IntN.{ℤ, pos, negsuc, _+ℤ_, _-ℤ_}
 use lib.Signed.{ltZ}
+use Rattle.lists.proofs.Absurd.{never}
 use Rattle.signed.specs.Whole.{sideOf, sumAt, checked}
 use Rattle.signed.specs.declared.Side.the-variants.{Below, Within, Above}
 use Rattle.signed.specs.declared.Sum.{Sum}
@@ -17,17 +17,13 @@ use Rattle.ends.specs.Sums.{both, summed}
 use Rattle.ends.specs.Tails.{greatestRun}
 use Rattle.ends.specs.Ends.{unclippedStart, provided, trailingSum, unclippedEnd}
 
--- what has overflowed is no number
-over-number : {A : Type 0} {z : ℤ} → Over ≡ Number z → A
-over-number e = let n : _≡_ {A = ℕ} 0 1 = cc in absurd (omega arith)
-
 checked-is : (z y : ℤ) → checked z ≡ Number y → z ≡ y
 unfolding checked sideOf
 checked-is z y e = go (ltZ z (negsuc 2147483647)) (ltZ (pos 2147483647) z) e
   where
     go : (s t : Bool) → sumAt (cond s Below (cond t Above (Within z))) ≡ Number y → z ≡ y
-    go true t h = over-number h
-    go false true h = over-number h
+    go true t h = never (cc)
+    go false true h = never (cc)
     go false false h = cc
 
 -- the operands of a sum that was not refused
@@ -41,8 +37,8 @@ record Parts (f : ℤ → ℤ → ℤ) (a b : Sum) (y : ℤ) : Type 0 where
 parts : (f : ℤ → ℤ → ℤ) (a b : Sum) (y : ℤ) → both f a b ≡ Number y → Parts f a b y
 unfolding both
 parts f (Number l) (Number r) y e = record { left = l; right = r; left-is = refl; right-is = refl; is = checked-is (f l r) y e }
-parts f (Number l) Over y e = over-number e
-parts f Over b y e = over-number e
+parts f (Number l) Over y e = never (cc)
+parts f Over b y e = never (cc)
 
 number-is : (z y : ℤ) → Number z ≡ Number y → z ≡ y
 number-is z y e = cc
@@ -52,7 +48,7 @@ joined f e g h = cc
 
 provided-is : (s : Sum) (z y : ℤ) → provided s (Number z) ≡ Number y → z ≡ y
 provided-is (Number x) z y e = cc
-provided-is Over z y e = over-number e
+provided-is Over z y e = never (cc)
 
 module _ (at : ℤ) (xs : List ℕ) (z : ℤ) where
   -- "forward less the leading S and H"

@@ -2,7 +2,7 @@
 -- reverse plus reference length plus clips after the last reference op, less 1. `unclipped_5prime_raw` returns the given position for no ops or overrun."
 use Prim.Native.Nat.{ℕ}
 use mathlib.Core.Bool.{Bool, cond}
-use mathlib.Core.List.{List, [], _∷_}
+use mathlib.Core.List.{List}
 use lib.Dec.{eqb}
 use lib.IntN.{ℤ, pos}
 use lib.ListN.{length}
@@ -15,16 +15,15 @@ use Rattle.sam.specs.Op.{refLen}
 use Rattle.sam.specs.Record.{isShort, posOf, flagsOf, isUnmapped, isReverse}
 use Rattle.oplist.specs.Ops.{recordOps}
 use Rattle.clip_runs.specs.Clips.{leadingClips, trailingClips}
-use Rattle.lengths.specs.Lengths.{refLengthOrZero}
-use Rattle.answers.specs.Answers.{Told, answered, refused, some, none}
+use Rattle.lengths.specs.Lengths.{askedLength}
 use Rattle.answers.specs.declared.Pos0.{Pos0}
+use Rattle.answers.specs.declared.Int.{Int}
+use Rattle.answers.specs.declared.Int.the-variants as Int
+use Rattle.answers.specs.declared.Place0.{Place0}
+use Rattle.answers.specs.declared.Place0.the-variants as Place0
+use Rattle.answers.specs.declared.Place1.{Place1}
+use Rattle.answers.specs.declared.Place1.the-variants as Place1
 use Rattle.answers.specs.declared.Refusal.the-variants.{ShortRecord, Overflow}
-use Rattle.ends.specs.declared.Place0.{Place0}
-use Rattle.ends.specs.declared.Place0.the-variants as Place0
-use Rattle.ends.specs.declared.Place1.{Place1}
-use Rattle.ends.specs.declared.Place1.the-variants as Place1
-use Rattle.ends.specs.declared.Found1.{Found1}
-use Rattle.ends.specs.declared.Found1.the-variants as Found1
 use Rattle.ends.specs.declared.Unclipped.{Unclipped}
 use Rattle.ends.specs.declared.Unclipped.the-variants as Unclipped
 use Rattle.ends.specs.Sums.{_⊕_, _⊖_, summed}
@@ -62,12 +61,11 @@ toPlace1 (Sum.Number z) = Place1.At (record { 0 = z })
 toPlace1 Sum.Over = Place1.Refused Overflow
 
 -- "0-based record positions and 1-based answers are kept apart": the one conversion
-unfoldable pub oneBased : Pos0 → Place1
-oneBased p = toPlace1 (Sum.Number (p .0) ⊕ Sum.Number (pos 1))
+unfoldable pub plusOne : Pos0 → Sum
+plusOne p = Sum.Number (p .0) ⊕ Sum.Number (pos 1)
 
-abbrev pub toFound1 : Place1 → Found1
-toFound1 (Place1.At p) = Found1.At p
-toFound1 (Place1.Refused r) = Found1.Refused r
+abbrev pub oneBased : Pos0 → Place1
+oneBased p = toPlace1 (plusOne p)
 
 -- ---- the calls
 
@@ -76,21 +74,21 @@ abbrev pub noOps : List ℕ → Bool
 noOps b = eqb (length (recordOps b)) 0
 
 -- the three cases of a record: a place, unmapped, no ops; 1, and 4
-abbrev pub asUnclipped : Place1 → Unclipped
-asUnclipped (Place1.At p) = Unclipped.At p
-asUnclipped (Place1.Refused r) = Unclipped.Refused r
+abbrev pub asUnclipped : Sum → Unclipped
+asUnclipped (Sum.Number z) = Unclipped.At (record { 0 = z })
+asUnclipped Sum.Over = Unclipped.Refused Overflow
 
 -- "from `pos` + 1"
-abbrev pub unclippedAt : Place1 → Bool → List ℕ → Unclipped
-unclippedAt (Place1.At p) reverse xs = asUnclipped (toPlace1 (fivePrime reverse (p .0) xs))
-unclippedAt (Place1.Refused r) reverse xs = Unclipped.Refused r
+abbrev pub unclippedAt : Sum → Bool → List ℕ → Unclipped
+unclippedAt (Sum.Number at) reverse xs = asUnclipped (fivePrime reverse at xs)
+unclippedAt Sum.Over reverse xs = Unclipped.Refused Overflow
 
 unfoldable pub unclippedOf : List ℕ → Unclipped
 unclippedOf b =
     cond (isShort b) (Unclipped.Refused ShortRecord)
     (cond (isUnmapped (flagsOf b)) Unclipped.Unmapped
     (cond (noOps b) Unclipped.NoOps
-    (unclippedAt (oneBased (record { 0 = posOf b })) (isReverse (flagsOf b)) (recordOps b))))
+    (unclippedAt (plusOne (record { 0 = posOf b })) (isReverse (flagsOf b)) (recordOps b))))
 
 -- "unmapped 0; no ops or overrun 2,147,483,647"
 abbrev pub asRust : Unclipped → Place1
@@ -107,31 +105,20 @@ unclippedFrom b p reverse =
     (toPlace0 (fivePrime reverse (p .0) (recordOps b))))
 
 -- "Rust's None in start, end is the answer none": a start below 0: 1, 4
-unfoldable pub alignmentStart : List ℕ → Found1
+unfoldable pub alignmentStart : List ℕ → Place1
 alignmentStart b =
-    cond (isShort b) (Found1.Refused ShortRecord)
-    (cond (ltZ (posOf b) (pos 0)) Found1.Nothing
-    (toFound1 (oneBased (record { 0 = posOf b }))))
+    cond (isShort b) (Place1.Refused ShortRecord)
+    (cond (ltZ (posOf b) (pos 0)) Place1.Nothing
+    (oneBased (record { 0 = posOf b })))
 
--- and no reference length; `pos`, counted from 0, and the length give the last place counted from 1: 1, 4
-unfoldable pub alignmentEnd : List ℕ → Found1
+-- and no reference length; `pos`, counted from 0, and the length give the last place counted from 1; a refused length is passed on
+abbrev pub endAt : ℤ → Int → Place1
+endAt p (Int.Number n) = cond (eqb (natural n) 0) Place1.Nothing (toPlace1 (Sum.Number p ⊕ Sum.Number n))
+endAt p (Int.Refused r) = Place1.Refused r
+
+-- 1, 4
+unfoldable pub alignmentEnd : List ℕ → Place1
 alignmentEnd b =
-    cond (isShort b) (Found1.Refused ShortRecord)
-    (cond (ltZ (posOf b) (pos 0)) Found1.Nothing
-    (cond (eqb (natural (refLengthOrZero b)) 0) Found1.Nothing
-    (toFound1 (toPlace1 (Sum.Number (posOf b) ⊕ Sum.Number (refLengthOrZero b))))))
-
--- ---- what a caller is told
-
-abbrev pub tellPlace0 : Place0 → Told
-tellPlace0 (Place0.At p) = answered (p .0 ∷ [])
-tellPlace0 (Place0.Refused r) = refused r
-
-abbrev pub tellPlace1 : Place1 → Told
-tellPlace1 (Place1.At p) = answered (p .0 ∷ [])
-tellPlace1 (Place1.Refused r) = refused r
-
-abbrev pub tellFound1 : Found1 → Told
-tellFound1 (Found1.At p) = answered (some (p .0))
-tellFound1 Found1.Nothing = answered none
-tellFound1 (Found1.Refused r) = refused r
+    cond (isShort b) (Place1.Refused ShortRecord)
+    (cond (ltZ (posOf b) (pos 0)) Place1.Nothing
+    (endAt (posOf b) (askedLength b)))

@@ -5,32 +5,17 @@ ghost use mathlib.Core.Path.{_≡_};
 ghost use Prim.Native.Nat.{_≤_};
 ghost use lib.IntN.{pos};
 ghost use Rattle.signed.specs.declared.Sum.the-variants.{Number};
+ghost use Rattle.answers.specs.declared.Int.the-variants as Int;
 ghost use Rattle.ends.specs.Sums.{_⊕_, _⊖_, summed};
-ghost use Rattle.ends.specs.Ends.{provided, toPlace0, toPlace1, oneBased, toFound1, asUnclipped, unclippedOf, asRust, unclippedFrom, alignmentStart, alignmentEnd};
+ghost use Rattle.ends.specs.Ends.{provided, toPlace0, toPlace1, plusOne, oneBased, asUnclipped, unclippedOf, asRust, unclippedFrom, alignmentStart, endAt, alignmentEnd};
+use answers::Int;
+use answers::Place0;
+use answers::Place1;
 use answers::Pos0;
 use answers::Pos1;
 use answers::Refusal;
 use signed::Sum;
 use tails::Tail;
-
-// A place, counted from 0.
-pub enum Place0 {
-    At(Pos0),
-    Refused(Refusal),
-}
-
-// A place, counted from 1.
-pub enum Place1 {
-    At(Pos1),
-    Refused(Refusal),
-}
-
-// A place, counted from 1, or none.
-pub enum Found1 {
-    At(Pos1),
-    Nothing,
-    Refused(Refusal),
-}
 
 // A record's unclipped 5' position, before it is folded to the Rust's number.
 pub enum Unclipped {
@@ -59,11 +44,18 @@ fn to_place1(s: Sum) -> Place1
     }
 }
 
-// The same place counted from 1. Refusal 4.
+// The same position counted from 1, where that is an i32.
+pub fn plus_one(p: Pos0) -> Sum
+    ensures { λ r. ⌜ r ≡ plusOne p ⌝ }
+{
+    signed::checked_add(p.0, 1)
+}
+
+// The same, as an answer: never none. Refusal 4.
 pub fn one_based(p: Pos0) -> Place1
     ensures { λ r. ⌜ r ≡ oneBased p ⌝ }
 {
-    to_place1(signed::checked_add(p.0, 1))
+    to_place1(plus_one(p))
 }
 
 // Lengths that come to n.
@@ -118,7 +110,7 @@ fn end_from(at: i32, w: Tail) -> Sum
 }
 
 fn as_unclipped(s: Sum) -> Unclipped
-    ensures { λ r. ⌜ r ≡ asUnclipped (toPlace1 s) ⌝ }
+    ensures { λ r. ⌜ r ≡ asUnclipped s ⌝ }
 {
     match s {
         Sum::Number(z) => Unclipped::At(Pos1(z)),
@@ -141,15 +133,13 @@ fn unclipped_5prime(bam: &[u8]) -> Unclipped
     if oplist::count(&[], bam, list) == 0 {
         return Unclipped::NoOps;
     }
-    match one_based(Pos0(little_endian::i32_at(bam, 4))) {
-        Place1::At(p) => {
-            if fields::is_reverse(flags) {
-                return as_unclipped(end_from(p.0, tails::tail_of(&[], bam, list)));
-            }
-            as_unclipped(start_from(p.0, clip_runs::leading_clips(&[], bam, list, true)))
-        }
-        Place1::Refused(why) => Unclipped::Refused(why),
+    let Sum::Number(at) = plus_one(fields::own_place(bam)) else {
+        return Unclipped::Refused(Refusal::Overflow);
+    };
+    if fields::is_reverse(flags) {
+        return as_unclipped(end_from(at, tails::tail_of(&[], bam, list)));
     }
+    as_unclipped(start_from(at, clip_runs::leading_clips(&[], bam, list, true)))
 }
 
 // A record's unclipped 5' position: 0 where it is unmapped, 2^31 - 1 where it has no ops or they overrun it. Refusals 1 and 4.
@@ -181,43 +171,43 @@ pub fn unclipped_5prime_raw(bam: &[u8], pos: Pos0, reverse: bool) -> Place0
     to_place0(start_from(pos.0, clip_runs::leading_clips(&[], bam, list, true)))
 }
 
-fn to_found1(p: Place1) -> Found1
-    ensures { λ r. ⌜ r ≡ toFound1 p ⌝ }
-{
-    match p {
-        Place1::At(at) => Found1::At(at),
-        Place1::Refused(why) => Found1::Refused(why),
-    }
-}
-
 // A record's first place; none where `pos` is negative. Refusals 1 and 4.
-pub fn alignment_start_from_raw(bam: &[u8]) -> Found1
+pub fn alignment_start_from_raw(bam: &[u8]) -> Place1
     ensures { λ r. ⌜ r ≡ alignmentStart (now (bam .entry)) ⌝ }
 {
     if bam.len() < 32 {
-        return Found1::Refused(Refusal::ShortRecord);
+        return Place1::Refused(Refusal::ShortRecord);
     }
-    let pos = little_endian::i32_at(bam, 4);
-    if pos < 0 {
-        return Found1::Nothing;
+    let pos = fields::own_place(bam);
+    if pos.0 < 0 {
+        return Place1::Nothing;
     }
-    to_found1(one_based(Pos0(pos)))
+    one_based(pos)
+}
+
+// The last place of n reference bases; none where there are none. Refusal 4.
+fn end_at(pos: Pos0, n: i32) -> Place1
+    ensures { λ r. ⌜ r ≡ endAt (pos .0) (Int.Number n) ⌝ }
+{
+    if signed::natural_of(n) == 0 {
+        return Place1::Nothing;
+    }
+    to_place1(signed::checked_add(pos.0, n))
 }
 
 // A record's last place; none where `pos` is negative or no reference is covered. Refusals 1 and 4.
-pub fn alignment_end_from_raw(bam: &[u8]) -> Found1
+pub fn alignment_end_from_raw(bam: &[u8]) -> Place1
     ensures { λ r. ⌜ r ≡ alignmentEnd (now (bam .entry)) ⌝ }
 {
     if bam.len() < 32 {
-        return Found1::Refused(Refusal::ShortRecord);
+        return Place1::Refused(Refusal::ShortRecord);
     }
-    let pos = little_endian::i32_at(bam, 4);
-    if pos < 0 {
-        return Found1::Nothing;
+    let pos = fields::own_place(bam);
+    if pos.0 < 0 {
+        return Place1::Nothing;
     }
-    let len = lengths::reference_length_from_raw_bam(bam);
-    if signed::natural_of(len) == 0 {
-        return Found1::Nothing;
+    match lengths::asked_length(bam) {
+        Int::Number(n) => end_at(pos, n),
+        Int::Refused(why) => Place1::Refused(why),
     }
-    to_found1(to_place1(signed::checked_add(pos, len)))
 }

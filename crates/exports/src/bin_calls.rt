@@ -4,13 +4,14 @@ ghost use Rattle.answers.specs.Settled.{Settled};
 ghost use Rattle.answers.specs.Answers.{tellNat};
 ghost use Rattle.bin.specs.Bin.{reg2bin, recordBin, setBin};
 ghost use Rattle.border.specs.Border.{countOf, across};
+use answers::Pos0;
 use border::ToldCount;
 
 #[no_mangle]
 pub extern "C" fn cigar_reg2bin(beg: i32, end: i32) -> ToldCount
     ensures { λ r. ⌜ r ≡ countOf (tellNat (reg2bin beg end)) ⌝ }
 {
-    border::told_nat(bin::reg2bin(beg, end))
+    border::told_nat(bin::reg2bin(Pos0(beg), end))
 }
 
 #[no_mangle]

@@ -1,8 +1,8 @@
 // Fields of a record.
 ghost use mathlib.Core.Path.{_≡_};
-ghost use Rattle.answers.specs.Answers.{tellInt, tellNat};
+ghost use Rattle.answers.specs.Answers.{tellInt, tellNat, tellPlace0};
 ghost use Rattle.sam.specs.Record.{refIdOf, posOf, nameLenOf, storedBinOf, opCountOf, flagsOf, seqLenOf, mateRefIdOf, matePosOf, templateLenOf};
-ghost use Rattle.fields.specs.Fields.{intField, natField, cigarArea, tellArea};
+ghost use Rattle.fields.specs.Fields.{intField, natField, posField, cigarArea, tellArea};
 ghost use Rattle.border.specs.Border.{intOf, countOf, twoOf};
 use border::ToldCount;
 use border::ToldInt;
@@ -18,9 +18,9 @@ pub extern "C" fn cigar_ref_id(rec: &[u8]) -> ToldInt
 
 #[no_mangle]
 pub extern "C" fn cigar_pos(rec: &[u8]) -> ToldInt
-    ensures { λ r. ⌜ r ≡ intOf (tellInt (intField posOf (now (rec .entry)))) ⌝ }
+    ensures { λ r. ⌜ r ≡ intOf (tellPlace0 (posField posOf (now (rec .entry)))) ⌝ }
 {
-    border::told_int(fields::pos(rec))
+    border::told_int(answers::bare0(fields::pos(rec)))
 }
 
 #[no_mangle]
@@ -67,9 +67,9 @@ pub extern "C" fn cigar_mate_ref_id(rec: &[u8]) -> ToldInt
 
 #[no_mangle]
 pub extern "C" fn cigar_mate_pos(rec: &[u8]) -> ToldInt
-    ensures { λ r. ⌜ r ≡ intOf (tellInt (intField matePosOf (now (rec .entry)))) ⌝ }
+    ensures { λ r. ⌜ r ≡ intOf (tellPlace0 (posField matePosOf (now (rec .entry)))) ⌝ }
 {
-    border::told_int(fields::mate_pos(rec))
+    border::told_int(answers::bare0(fields::mate_pos(rec)))
 }
 
 #[no_mangle]

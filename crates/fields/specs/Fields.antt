@@ -12,6 +12,8 @@ use Rattle.answers.specs.declared.Int.{Int}
 use Rattle.answers.specs.declared.Int.the-variants as Int
 use Rattle.answers.specs.declared.Nat.{Nat}
 use Rattle.answers.specs.declared.Nat.the-variants as Nat
+use Rattle.answers.specs.declared.Place0.{Place0}
+use Rattle.answers.specs.declared.Place0.the-variants as Place0
 use Rattle.fields.specs.declared.Area.{Area}
 use Rattle.fields.specs.declared.Area.the-variants as Area
 
@@ -20,6 +22,10 @@ intField f b = cond (isShort b) (Int.Refused ShortRecord) (Int.Number (f b))
 
 abbrev pub natField : (List ℕ → ℕ) → List ℕ → Nat
 natField f b = cond (isShort b) (Nat.Refused ShortRecord) (Nat.Number (f b))
+
+-- a position, counted from 0
+abbrev pub posField : (List ℕ → ℤ) → List ℕ → Place0
+posField f b = cond (isShort b) (Place0.Refused ShortRecord) (Place0.At (record { 0 = f b }))
 
 -- where the ops lie, 0 and 0 where their area ends past the record
 unfoldable pub cigarArea : List ℕ → Area

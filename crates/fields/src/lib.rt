@@ -1,10 +1,13 @@
 // Document 01, module 1: the fields of a record, each with refusal 1 under 32 bytes, and where the ops lie.
 ghost use mathlib.Core.Path.{_≡_};
 ghost use Prim.Native.Nat.{_≤_};
+ghost use lib.ListN.{length};
 ghost use Rattle.sam.specs.Record.{int32, refIdOf, posOf, nameLenOf, storedBinOf, opCountOf, flagsOf, seqLenOf, mateRefIdOf, matePosOf, templateLenOf, isPaired, isUnmapped, isMateUnmapped, isReverse, isMateReverse, le16};
-ghost use Rattle.fields.specs.Fields.{intField, natField, cigarPart, partRefusal, cigarArea};
+ghost use Rattle.fields.specs.Fields.{intField, natField, posField, cigarPart, partRefusal, cigarArea};
 use answers::Int;
 use answers::Nat;
+use answers::Place0;
+use answers::Pos0;
 use answers::Refusal;
 
 // The bits of the flag.
@@ -50,16 +53,35 @@ fn nat_field(bam: &[u8], at: usize) -> Nat
     Nat::Number(little_endian::u16_at(bam, at))
 }
 
+// A record's position, for callers that have tested its length.
+pub fn own_place(bam: &[u8]) -> Pos0
+    requires { ⌜ 32 ≤ length (now bam) ⌝ }
+    ensures { λ r. ⌜ r .0 ≡ posOf (now (bam .entry)) ⌝ }
+{
+    Pos0(little_endian::i32_at(bam, 4))
+}
+
+// Its mate's position, for the same callers.
+pub fn mate_place(bam: &[u8]) -> Pos0
+    requires { ⌜ 32 ≤ length (now bam) ⌝ }
+    ensures { λ r. ⌜ r .0 ≡ matePosOf (now (bam .entry)) ⌝ }
+{
+    Pos0(little_endian::i32_at(bam, 24))
+}
+
 pub fn ref_id(bam: &[u8]) -> Int
     ensures { λ r. ⌜ r ≡ intField refIdOf (now (bam .entry)) ⌝ }
 {
     int_field(bam, 0)
 }
 
-pub fn pos(bam: &[u8]) -> Int
-    ensures { λ r. ⌜ r ≡ intField posOf (now (bam .entry)) ⌝ }
+pub fn pos(bam: &[u8]) -> Place0
+    ensures { λ r. ⌜ r ≡ posField posOf (now (bam .entry)) ⌝ }
 {
-    int_field(bam, 4)
+    if bam.len() < 32 {
+        return Place0::Refused(Refusal::ShortRecord);
+    }
+    Place0::At(own_place(bam))
 }
 
 pub fn l_read_name(bam: &[u8]) -> Nat
@@ -104,10 +126,13 @@ pub fn mate_ref_id(bam: &[u8]) -> Int
     int_field(bam, 20)
 }
 
-pub fn mate_pos(bam: &[u8]) -> Int
-    ensures { λ r. ⌜ r ≡ intField matePosOf (now (bam .entry)) ⌝ }
+pub fn mate_pos(bam: &[u8]) -> Place0
+    ensures { λ r. ⌜ r ≡ posField matePosOf (now (bam .entry)) ⌝ }
 {
-    int_field(bam, 24)
+    if bam.len() < 32 {
+        return Place0::Refused(Refusal::ShortRecord);
+    }
+    Place0::At(mate_place(bam))
 }
 
 pub fn template_length(bam: &[u8]) -> Int

@@ -16,7 +16,7 @@ use Rattle.lists.proofs.ListLaws.{length-splice}
 use Rattle.sam.specs.Op.{refLen, queryLen}
 use Rattle.sam.specs.Record.{opsEnd, seqLenOf, isShort}
 use Rattle.oplist.specs.Ops.{recordOps}
-use Rattle.answers.specs.Answers.{numberOf, tellCount, tellInt, tellNat}
+use Rattle.answers.specs.Answers.{numberOf, bare1, tellCount, tellInt, tellNat}
 use Rattle.answers.specs.Settled.{Settled}
 use Rattle.answers.specs.declared.Refusal.{Refusal}
 use Rattle.answers.specs.declared.Refusal.the-variants.{ShortRecord, AreaOverrun, Overflow}
@@ -29,9 +29,7 @@ use Rattle.answers.specs.declared.Count.the-variants as Count
 use Rattle.decimal.specs.Decimal.{decimal}
 use Rattle.print.specs.Text.{textOf, printed}
 use Rattle.lengths.specs.Lengths.{asInt, checkedRefLength}
-use Rattle.ends.specs.Ends.{asRust, unclippedOf, tellPlace1}
-use Rattle.ends.specs.declared.Place1.{Place1}
-use Rattle.ends.specs.declared.Place1.the-variants as Place1
+use Rattle.ends.specs.Ends.{asRust, unclippedOf}
 use Rattle.bin.specs.Bin.{recordBin}
 use Rattle.put_text.specs.Puts.{Put, signedDecimal}
 use Rattle.put_text.proofs.PutLaws.{put-then, put-as, put-dropped}
@@ -146,35 +144,35 @@ module _ (b : List ℕ) (h : 32 ≤ length b) where
   unfolding checkedRefLength asInt
   refs-are k o = simp (le-ltb _ _ h, le-ltb (length b) (opsEnd b) k, le-ltb 2147483647 (sumOf refLen (recordOps b)) o)
 
-pub figures-are : (b : List ℕ) (i : Int) (q : ℕ) (u : Place1) (k : Nat) (l : ℕ) → checkedRefLength b ≡ i → sumOf queryLen (recordOps b) ≡ q → asRust (unclippedOf b) ≡ u → recordBin b ≡ k → seqLenOf b ≡ l
+pub figures-are : (b : List ℕ) (i : Int) (q : ℕ) (u : Int) (k : Nat) (l : ℕ) → checkedRefLength b ≡ i → sumOf queryLen (recordOps b) ≡ q → bare1 (asRust (unclippedOf b)) ≡ u → recordBin b ≡ k → seqLenOf b ≡ l
     → figuresOf b ≡ rowOf i q u k (eqb q l)
 unfolding figuresOf
 figures-are b i q u k l e f g h m = cc
 
-row-refused : (i : Int) (q : ℕ) (u : Place1) (k : Nat) (s : Bool) (w : Refusal) → rowOf i q u k s ≡ Figures.Refused w
-    → firstGiven 0 (tellInt i .number) (tellPlace1 u .number) (tellNat k .number) ≡ numberOf w
+row-refused : (i : Int) (q : ℕ) (u : Int) (k : Nat) (s : Bool) (w : Refusal) → rowOf i q u k s ≡ Figures.Refused w
+    → firstGiven 0 (tellInt i .number) (tellInt u .number) (tellNat k .number) ≡ numberOf w
 unfolding rowOf
 row-refused (Int.Refused r) q u k s w e = let g : r ≡ w = cc in rw (not-zero r) (ap numberOf g)
-row-refused (Int.Number z) q (Place1.Refused r) k s w e = let g : r ≡ w = cc in rw (not-zero r) (ap numberOf g)
-row-refused (Int.Number z) q (Place1.At p) (Nat.Refused r) s w e = let g : r ≡ w = cc in ap numberOf g
-row-refused (Int.Number z) q (Place1.At p) (Nat.Number m) s w e = never (cc)
+row-refused (Int.Number z) q (Int.Refused r) k s w e = let g : r ≡ w = cc in rw (not-zero r) (ap numberOf g)
+row-refused (Int.Number z) q (Int.Number p) (Nat.Refused r) s w e = let g : r ≡ w = cc in ap numberOf g
+row-refused (Int.Number z) q (Int.Number p) (Nat.Number m) s w e = never (cc)
 
-row-given : (i : Int) (q : ℕ) (u : Place1) (k : Nat) (s : Bool) (w : LineRow) → rowOf i q u k s ≡ Figures.Row w
-    → firstGiven 0 (tellInt i .number) (tellPlace1 u .number) (tellNat k .number) ≡ 0
+row-given : (i : Int) (q : ℕ) (u : Int) (k : Nat) (s : Bool) (w : LineRow) → rowOf i q u k s ≡ Figures.Row w
+    → firstGiven 0 (tellInt i .number) (tellInt u .number) (tellNat k .number) ≡ 0
 unfolding rowOf
 row-given (Int.Refused r) q u k s w e = never (cc)
-row-given (Int.Number z) q (Place1.Refused r) k s w e = never (cc)
-row-given (Int.Number z) q (Place1.At p) (Nat.Refused r) s w e = never (cc)
-row-given (Int.Number z) q (Place1.At p) (Nat.Number m) s w e = refl
+row-given (Int.Number z) q (Int.Refused r) k s w e = never (cc)
+row-given (Int.Number z) q (Int.Number p) (Nat.Refused r) s w e = never (cc)
+row-given (Int.Number z) q (Int.Number p) (Nat.Number m) s w e = refl
 
-row-shown : (i : Int) (q : ℕ) (u : Place1) (k : Nat) (s : Bool) (w : LineRow) → rowOf i q u k s ≡ Figures.Row w
-    → shown (tellInt i) ∷ decimal q ∷ shown (tellPlace1 u) ∷ shown (tellNat k) ∷ decimal (oneIf s) ∷ [] ≡ rowFields w
+row-shown : (i : Int) (q : ℕ) (u : Int) (k : Nat) (s : Bool) (w : LineRow) → rowOf i q u k s ≡ Figures.Row w
+    → shown (tellInt i) ∷ decimal q ∷ shown (tellInt u) ∷ shown (tellNat k) ∷ decimal (oneIf s) ∷ [] ≡ rowFields w
 unfolding rowOf signedDecimal
 row-shown (Int.Refused r) q u k s w e = never (cc)
-row-shown (Int.Number z) q (Place1.Refused r) k s w e = never (cc)
-row-shown (Int.Number z) q (Place1.At p) (Nat.Refused r) s w e = never (cc)
-row-shown (Int.Number z) q (Place1.At p) (Nat.Number m) s w e =
-    let g : _≡_ {A = LineRow} (record { refs = z; query = q; five = p .0; bin = m; same = s }) w = cc in ap rowFields g
+row-shown (Int.Number z) q (Int.Refused r) k s w e = never (cc)
+row-shown (Int.Number z) q (Int.Number p) (Nat.Refused r) s w e = never (cc)
+row-shown (Int.Number z) q (Int.Number p) (Nat.Number m) s w e =
+    let g : _≡_ {A = LineRow} (record { refs = z; query = q; five = p; bin = m; same = s }) w = cc in ap rowFields g
 
 module _ (n : ℕ) (b : List ℕ) (h : 32 ≤ length b) (k : ℕ) (e : printed b textRoom .answer ≡ Count.Number k) where
   given : refusalOf b ≡ firstGiven 0 (refsTold b .number) (fiveTold b .number) (binTold b .number)
@@ -183,11 +181,11 @@ module _ (n : ℕ) (b : List ℕ) (h : 32 ≤ length b) (k : ℕ) (e : printed b
 
   pub line-no-row : (w : Refusal) → figuresOf b ≡ Figures.Refused w → lineOf n b ≡ decimal n ++ tabbed (refusedFields (numberOf w))
   unfolding figuresOf
-  line-no-row w f = refused-line n b w (given ∙ row-refused (checkedRefLength b) _ (asRust (unclippedOf b)) (recordBin b) _ w f)
+  line-no-row w f = refused-line n b w (given ∙ row-refused (checkedRefLength b) _ (bare1 (asRust (unclippedOf b))) (recordBin b) _ w f)
 
   pub line-row : (w : LineRow) → figuresOf b ≡ Figures.Row w → lineOf n b ≡ decimal n ++ ((9 ∷ orStar (textOf (recordOps b))) ++ tabbed (rowFields w))
   unfolding figuresOf lineOf tabbed signedDecimal
   line-row w f =
-      let z : refusalOf b ≡ 0 = given ∙ row-given (checkedRefLength b) _ (asRust (unclippedOf b)) (recordBin b) _ w f in
+      let z : refusalOf b ≡ 0 = given ∙ row-given (checkedRefLength b) _ (bare1 (asRust (unclippedOf b))) (recordBin b) _ w f in
       rw (z, query-is b h)
-      (ap (λ (fs : List (List ℕ)). decimal n ++ tabbed (orStar (textOf (recordOps b)) ∷ fs)) (row-shown (checkedRefLength b) _ (asRust (unclippedOf b)) (recordBin b) _ w f))
+      (ap (λ (fs : List (List ℕ)). decimal n ++ tabbed (orStar (textOf (recordOps b)) ∷ fs)) (row-shown (checkedRefLength b) _ (bare1 (asRust (unclippedOf b))) (recordBin b) _ w f))

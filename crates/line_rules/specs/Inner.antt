@@ -9,13 +9,12 @@ use Rattle.lists.specs.Lists.{sumOf}
 use Rattle.sam.specs.Op.{queryLen}
 use Rattle.sam.specs.Record.{seqLenOf}
 use Rattle.oplist.specs.Ops.{recordOps}
+use Rattle.answers.specs.Answers.{bare1}
 use Rattle.answers.specs.declared.Int.{Int}
 use Rattle.answers.specs.declared.Int.the-variants as Int
 use Rattle.answers.specs.declared.Nat.{Nat}
 use Rattle.answers.specs.declared.Nat.the-variants as Nat
 use Rattle.answers.specs.declared.Count.the-variants as Count
-use Rattle.ends.specs.declared.Place1.{Place1}
-use Rattle.ends.specs.declared.Place1.the-variants as Place1
 use Rattle.lengths.specs.Lengths.{checkedRefLength}
 use Rattle.ends.specs.Ends.{asRust, unclippedOf}
 use Rattle.bin.specs.Bin.{recordBin}
@@ -30,15 +29,15 @@ use Rattle.line_rules.specs.declared.Text.{Text}
 use Rattle.line_rules.specs.declared.Text.the-variants as Text
 
 -- the figures, or the first refusal on the way
-unfoldable pub rowOf : Int → ℕ → Place1 → Nat → Bool → Figures
+unfoldable pub rowOf : Int → ℕ → Int → Nat → Bool → Figures
 rowOf (Int.Refused r) q u n s = Figures.Refused r
-rowOf (Int.Number z) q (Place1.Refused r) n s = Figures.Refused r
-rowOf (Int.Number z) q (Place1.At p) (Nat.Refused r) s = Figures.Refused r
-rowOf (Int.Number z) q (Place1.At p) (Nat.Number k) s = Figures.Row (record { refs = z; query = q; five = p .0; bin = k; same = s })
+rowOf (Int.Number z) q (Int.Refused r) n s = Figures.Refused r
+rowOf (Int.Number z) q (Int.Number p) (Nat.Refused r) s = Figures.Refused r
+rowOf (Int.Number z) q (Int.Number p) (Nat.Number k) s = Figures.Row (record { refs = z; query = q; five = p; bin = k; same = s })
 
 unfoldable pub figuresOf : List ℕ → Figures
 figuresOf b =
-    rowOf (checkedRefLength b) (sumOf queryLen (recordOps b)) (asRust (unclippedOf b)) (recordBin b) (eqb (sumOf queryLen (recordOps b)) (seqLenOf b))
+    rowOf (checkedRefLength b) (sumOf queryLen (recordOps b)) (bare1 (asRust (unclippedOf b))) (recordBin b) (eqb (sumOf queryLen (recordOps b)) (seqLenOf b))
 
 -- the fields behind the text
 abbrev pub rowFields : LineRow → List (List ℕ)

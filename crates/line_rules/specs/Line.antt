@@ -10,11 +10,11 @@ use Rattle.lists.specs.Runs.{holds}
 use Rattle.signed.specs.Whole.{natural}
 use Rattle.sam.specs.Record.{seqLenOf}
 use Rattle.oplist.specs.Ops.{recordOps}
-use Rattle.answers.specs.Answers.{Told, tellInt, tellCount, tellNat}
+use Rattle.answers.specs.Answers.{Told, bare1, tellInt, tellCount, tellNat}
 use Rattle.decimal.specs.Decimal.{decimal}
 use Rattle.print.specs.Text.{textOf, printed}
 use Rattle.lengths.specs.Lengths.{checkedRefLength, recordQueryLength}
-use Rattle.ends.specs.Ends.{asRust, unclippedOf, tellPlace1}
+use Rattle.ends.specs.Ends.{asRust, unclippedOf}
 use Rattle.bin.specs.Bin.{recordBin}
 use Rattle.put_text.specs.Puts.{signedDecimal}
 
@@ -34,7 +34,7 @@ abbrev pub queryTold : List ℕ → Told
 queryTold b = tellCount (recordQueryLength b)
 
 abbrev pub fiveTold : List ℕ → Told
-fiveTold b = tellPlace1 (asRust (unclippedOf b))
+fiveTold b = tellInt (bare1 (asRust (unclippedOf b)))
 
 abbrev pub binTold : List ℕ → Told
 binTold b = tellNat (recordBin b)

@@ -11,6 +11,7 @@ use borrow.Author.Tests.{lt-ltb, le-ltb}
 use Rattle.lists.specs.Lists.{sumOf, splice}
 use Rattle.lists.proofs.Absurd.{never}
 use Rattle.signed.specs.Whole.{clamp32}
+use Rattle.signed.specs.declared.Sum.{Sum}
 use Rattle.sam.specs.Op.{refLen}
 use Rattle.sam.specs.Record.{posOf, flagsOf, matePosOf, isReverse}
 use Rattle.answers.specs.Settled.{keeps}
@@ -21,8 +22,7 @@ use Rattle.answers.specs.declared.Flag.the-variants as Flag
 use Rattle.answers.specs.declared.Count.{Count}
 use Rattle.answers.specs.declared.Count.the-variants as Count
 use Rattle.oplist.specs.Ops.{mostOps, recordOps}
-use Rattle.ends.specs.declared.Place1.{Place1}
-use Rattle.ends.specs.Ends.{oneBased}
+use Rattle.ends.specs.Ends.{plusOne}
 use Rattle.text_rules.specs.Text.{textOps}
 use Rattle.text_rules.specs.Valid.{validMapped}
 use Rattle.text_rules.specs.Strict.{strict}
@@ -46,7 +46,7 @@ module _ (fr : Bool) (b : List ℕ) (m : ℤ) where
   unfolding placedPair
   apart e = simp e
 
-  pub together : {r : PairPlaces} {x y : Place1} → fr ≡ true → x ≡ oneBased (record { 0 = posOf b }) → y ≡ oneBased (record { 0 = m }) → r ≡ bothPlaces x y → r ≡ placedPair fr b m
+  pub together : {r : PairPlaces} {x y : Sum} → fr ≡ true → x ≡ plusOne (record { 0 = posOf b }) → y ≡ plusOne (record { 0 = m }) → r ≡ bothPlaces x y → r ≡ placedPair fr b m
   unfolding placedPair
   together e p q h = simp e (rw (← p, ← q) h)
 

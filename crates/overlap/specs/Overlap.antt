@@ -8,6 +8,8 @@ use lib.ListN.{length}
 use lib.Dec.{ltb}
 use Rattle.lists.specs.Lists.{sumOf, splice}
 use Rattle.signed.specs.Whole.{clamp32}
+use Rattle.signed.specs.declared.Sum.{Sum}
+use Rattle.signed.specs.declared.Sum.the-variants as Sum
 use Rattle.sam.specs.Op.{refLen}
 use Rattle.sam.specs.Record.{posOf, flagsOf, matePosOf, isReverse, isShort}
 use Rattle.answers.specs.Answers.{Told, answered, refused}
@@ -18,9 +20,7 @@ use Rattle.answers.specs.declared.Count.the-variants as Count
 use Rattle.answers.specs.declared.Flag.{Flag}
 use Rattle.answers.specs.declared.Flag.the-variants as Flag
 use Rattle.oplist.specs.Ops.{mostOps, recordOps}
-use Rattle.ends.specs.declared.Place1.{Place1}
-use Rattle.ends.specs.declared.Place1.the-variants as Place1
-use Rattle.ends.specs.Ends.{oneBased}
+use Rattle.ends.specs.Ends.{plusOne}
 use Rattle.text_rules.specs.Text.{textOps}
 use Rattle.text_rules.specs.Valid.{validMapped}
 use Rattle.text_rules.specs.Strict.{strict}
@@ -32,14 +32,14 @@ use Rattle.overlap.specs.declared.Overhang.{Overhang}
 use Rattle.overlap.specs.declared.Overhang.the-variants as Overhang
 
 -- of an FR pair, the read's and the mate's place counted from 1; either sum may overflow
-abbrev pub bothPlaces : Place1 → Place1 → PairPlaces
-bothPlaces (Place1.At p) (Place1.At m) = PairPlaces.At p m
-bothPlaces (Place1.At p) (Place1.Refused r) = PairPlaces.Over
-bothPlaces (Place1.Refused r) m = PairPlaces.Over
+abbrev pub bothPlaces : Sum → Sum → PairPlaces
+bothPlaces (Sum.Number p) (Sum.Number m) = PairPlaces.At (record { 0 = p }) (record { 0 = m })
+bothPlaces (Sum.Number p) Sum.Over = PairPlaces.Over
+bothPlaces Sum.Over m = PairPlaces.Over
 
 -- whether the pair is FR, and the mate's place as a record has it
 unfoldable pub placedPair : Bool → List ℕ → ℤ → PairPlaces
-placedPair fr b m = cond fr (bothPlaces (oneBased (record { 0 = posOf b })) (oneBased (record { 0 = m }))) PairPlaces.Apart
+placedPair fr b m = cond fr (bothPlaces (plusOne (record { 0 = posOf b })) (plusOne (record { 0 = m }))) PairPlaces.Apart
 
 abbrev pub isOver : PairPlaces → Bool
 isOver PairPlaces.Apart = false

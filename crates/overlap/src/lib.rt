@@ -13,8 +13,8 @@ use answers::Flag;
 use answers::Pos0;
 use answers::Pos1;
 use answers::Refusal;
-use ends::Place1;
 use oplist::Ops;
+use signed::Sum;
 use strict_text::Measured;
 
 // Where a read and its mate lie, counted from 1; or they are no FR pair, or a place overflows.
@@ -30,16 +30,16 @@ pub enum Overhang {
     Refused(Refusal),
 }
 
-fn both_places(own: Place1, mate: Place1) -> PairPlaces
+fn both_places(own: Sum, mate: Sum) -> PairPlaces
     ensures { λ r. ⌜ r ≡ bothPlaces own mate ⌝ }
 {
-    let Place1::At(p) = own else {
+    let Sum::Number(p) = own else {
         return PairPlaces::Over;
     };
-    let Place1::At(m) = mate else {
+    let Sum::Number(m) = mate else {
         return PairPlaces::Over;
     };
-    PairPlaces::At(p, m)
+    PairPlaces::At(Pos1(p), Pos1(m))
 }
 
 fn placed_pair(fr: bool, bam: &[u8], mate: Pos0) -> PairPlaces
@@ -49,10 +49,7 @@ fn placed_pair(fr: bool, bam: &[u8], mate: Pos0) -> PairPlaces
     if !fr {
         return PairPlaces::Apart;
     }
-    both_places(
-        ends::one_based(Pos0(little_endian::i32_at(bam, 4))),
-        ends::one_based(mate),
-    )
+    both_places(ends::plus_one(fields::own_place(bam)), ends::plus_one(mate))
 }
 
 fn is_over(placed: PairPlaces) -> bool
@@ -139,14 +136,7 @@ pub fn num_bases_extending_past_mate_cigar_raw(bam: &[u8], mate_ops: &[u32]) -> 
     if !validity::valid(mate_ops, &[], list.inside, list.at, list.n) {
         return Count::Number(0);
     }
-    pair_overhang(
-        fr,
-        bam,
-        Pos0(little_endian::i32_at(bam, 24)),
-        mate_ops,
-        &[],
-        list,
-    )
+    pair_overhang(fr, bam, fields::mate_place(bam), mate_ops, &[], list)
 }
 
 // The query bases past the mate, whose record is given. Refusals 1 and 4.
@@ -160,7 +150,7 @@ pub fn num_bases_extending_past_mate_vs_mate_raw(rec: &[u8], mate: &[u8]) -> Cou
         return Count::Refused(Refusal::ShortRecord);
     }
     let fr = pairs::primary_fr(rec, mate);
-    let place = Pos0(little_endian::i32_at(mate, 4));
+    let place = fields::own_place(mate);
     pair_overhang(fr, rec, place, &[], mate, oplist::of_record(mate))
 }
 
@@ -169,7 +159,7 @@ fn list_left(fr: bool, bam: &[u8], text: &[u8], n: u64, out: &mut [u32]) -> Over
     requires { ⌜ (32 ≤ length (now bam)) × (length (textOps (now text)) ≡ n) × (n ≤ mostOps) ⌝ }
     ensures { λ r. ⌜ Settled (listLeft (placedPair fr (now (bam .entry)) (matePosOf (now (bam .entry)))) (now (bam .entry)) (textOps (now (text .entry))) (now (out .entry))) r (now (out .exit)) ⌝ }
 {
-    let placed = placed_pair(fr, bam, Pos0(little_endian::i32_at(bam, 24)));
+    let placed = placed_pair(fr, bam, fields::mate_place(bam));
     if is_over(placed) {
         return Overhang::Refused(Refusal::Overflow);
     }

@@ -66,8 +66,8 @@ fn mate_starts_before(bam: &[u8]) -> Flag
     requires { ⌜ 32 ≤ length (now bam) ⌝ }
     ensures { λ r. ⌜ r ≡ mateStartsBefore (now (bam .entry)) ⌝ }
 {
-    let mate = Pos0(little_endian::i32_at(bam, 24));
-    let own = Pos0(little_endian::i32_at(bam, 4));
+    let mate = fields::mate_place(bam);
+    let own = fields::own_place(bam);
     match lengths::asked_length(bam) {
         Int::Number(n) => Flag::Is(starts_before_end(mate, own, n)),
         Int::Refused(why) => Flag::Refused(why),
@@ -107,8 +107,8 @@ pub fn fr_with_mate(bam: &[u8], n: i32) -> Flag
     requires { ⌜ 32 ≤ length (now bam) ⌝ }
     ensures { λ r. ⌜ r ≡ isFrWithMate (now (bam .entry)) n ⌝ }
 {
-    let own = Pos0(little_endian::i32_at(bam, 4));
-    let mate = Pos0(little_endian::i32_at(bam, 24));
+    let own = fields::own_place(bam);
+    let mate = fields::mate_place(bam);
     fr_by(starts_before_end(own, mate, n), bam)
 }
 

@@ -11,12 +11,12 @@ use Rattle.signed.specs.Whole.{natural, checked, sideOf, sumAt}
 use Rattle.signed.specs.declared.Side.the-variants.{Below, Within, Above}
 use Rattle.signed.specs.declared.Sum.the-variants as Sum
 use Rattle.answers.specs.declared.Pos1.{Pos1}
+use Rattle.answers.specs.declared.Place1.the-variants as Place1
 use Rattle.answers.specs.declared.Refusal.the-variants.{ShortRecord}
 use Rattle.sam.specs.Record.{posOf}
-use Rattle.lengths.specs.Lengths.{refLengthOrZero}
-use Rattle.ends.specs.declared.Found1.the-variants as Found1
+use Rattle.lengths.specs.Lengths.{refLengthOrZero, askedLength}
 use Rattle.ends.specs.Sums.{both, _⊕_}
-use Rattle.ends.specs.Ends.{toFound1, toPlace1, oneBased, alignmentStart, alignmentEnd}
+use Rattle.ends.specs.Ends.{toPlace1, plusOne, alignmentStart, alignmentEnd}
 use Rattle.answers.specs.Answers.{Told}
 use Rattle.border.specs.Border.{intOf, countOf, flagOf, foundOf, twoOf, lengthsOf}
 use Rattle.border.specs.declared.ToldInt.{ToldInt}
@@ -49,36 +49,36 @@ module _ {t : Told} {rows : List Row} (g : Gives t rows) where
 -- ---- the positions that start and end find are never negative, so that they cross as they are
 
 -- a sum that is not negative, where it fits
-sum-is-natural : (n : ℕ) (p : Pos1) → toFound1 (toPlace1 (checked (pos n))) ≡ Found1.At p → pos (natural (p .0)) ≡ p .0
+sum-is-natural : (n : ℕ) (p : Pos1) → toPlace1 (checked (pos n)) ≡ Place1.At p → pos (natural (p .0)) ≡ p .0
 unfolding checked sideOf
 sum-is-natural n p = go (ltZ (pos n) (negsuc 2147483647)) (ltZ (pos 2147483647) (pos n))
   where
-    go : (low high : Bool) → toFound1 (toPlace1 (sumAt (cond low Below (cond high Above (Within (pos n)))))) ≡ Found1.At p → pos (natural (p .0)) ≡ p .0
+    go : (low high : Bool) → toPlace1 (sumAt (cond low Below (cond high Above (Within (pos n))))) ≡ Place1.At p → pos (natural (p .0)) ≡ p .0
     go true high e = cc
     go false true e = cc
     go false false e = let f : record { 0 = pos n } ≡ p = cc in subst (λ (q : Pos1). pos (natural (q .0)) ≡ q .0) f refl
 
 -- past the tests of both calls
-found-is-natural : (t u : Bool) (n m : ℕ) (p : Pos1) → cond t Found1.Nothing (cond u Found1.Nothing (toFound1 (toPlace1 (Sum.Number (pos n) ⊕ Sum.Number (pos m))))) ≡ Found1.At p → pos (natural (p .0)) ≡ p .0
+found-is-natural : (t u : Bool) (n m : ℕ) (p : Pos1) → cond t Place1.Nothing (cond u Place1.Nothing (toPlace1 (Sum.Number (pos n) ⊕ Sum.Number (pos m)))) ≡ Place1.At p → pos (natural (p .0)) ≡ p .0
 unfolding both
 found-is-natural true u n m p e = cc
 found-is-natural false true n m p e = cc
 found-is-natural false false n m p e = sum-is-natural (n + m) p e
 
-pub start-is-natural : (b : List ℕ) (p : Pos1) → alignmentStart b ≡ Found1.At p → pos (natural (p .0)) ≡ p .0
-unfolding alignmentStart oneBased
+pub start-is-natural : (b : List ℕ) (p : Pos1) → alignmentStart b ≡ Place1.At p → pos (natural (p .0)) ≡ p .0
+unfolding alignmentStart plusOne
 start-is-natural b p = go (ltb (length b) 32) (posOf b)
   where
-    go : (t : Bool) (z : ℤ) → cond t (Found1.Refused ShortRecord) (cond (ltZ z (pos 0)) Found1.Nothing (toFound1 (toPlace1 (Sum.Number z ⊕ Sum.Number (pos 1))))) ≡ Found1.At p → pos (natural (p .0)) ≡ p .0
+    go : (t : Bool) (z : ℤ) → cond t (Place1.Refused ShortRecord) (cond (ltZ z (pos 0)) Place1.Nothing (toPlace1 (Sum.Number z ⊕ Sum.Number (pos 1)))) ≡ Place1.At p → pos (natural (p .0)) ≡ p .0
     go true z e = cc
     go false (negsuc n) e = cc
     go false (pos n) e = found-is-natural (ltb n 0) false n 1 p e
 
-pub end-is-natural : (b : List ℕ) (p : Pos1) → alignmentEnd b ≡ Found1.At p → pos (natural (p .0)) ≡ p .0
-unfolding alignmentEnd
+pub end-is-natural : (b : List ℕ) (p : Pos1) → alignmentEnd b ≡ Place1.At p → pos (natural (p .0)) ≡ p .0
+unfolding alignmentEnd askedLength
 end-is-natural b p = go (ltb (length b) 32) (posOf b) (refLengthOrZero b)
   where
-    go : (t : Bool) (z y : ℤ) → cond t (Found1.Refused ShortRecord) (cond (ltZ z (pos 0)) Found1.Nothing (cond (eqb (natural y) 0) Found1.Nothing (toFound1 (toPlace1 (Sum.Number z ⊕ Sum.Number y))))) ≡ Found1.At p → pos (natural (p .0)) ≡ p .0
+    go : (t : Bool) (z y : ℤ) → cond t (Place1.Refused ShortRecord) (cond (ltZ z (pos 0)) Place1.Nothing (cond (eqb (natural y) 0) Place1.Nothing (toPlace1 (Sum.Number z ⊕ Sum.Number y)))) ≡ Place1.At p → pos (natural (p .0)) ≡ p .0
     go true z y e = cc
     go false (negsuc n) y e = cc
     go false (pos n) (negsuc m) e = found-is-natural (ltb n 0) true n 0 p e

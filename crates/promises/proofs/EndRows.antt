@@ -15,18 +15,18 @@ use Rattle.sam.specs.Columns.{Over, Base, Gap, Off}
 use Rattle.sam.specs.Op.{refLen}
 use Rattle.sam.specs.Record.{posOf, flagsOf, isUnmapped, isReverse, isShort}
 use Rattle.clip_runs.specs.Clips.{leadingClips, trailingClips}
-use Rattle.lengths.specs.Lengths.{refLengthOrZero}
+use Rattle.lengths.specs.Lengths.{refLengthOrZero, askedLength}
 use Rattle.oplist.specs.Ops.{mostOps, recordOps}
-use Rattle.answers.specs.Answers.{Told}
+use Rattle.answers.specs.Answers.{Told, bare1, tellInt, tellPlace0, tellPlace1}
 use Rattle.answers.specs.declared.Pos0.{Pos0}
+use Rattle.answers.specs.declared.Place0.the-variants as Place0
+use Rattle.answers.specs.declared.Place1.the-variants as Place1
 use Rattle.answers.specs.declared.Refusal.the-variants.{ShortRecord, TooManyOps, BadStart}
 use Rattle.ends.specs.Sums.{both, _⊕_, _⊖_}
 use Rattle.ends.specs.Tails.{greatestRun}
-use Rattle.ends.specs.Ends.{provided, trailingSum, unclippedStart, unclippedEnd, fivePrime, toPlace0, toPlace1, oneBased, toFound1, noOps, asUnclipped, unclippedAt, unclippedOf, asRust, unclippedFrom, alignmentStart, alignmentEnd, tellPlace0, tellPlace1, tellFound1}
+use Rattle.ends.specs.Ends.{provided, trailingSum, unclippedStart, unclippedEnd, fivePrime, toPlace0, toPlace1, plusOne, noOps, asUnclipped, unclippedAt, unclippedOf, asRust, unclippedFrom, alignmentStart, alignmentEnd}
 use Rattle.ends.specs.declared.Unclipped.{Unclipped}
 use Rattle.ends.specs.declared.Unclipped.the-variants as Unclipped
-use Rattle.ends.specs.declared.Place0.the-variants as Place0
-use Rattle.ends.specs.declared.Found1.the-variants as Found1
 use Rattle.lookup.specs.Lookup.{look, readOver, lookup, tellFound}
 use Rattle.lookup.specs.declared.Found.{Found}
 use Rattle.lookup.specs.declared.Found.the-variants as Found
@@ -69,17 +69,17 @@ module _ {A : Type 0} (tell : A → Told) (to : Sum → A) (stops : tell (to Sum
       last : ℤ
       last = at +ℤ refs +ℤ clips -ℤ pos 1
 
-pub unclipped-5prime-from-raw-bam : (b : List ℕ) → Gives (tellPlace1 (asRust (unclippedOf b))) (unclippedRows b)
-unfolding unclippedOf oneBased both
+pub unclipped-5prime-from-raw-bam : (b : List ℕ) → Gives (tellInt (bare1 (asRust (unclippedOf b)))) (unclippedRows b)
+unfolding unclippedOf plusOne both
 unclipped-5prime-from-raw-bam b =
     row tell (isShort b) (Unclipped.Refused ShortRecord) _ 1 refl
     (row-unless tell (isUnmapped (flagsOf b)) Unclipped.Unmapped _ refl
     (row-unless tell (noOps b) Unclipped.NoOps _ refl
-    (row-sum tell (λ s. unclippedAt (toPlace1 s) reverse xs) at (endSums reverse at xs) refl
-    (end-sums tell (λ s. asUnclipped (toPlace1 s)) refl (λ z. refl) reverse at xs))))
+    (row-sum tell (λ s. unclippedAt s reverse xs) at (endSums reverse at xs) refl
+    (end-sums tell asUnclipped refl (λ z. refl) reverse at xs))))
   where
     tell : Unclipped → Told
-    tell x = tellPlace1 (asRust x)
+    tell x = tellInt (bare1 (asRust x))
 
     at : ℤ
     at = posOf b +ℤ pos 1
@@ -97,20 +97,20 @@ unclipped-5prime-raw b p reverse =
     (row-unless tellPlace0 (noOps b) (Place0.At p) _ refl
     (end-sums tellPlace0 toPlace0 refl (λ z. refl) reverse (p .0) (recordOps b)))
 
-pub alignment-start-from-raw : (b : List ℕ) → Gives (tellFound1 (alignmentStart b)) (startRows b)
-unfolding alignmentStart oneBased both
+pub alignment-start-from-raw : (b : List ℕ) → Gives (tellPlace1 (alignmentStart b)) (startRows b)
+unfolding alignmentStart plusOne both
 alignment-start-from-raw b =
-    row tellFound1 (isShort b) (Found1.Refused ShortRecord) _ 1 refl
-    (row-unless tellFound1 (ltZ (posOf b) (pos 0)) Found1.Nothing _ refl
-    (row-sum tellFound1 (λ s. toFound1 (toPlace1 s)) (posOf b +ℤ pos 1) [] refl (answer refl refl)))
+    row tellPlace1 (isShort b) (Place1.Refused ShortRecord) _ 1 refl
+    (row-unless tellPlace1 (ltZ (posOf b) (pos 0)) Place1.Nothing _ refl
+    (row-sum tellPlace1 toPlace1 (posOf b +ℤ pos 1) [] refl (answer refl refl)))
 
-pub alignment-end-from-raw : (b : List ℕ) → Gives (tellFound1 (alignmentEnd b)) (endRows b)
-unfolding alignmentEnd both
+pub alignment-end-from-raw : (b : List ℕ) → Gives (tellPlace1 (alignmentEnd b)) (endRows b)
+unfolding alignmentEnd askedLength both
 alignment-end-from-raw b =
-    row tellFound1 (isShort b) (Found1.Refused ShortRecord) _ 1 refl
-    (row-unless tellFound1 (ltZ (posOf b) (pos 0)) Found1.Nothing _ refl
-    (row-unless tellFound1 (eqb (natural (refLengthOrZero b)) 0) Found1.Nothing _ refl
-    (row-sum tellFound1 (λ s. toFound1 (toPlace1 s)) (posOf b +ℤ refLengthOrZero b) [] refl (answer refl refl))))
+    row tellPlace1 (isShort b) (Place1.Refused ShortRecord) _ 1 refl
+    (row-unless tellPlace1 (ltZ (posOf b) (pos 0)) Place1.Nothing _ refl
+    (row-unless tellPlace1 (eqb (natural (refLengthOrZero b)) 0) Place1.Nothing _ refl
+    (row-sum tellPlace1 toPlace1 (posOf b +ℤ refLengthOrZero b) [] refl (answer refl refl))))
 
 pub read-pos-at-ref-pos-raw : (xs : List ℕ) (start at : ℕ) (asked : Bool) → Gives (tellFound (lookup xs start at asked)) (lookupRows xs start)
 unfolding lookup

@@ -11,15 +11,16 @@ use Rattle.lists.specs.Lists.{sumOf}
 use Rattle.sam.specs.Op.{refLen, queryLen}
 use Rattle.sam.specs.Record.{refIdOf, posOf, nameLenOf, storedBinOf, opCountOf, flagsOf, seqLenOf, mateRefIdOf, matePosOf, templateLenOf, opsStart, opsEnd, isShort}
 use Rattle.oplist.specs.Ops.{mostOps, recordOps}
-use Rattle.answers.specs.Answers.{Told, answered, tellInt, tellNat, tellCount}
+use Rattle.answers.specs.Answers.{Told, answered, tellInt, tellNat, tellCount, tellPlace0}
 use Rattle.answers.specs.declared.Refusal.the-variants.{ShortRecord, AreaOverrun, TooManyOps, Overflow, NoRoom, BadLength}
 use Rattle.answers.specs.declared.Int.{Int}
 use Rattle.answers.specs.declared.Int.the-variants as Int
 use Rattle.answers.specs.declared.Nat.{Nat}
 use Rattle.answers.specs.declared.Nat.the-variants as Nat
+use Rattle.answers.specs.declared.Place0.the-variants as Place0
 use Rattle.answers.specs.declared.Count.{Count}
 use Rattle.answers.specs.declared.Count.the-variants as Count
-use Rattle.fields.specs.Fields.{intField, natField, cigarArea, cigarPart, tellArea}
+use Rattle.fields.specs.Fields.{intField, natField, posField, cigarArea, cigarPart, tellArea}
 use Rattle.fields.specs.declared.Area.{Area}
 use Rattle.fields.specs.declared.Area.the-variants as Area
 use Rattle.ops.specs.Ops.{getOps, kindOf, fromOpType, tellKind, newOp, tellOp}
@@ -36,18 +37,21 @@ use Rattle.promises.proofs.RowLaws.{number-alone, answer, row, row-eith
 
 -- ---- fields
 
--- any signed and any unsigned field
+-- any signed and any unsigned field, and any position
 int-field : (f : List ℕ → ℤ) (b : List ℕ) → Gives (tellInt (intField f b)) (recordRows b)
 int-field f b = row tellInt (isShort b) (Int.Refused ShortRecord) (Int.Number (f b)) 1 refl (answer refl refl)
 
 nat-field : (f : List ℕ → ℕ) (b : List ℕ) → Gives (tellNat (natField f b)) (recordRows b)
 nat-field f b = row tellNat (isShort b) (Nat.Refused ShortRecord) (Nat.Number (f b)) 1 refl (answer refl refl)
 
+pos-field : (f : List ℕ → ℤ) (b : List ℕ) → Gives (tellPlace0 (posField f b)) (recordRows b)
+pos-field f b = row tellPlace0 (isShort b) (Place0.Refused ShortRecord) (Place0.At (record { 0 = f b })) 1 refl (answer refl refl)
+
 pub ref-id : (b : List ℕ) → Gives (tellInt (intField refIdOf b)) (recordRows b)
 ref-id = int-field refIdOf
 
-pub pos-rows : (b : List ℕ) → Gives (tellInt (intField posOf b)) (recordRows b)
-pos-rows = int-field posOf
+pub pos-rows : (b : List ℕ) → Gives (tellPlace0 (posField posOf b)) (recordRows b)
+pos-rows = pos-field posOf
 
 pub l-read-name : (b : List ℕ) → Gives (tellNat (natField nameLenOf b)) (recordRows b)
 l-read-name = nat-field nameLenOf
@@ -67,8 +71,8 @@ l-seq = nat-field seqLenOf
 pub mate-ref-id : (b : List ℕ) → Gives (tellInt (intField mateRefIdOf b)) (recordRows b)
 mate-ref-id = int-field mateRefIdOf
 
-pub mate-pos : (b : List ℕ) → Gives (tellInt (intField matePosOf b)) (recordRows b)
-mate-pos = int-field matePosOf
+pub mate-pos : (b : List ℕ) → Gives (tellPlace0 (posField matePosOf b)) (recordRows b)
+mate-pos = pos-field matePosOf
 
 pub template-length : (b : List ℕ) → Gives (tellInt (intField templateLenOf b)) (recordRows b)
 template-length = int-field templateLenOf

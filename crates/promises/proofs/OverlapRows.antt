@@ -18,7 +18,7 @@ use Rattle.answers.specs.declared.Count.the-variants as Count
 use Rattle.answers.specs.declared.Flag.{Flag}
 use Rattle.answers.specs.declared.Flag.the-variants as Flag
 use Rattle.ends.specs.Sums.{both}
-use Rattle.ends.specs.Ends.{toPlace1, oneBased}
+use Rattle.ends.specs.Ends.{plusOne}
 use Rattle.oplist.specs.Ops.{mostOps, recordOps}
 use Rattle.text_rules.specs.Text.{textOps}
 use Rattle.text_rules.specs.Valid.{validMapped}
@@ -82,14 +82,14 @@ bases-extending-past-mate-ops reverse p xs m ys =
     (row tellCount (ltb mostOps (length ys)) (Count.Refused TooManyOps) _ 3 refl (answer refl refl))
 
 -- an FR pair is not placed where either place overflows
-sums-over : (p m : ℤ) → isOver (bothPlaces (toPlace1 (checked p)) (toPlace1 (checked m))) ≡ anyOutside (p ∷ m ∷ [])
+sums-over : (p m : ℤ) → isOver (bothPlaces (checked p) (checked m)) ≡ anyOutside (p ∷ m ∷ [])
 unfolding checked sideOf
 sums-over p m = by-sides (ltZ p (negsuc 2147483647)) (ltZ (pos 2147483647) p) (ltZ m (negsuc 2147483647)) (ltZ (pos 2147483647) m)
   where
     sum : (low high : Bool) (z : ℤ) → Sum
     sum low high z = sumAt (cond low Below (cond high Above (Within z)))
 
-    by-sides : (low high low' high' : Bool) → isOver (bothPlaces (toPlace1 (sum low high p)) (toPlace1 (sum low' high' m))) ≡ (low || high || (low' || high' || false))
+    by-sides : (low high low' high' : Bool) → isOver (bothPlaces (sum low high p) (sum low' high' m)) ≡ (low || high || (low' || high' || false))
     by-sides true high low' high' = refl
     by-sides false true low' high' = refl
     by-sides false false true high' = refl
@@ -97,7 +97,7 @@ sums-over p m = by-sides (ltZ p (negsuc 2147483647)) (ltZ (pos 2147483647) p) (l
     by-sides false false false false = refl
 
 placed-over : (fr : Bool) (b : List ℕ) (m : ℤ) → isOver (placedPair fr b m) ≡ (fr && anyOutside ((posOf b +ℤ pos 1) ∷ (m +ℤ pos 1) ∷ []))
-unfolding placedPair oneBased both
+unfolding placedPair plusOne both
 placed-over true b m = sums-over (posOf b +ℤ pos 1) (m +ℤ pos 1)
 placed-over false b m = refl
 

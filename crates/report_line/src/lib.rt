@@ -7,9 +7,9 @@ ghost use Rattle.line_rules.specs.Line.{tabbed, refusedFields, lineOf, oneIf};
 ghost use Rattle.line_rules.specs.Inner.{TextPut, rowFields, figuresOf};
 ghost use Rattle.put_text.specs.Puts.{Put};
 use answers::Count;
+use answers::Int;
 use answers::Nat;
 use answers::Refusal;
-use ends::Place1;
 use line_rules::Figures;
 use line_rules::LineRow;
 use line_rules::Text;
@@ -41,14 +41,14 @@ fn row_of(rec: &[u8]) -> Figures
     }
     let query = total.query;
     let same = query == little_endian::u32_at(rec, 16) as u64;
-    match ends::unclipped_5prime_from_raw_bam(rec) {
-        Place1::Refused(why) => Figures::Refused(why),
-        Place1::At(five) => match bin::bin_from_raw_bam(rec) {
+    match answers::bare1(ends::unclipped_5prime_from_raw_bam(rec)) {
+        Int::Refused(why) => Figures::Refused(why),
+        Int::Number(five) => match bin::bin_from_raw_bam(rec) {
             Nat::Refused(why) => Figures::Refused(why),
             Nat::Number(bin) => Figures::Row(LineRow {
                 refs: total.refs as i32,
                 query: query,
-                five: five.0,
+                five: five,
                 bin: bin,
                 same: same,
             }),

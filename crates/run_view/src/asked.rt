@@ -2,9 +2,9 @@
 use answers::Count;
 use answers::Int;
 use answers::Nat;
+use answers::Place0;
+use answers::Place1;
 use clip::Clipped;
-use ends::Found1;
-use ends::Place1;
 use fields::Part;
 use lengths::Lengths;
 use view::RawRecordView;
@@ -17,7 +17,7 @@ pub fn ref_id(bam: &[u8]) -> Int {
     RawRecordView::new(bam).ref_id()
 }
 
-pub fn pos(bam: &[u8]) -> Int {
+pub fn pos(bam: &[u8]) -> Place0 {
     RawRecordView::new(bam).pos()
 }
 
@@ -45,7 +45,7 @@ pub fn mate_ref_id(bam: &[u8]) -> Int {
     RawRecordView::new(bam).mate_ref_id()
 }
 
-pub fn mate_pos(bam: &[u8]) -> Int {
+pub fn mate_pos(bam: &[u8]) -> Place0 {
     RawRecordView::new(bam).mate_pos()
 }
 
@@ -77,11 +77,11 @@ pub fn cigar_lengths(bam: &[u8]) -> Lengths {
     RawRecordView::new(bam).cigar_lengths()
 }
 
-pub fn alignment_start_1based(bam: &[u8]) -> Found1 {
+pub fn alignment_start_1based(bam: &[u8]) -> Place1 {
     RawRecordView::new(bam).alignment_start_1based()
 }
 
-pub fn alignment_end_1based(bam: &[u8]) -> Found1 {
+pub fn alignment_end_1based(bam: &[u8]) -> Place1 {
     RawRecordView::new(bam).alignment_end_1based()
 }
 

@@ -23,7 +23,7 @@ fn numbers(bam: &[u8]) {
     shown::text(b"  ref_id ");
     shown::int(asked::ref_id(bam));
     shown::text(b", pos ");
-    shown::int(asked::pos(bam));
+    shown::place0(asked::pos(bam));
     shown::text(b", l_read_name ");
     shown::nat(asked::l_read_name(bam));
     shown::text(b", bin ");
@@ -40,7 +40,7 @@ fn more_numbers(bam: &[u8]) {
     shown::text(b", mate_ref_id ");
     shown::int(asked::mate_ref_id(bam));
     shown::text(b", mate_pos ");
-    shown::int(asked::mate_pos(bam));
+    shown::place0(asked::mate_pos(bam));
     shown::text(b", template_length ");
     shown::int(asked::template_length(bam));
     shown::end();
@@ -65,11 +65,11 @@ fn sums(bam: &[u8]) {
     shown::text(b", both ");
     shown::lengths(asked::cigar_lengths(bam));
     shown::text(b"; start ");
-    shown::found(asked::alignment_start_1based(bam));
+    shown::place1(asked::alignment_start_1based(bam));
     shown::text(b", end ");
-    shown::found(asked::alignment_end_1based(bam));
+    shown::place1(asked::alignment_end_1based(bam));
     shown::text(b", unclipped ");
-    shown::place(asked::unclipped_5prime_1based(bam));
+    shown::place1(asked::unclipped_5prime_1based(bam));
     shown::end();
 }
 

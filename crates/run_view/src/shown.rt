@@ -2,10 +2,10 @@
 use answers::Count;
 use answers::Int;
 use answers::Nat;
+use answers::Place0;
+use answers::Place1;
 use answers::Refusal;
 use clip::Clipped;
-use ends::Found1;
-use ends::Place1;
 use lengths::Lengths;
 
 pub fn text(words: &[u8]) {
@@ -67,18 +67,18 @@ pub fn lengths(answer: Lengths) {
     }
 }
 
-pub fn place(answer: Place1) {
+pub fn place0(answer: Place0) {
     match answer {
-        Place1::At(at) => integer(at.0),
-        Place1::Refused(why) => refused(why),
+        Place0::At(at) => integer(at.0),
+        Place0::Refused(why) => refused(why),
     }
 }
 
-pub fn found(answer: Found1) {
+pub fn place1(answer: Place1) {
     match answer {
-        Found1::At(at) => integer(at.0),
-        Found1::Nothing => text(b"none"),
-        Found1::Refused(why) => refused(why),
+        Place1::At(at) => integer(at.0),
+        Place1::Nothing => text(b"none"),
+        Place1::Refused(why) => refused(why),
     }
 }
 

@@ -19,10 +19,10 @@ use Rattle.answers.proofs.Int as Int
 use Rattle.answers.proofs.Int.Laws as Int′
 use Rattle.answers.proofs.Nat as Nat
 use Rattle.answers.proofs.Nat.Laws as Nat′
-use Rattle.ends.proofs.Found1 as Found1
-use Rattle.ends.proofs.Found1.Laws as Found1′
-use Rattle.ends.proofs.Place1 as Place1
-use Rattle.ends.proofs.Place1.Laws as Place1′
+use Rattle.answers.proofs.Place0 as Place0
+use Rattle.answers.proofs.Place0.Laws as Place0′
+use Rattle.answers.proofs.Place1 as Place1
+use Rattle.answers.proofs.Place1.Laws as Place1′
 use Rattle.lengths.proofs.Lengths as Lengths
 use Rattle.lengths.proofs.Lengths.Laws as Lengths′
 use Rattle.fields.proofs.ref_id as ref-id
@@ -92,21 +92,21 @@ module _ {M : Type 1} (𝓤 : URA M) (H : Heap 𝓤) (𝓜 : Model 𝓤 H) (𝓖
   abbrev known : List Callee
   known =
       first ∷
-      record { name = pos-symbol.name; routine = pos-symbol.routine; answer = enum 𝓤 H 𝓜 𝓖 Int.the-type Int′.the-laws tt; promise = λ κs a. pos.spec 𝓤 H (𝓖 .A) (𝓜 .mem) (𝓡 .run) κs a .ensures tt; met = pos-met.met 𝓤 H 𝓜 𝓖 𝓡 } ∷
+      record { name = pos-symbol.name; routine = pos-symbol.routine; answer = enum 𝓤 H 𝓜 𝓖 Place0.the-type Place0′.the-laws tt; promise = λ κs a. pos.spec 𝓤 H (𝓖 .A) (𝓜 .mem) (𝓡 .run) κs a .ensures tt; met = pos-met.met 𝓤 H 𝓜 𝓖 𝓡 } ∷
       record { name = l-read-name-symbol.name; routine = l-read-name-symbol.routine; answer = enum 𝓤 H 𝓜 𝓖 Nat.the-type Nat′.the-laws tt; promise = λ κs a. l-read-name.spec 𝓤 H (𝓖 .A) (𝓜 .mem) (𝓡 .run) κs a .ensures tt; met = l-read-name-met.met 𝓤 H 𝓜 𝓖 𝓡 } ∷
       record { name = bin-symbol.name; routine = bin-symbol.routine; answer = enum 𝓤 H 𝓜 𝓖 Nat.the-type Nat′.the-laws tt; promise = λ κs a. bin.spec 𝓤 H (𝓖 .A) (𝓜 .mem) (𝓡 .run) κs a .ensures tt; met = bin-met.met 𝓤 H 𝓜 𝓖 𝓡 } ∷
       record { name = n-cigar-op-symbol.name; routine = n-cigar-op-symbol.routine; answer = enum 𝓤 H 𝓜 𝓖 Nat.the-type Nat′.the-laws tt; promise = λ κs a. n-cigar-op.spec 𝓤 H (𝓖 .A) (𝓜 .mem) (𝓡 .run) κs a .ensures tt; met = n-cigar-op-met.met 𝓤 H 𝓜 𝓖 𝓡 } ∷
       record { name = flags-symbol.name; routine = flags-symbol.routine; answer = enum 𝓤 H 𝓜 𝓖 Nat.the-type Nat′.the-laws tt; promise = λ κs a. flags.spec 𝓤 H (𝓖 .A) (𝓜 .mem) (𝓡 .run) κs a .ensures tt; met = flags-met.met 𝓤 H 𝓜 𝓖 𝓡 } ∷
       record { name = l-seq-symbol.name; routine = l-seq-symbol.routine; answer = enum 𝓤 H 𝓜 𝓖 Nat.the-type Nat′.the-laws tt; promise = λ κs a. l-seq.spec 𝓤 H (𝓖 .A) (𝓜 .mem) (𝓡 .run) κs a .ensures tt; met = l-seq-met.met 𝓤 H 𝓜 𝓖 𝓡 } ∷
       record { name = mate-ref-id-symbol.name; routine = mate-ref-id-symbol.routine; answer = enum 𝓤 H 𝓜 𝓖 Int.the-type Int′.the-laws tt; promise = λ κs a. mate-ref-id.spec 𝓤 H (𝓖 .A) (𝓜 .mem) (𝓡 .run) κs a .ensures tt; met = mate-ref-id-met.met 𝓤 H 𝓜 𝓖 𝓡 } ∷
-      record { name = mate-pos-symbol.name; routine = mate-pos-symbol.routine; answer = enum 𝓤 H 𝓜 𝓖 Int.the-type Int′.the-laws tt; promise = λ κs a. mate-pos.spec 𝓤 H (𝓖 .A) (𝓜 .mem) (𝓡 .run) κs a .ensures tt; met = mate-pos-met.met 𝓤 H 𝓜 𝓖 𝓡 } ∷
+      record { name = mate-pos-symbol.name; routine = mate-pos-symbol.routine; answer = enum 𝓤 H 𝓜 𝓖 Place0.the-type Place0′.the-laws tt; promise = λ κs a. mate-pos.spec 𝓤 H (𝓖 .A) (𝓜 .mem) (𝓡 .run) κs a .ensures tt; met = mate-pos-met.met 𝓤 H 𝓜 𝓖 𝓡 } ∷
       record { name = template-length-symbol.name; routine = template-length-symbol.routine; answer = enum 𝓤 H 𝓜 𝓖 Int.the-type Int′.the-laws tt; promise = λ κs a. template-length.spec 𝓤 H (𝓖 .A) (𝓜 .mem) (𝓡 .run) κs a .ensures tt; met = template-length-met.met 𝓤 H 𝓜 𝓖 𝓡 } ∷
       record { name = cigar-raw-bytes-symbol.name; routine = cigar-raw-bytes-symbol.routine; answer = part 𝓤 H 𝓜 𝓖; promise = λ κs a. cigar-raw-bytes.spec 𝓤 H (𝓖 .A) (𝓜 .mem) (𝓡 .run) κs a .ensures tt; met = cigar-raw-bytes-met.met 𝓤 H 𝓜 𝓖 𝓡 } ∷
       record { name = reference-length-from-raw-bam-symbol.name; routine = reference-length-from-raw-bam-symbol.routine; answer = sint32 𝓤 H 𝓜 𝓖; promise = λ κs a. reference-length-from-raw-bam.spec 𝓤 H (𝓖 .A) (𝓜 .mem) (𝓡 .run) κs a .ensures tt; met = reference-length-from-raw-bam-met.met 𝓤 H 𝓜 𝓖 𝓡 } ∷
       record { name = query-length-symbol.name; routine = query-length-symbol.routine; answer = enum 𝓤 H 𝓜 𝓖 Count.the-type Count′.the-laws tt; promise = λ κs a. query-length.spec 𝓤 H (𝓖 .A) (𝓜 .mem) (𝓡 .run) κs a .ensures tt; met = query-length-met.met 𝓤 H 𝓜 𝓖 𝓡 } ∷
       record { name = cigar-lengths-symbol.name; routine = cigar-lengths-symbol.routine; answer = enum 𝓤 H 𝓜 𝓖 Lengths.the-type Lengths′.the-laws tt; promise = λ κs a. cigar-lengths.spec 𝓤 H (𝓖 .A) (𝓜 .mem) (𝓡 .run) κs a .ensures tt; met = cigar-lengths-met.met 𝓤 H 𝓜 𝓖 𝓡 } ∷
-      record { name = alignment-start-from-raw-symbol.name; routine = alignment-start-from-raw-symbol.routine; answer = enum 𝓤 H 𝓜 𝓖 Found1.the-type Found1′.the-laws tt; promise = λ κs a. alignment-start-from-raw.spec 𝓤 H (𝓖 .A) (𝓜 .mem) (𝓡 .run) κs a .ensures tt; met = alignment-start-from-raw-met.met 𝓤 H 𝓜 𝓖 𝓡 } ∷
-      record { name = alignment-end-from-raw-symbol.name; routine = alignment-end-from-raw-symbol.routine; answer = enum 𝓤 H 𝓜 𝓖 Found1.the-type Found1′.the-laws tt; promise = λ κs a. alignment-end-from-raw.spec 𝓤 H (𝓖 .A) (𝓜 .mem) (𝓡 .run) κs a .ensures tt; met = alignment-end-from-raw-met.met 𝓤 H 𝓜 𝓖 𝓡 } ∷
+      record { name = alignment-start-from-raw-symbol.name; routine = alignment-start-from-raw-symbol.routine; answer = enum 𝓤 H 𝓜 𝓖 Place1.the-type Place1′.the-laws tt; promise = λ κs a. alignment-start-from-raw.spec 𝓤 H (𝓖 .A) (𝓜 .mem) (𝓡 .run) κs a .ensures tt; met = alignment-start-from-raw-met.met 𝓤 H 𝓜 𝓖 𝓡 } ∷
+      record { name = alignment-end-from-raw-symbol.name; routine = alignment-end-from-raw-symbol.routine; answer = enum 𝓤 H 𝓜 𝓖 Place1.the-type Place1′.the-laws tt; promise = λ κs a. alignment-end-from-raw.spec 𝓤 H (𝓖 .A) (𝓜 .mem) (𝓡 .run) κs a .ensures tt; met = alignment-end-from-raw-met.met 𝓤 H 𝓜 𝓖 𝓡 } ∷
       record { name = unclipped-5prime-from-raw-bam-symbol.name; routine = unclipped-5prime-from-raw-bam-symbol.routine; answer = enum 𝓤 H 𝓜 𝓖 Place1.the-type Place1′.the-laws tt; promise = λ κs a. unclipped-5prime-from-raw-bam.spec 𝓤 H (𝓖 .A) (𝓜 .mem) (𝓡 .run) κs a .ensures tt; met = unclipped-5prime-from-raw-bam-met.met 𝓤 H 𝓜 𝓖 𝓡 } ∷
       []
 

@@ -2,7 +2,7 @@
 ghost use mathlib.Core.Path.{_≡_};
 ghost use Rattle.answers.specs.Settled.{Settled};
 ghost use Rattle.sam.specs.Record.{refIdOf, posOf, nameLenOf, storedBinOf, opCountOf, flagsOf, seqLenOf, mateRefIdOf, matePosOf, templateLenOf};
-ghost use Rattle.fields.specs.Fields.{intField, natField, partRefusal, cigarPart};
+ghost use Rattle.fields.specs.Fields.{intField, natField, posField, partRefusal, cigarPart};
 ghost use Rattle.lengths.specs.Lengths.{refLengthOrZero, recordQueryLength, bothLengths};
 ghost use Rattle.ends.specs.Ends.{unclippedOf, asRust, alignmentStart, alignmentEnd};
 ghost use Rattle.print.specs.Text.{printed};
@@ -10,9 +10,9 @@ ghost use Rattle.clip.specs.Answer.{clippedRecord};
 use answers::Count;
 use answers::Int;
 use answers::Nat;
+use answers::Place0;
+use answers::Place1;
 use clip::Clipped;
-use ends::Found1;
-use ends::Place1;
 use fields::Part;
 use lengths::Lengths;
 
@@ -37,8 +37,8 @@ impl<'a> RawRecordView<'a> {
         fields::ref_id(self.0)
     }
 
-    pub fn pos(&self) -> Int
-        ensures { λ r. ⌜ r ≡ intField posOf (now (now (self .entry) .0)) ⌝ }
+    pub fn pos(&self) -> Place0
+        ensures { λ r. ⌜ r ≡ posField posOf (now (now (self .entry) .0)) ⌝ }
     {
         fields::pos(self.0)
     }
@@ -79,8 +79,8 @@ impl<'a> RawRecordView<'a> {
         fields::mate_ref_id(self.0)
     }
 
-    pub fn mate_pos(&self) -> Int
-        ensures { λ r. ⌜ r ≡ intField matePosOf (now (now (self .entry) .0)) ⌝ }
+    pub fn mate_pos(&self) -> Place0
+        ensures { λ r. ⌜ r ≡ posField matePosOf (now (now (self .entry) .0)) ⌝ }
     {
         fields::mate_pos(self.0)
     }
@@ -116,13 +116,13 @@ impl<'a> RawRecordView<'a> {
         lengths::cigar_lengths(self.0)
     }
 
-    pub fn alignment_start_1based(&self) -> Found1
+    pub fn alignment_start_1based(&self) -> Place1
         ensures { λ r. ⌜ r ≡ alignmentStart (now (now (self .entry) .0)) ⌝ }
     {
         ends::alignment_start_from_raw(self.0)
     }
 
-    pub fn alignment_end_1based(&self) -> Found1
+    pub fn alignment_end_1based(&self) -> Place1
         ensures { λ r. ⌜ r ≡ alignmentEnd (now (now (self .entry) .0)) ⌝ }
     {
         ends::alignment_end_from_raw(self.0)

@@ -11,12 +11,15 @@ use Rattle.bin.proofs.bin_from.Statement.{statement}
 use Rattle.bin.proofs.bin_from.Tie as tie
 
 -- the sum of the start and the span
-summed : (c : tie.After-checked-add) → c .checked-add .result ≡ checked (c .before .before .args .beg +ℤ spanOf (c .before .before .args .n))
+summed : (c : tie.After-checked-add) → let a = c .before .before .before .args in c .checked-add .result ≡ checked (a .beg .0 +ℤ spanOf (a .n))
 summed c =
-    let s = c .before .span-of .result in
+    let k = c .before .before in
+    let a = k .before .args in
+    let s = k .span-of .result in
+    let e : toZ w32 (ofZ w32 (a .beg .0)) ≡ a .beg .0 = search needs in
     let f : toZ w32 (ofZ w32 s) ≡ s = search needs in
-    let g : s ≡ spanOf (c .before .before .args .n) = simp (toZ-ofZ (c .before .before .fits .n)) at (c .before .span-of .ensures) in
-    simp (toZ-ofZ (c .before .before .fits .beg), f ∙ g) at (c .checked-add .ensures)
+    let g : s ≡ spanOf (a .n) = simp (toZ-ofZ (k .before .fits .n)) at (k .span-of .ensures) in
+    simp (e, f ∙ g) at (c .checked-add .ensures)
 
 span-of-requires : tie.Need-span-of-requires
 span-of-requires c κs = search needs
@@ -39,11 +42,11 @@ returns c = let k = c .before .before in
     let d = k .before .before in
     let z = k .end .given .0 .0 in
     let e : toZ w32 (ofZ w32 z) ≡ z = search needs in
-    (simp (toZ-ofZ (d .before .before .fits .beg), e) at (c .reg2bin .ensures)) ∙ ap (binUpTo (d .before .before .args .beg)) (sym (k .end .given .1) ∙ summed d)
+    (simp e at (c .reg2bin .ensures)) ∙ ap (binUpTo (d .before .before .before .args .beg .0)) (sym (k .end .given .1) ∙ summed d)
 
 returns-2 : tie.Need-returns-2
 unfolding binFrom binUpTo
-returns-2 c = let d = c .before .before in ap (binUpTo (d .before .before .args .beg)) (sym (c .enum-told .given .1) ∙ summed d)
+returns-2 c = let d = c .before .before in ap (binUpTo (d .before .before .before .args .beg .0)) (sym (c .enum-told .given .1) ∙ summed d)
 
 pub bin-from-spec : {M : Type 1} → statement M
 bin-from-spec =

@@ -6,9 +6,11 @@ use native.Mathlib.Omega.{arith}
 use borrow.Author.Tests.{lt-ltb}
 use lib.ListN.{length}
 use denote.Ref.{now}
+use lib.IntN.{ℤ}
 use mir.Syntax.{w32}
 use mir.Val.{toZ, ofZ}
 use Rattle.sam.specs.Record.{posOf}
+use Rattle.answers.specs.declared.Int.the-variants.{Number}
 use Rattle.bin.specs.Bin.{recordBin, binFrom}
 use Rattle.bin.proofs.Records.{before-first, from-first}
 use borrow.Author.Needs.{needs}
@@ -19,32 +21,32 @@ returns : tie.Need-returns
 unfolding recordBin
 returns c = simp (lt-ltb _ _ (c .if1 .taken))
 
-i32-at-requires : tie.Need-i32-at-requires
-i32-at-requires c κs = search needs
+own-place-requires : tie.Need-own-place-requires
+own-place-requires c κs = search needs
 
 -- the start, as the record has it
-module _ (c : tie.After-i32-at) where
+module _ (c : tie.After-own-place) where
   abbrev b : List ℕ
   b = now (c .before .before .before .args .bam)
 
   long : 32 ≤ length b
   long = omega arith
 
-  start : toZ w32 (ofZ w32 (c .i32-at .result)) ≡ posOf b
+  start : toZ w32 (ofZ w32 (c .own-place .result .0)) ≡ posOf b
   start =
-      let e : toZ w32 (ofZ w32 (c .i32-at .result)) ≡ c .i32-at .result = search needs in
-      e ∙ c .i32-at .ensures
+      let e : toZ w32 (ofZ w32 (c .own-place .result .0)) ≡ c .own-place .result .0 = search needs in
+      e ∙ c .own-place .ensures
 
 -- the length that was told
 module _ (c : tie.After-asked-length) where
-  abbrev first : tie.After-i32-at
-  first = c .before .before
+  abbrev first : tie.After-own-place
+  first = c .before .before .before .before
 
   cases : recordBin (b first) ≡ binFrom (posOf (b first)) (c .asked-length .result)
   cases = from-first (b first) (long first) (simp (start first) at (c .before .if2 .left)) ∙ ap (binFrom (posOf (b first))) (sym (c .asked-length .ensures))
 
 returns-2 : tie.Need-returns-2
-returns-2 c = sym (before-first (b (c .before)) (long (c .before)) (simp (start (c .before)) at (c .if2 .taken)))
+returns-2 c = let f = c .before .before .before in sym (before-first (b f) (long f) (simp (start f) at (c .if2 .taken)))
 
 asked-length-requires : tie.Need-asked-length-requires
 asked-length-requires c κs = search needs
@@ -63,7 +65,7 @@ returns-3 c = let k = c .before .before in
     let d = k .before .before in
     let n = k .n .given .0 .0 in
     let e : toZ w32 (ofZ w32 n) ≡ n = search needs in
-    (simp (start (first d), e) at (c .bin-from .ensures)) ∙ sym (cases d ∙ ap (binFrom (posOf (b (first d)))) (k .n .given .1))
+    (simp e at (c .bin-from .ensures)) ∙ ap (λ (z : ℤ). binFrom z (Number n)) (first d .own-place .ensures) ∙ sym (cases d ∙ ap (binFrom (posOf (b (first d)))) (k .n .given .1))
 
 returns-4 : tie.Need-returns-4
 unfolding binFrom
@@ -75,7 +77,7 @@ bin-from-raw-bam-spec =
     tie.close
     (tie.spec
     returns
-    i32-at-requires
+    own-place-requires
     returns-2
     asked-length-requires
     enum-known-n

@@ -28,11 +28,12 @@ told c = simp (toZ-ofZ (c .before .fits .end)) at (c .checked-sub .ensures)
 returns : tie.Need-returns
 unfolding reg2bin binTo
 returns c =
-    let n = c .before .before in
+    let n = c .before .before .before in
     let s = n .before .before .before in
     let z = n .last .given .0 .0 in
     let r : toZ w32 (ofZ w32 z) ≡ z = search needs in
-    simp (sym (told (n .before .before)) ∙ n .last .given .1) (ap Number (simp (toZ-ofZ (s .fits .beg), r) at (c .bin-of .ensures)))
+    let e : toZ w32 (ofZ w32 (s .args .beg .0)) ≡ s .args .beg .0 = search needs in
+    simp (sym (told (n .before .before)) ∙ n .last .given .1) (ap Number (simp (e, r) at (c .bin-of .ensures)))
 
 returns-2 : tie.Need-returns-2
 unfolding reg2bin binTo

@@ -8,17 +8,12 @@ use mir.Val.{toZ, ofZ}
 use Rattle.signed.specs.declared.Sum.{Sum}
 use Rattle.sam.specs.Record.{flagsOf, isReverse, isUnmapped}
 use Rattle.oplist.specs.Ops.{opsOf, recordOps}
-use Rattle.ends.specs.declared.Place1.{Place1}
-use Rattle.ends.specs.declared.Unclipped.{Unclipped}
-use Rattle.ends.specs.Ends.{fivePrime, noOps, toPlace1, oneBased, asUnclipped, unclippedAt, unclippedOf}
+use Rattle.ends.specs.Ends.{fivePrime, noOps, plusOne, asUnclipped, unclippedAt, unclippedOf}
 use Rattle.ends.proofs.CaseLaws.{is-unmapped, no-ops, is-placed, none-left, some-left, forward, backward}
 use borrow.Author.Tests.{lt-ltb}
 use borrow.Author.Needs.{needs}
 use Rattle.ends.proofs.unclipped_5prime.Statement.{statement}
 use Rattle.ends.proofs.unclipped_5prime.Tie as tie
-
-abbrev at-place : Sum → Unclipped
-at-place s = asUnclipped (toPlace1 s)
 
 -- what the tests tell
 mapped : (c : tie.Else2) → isUnmapped (flagsOf (c .before .before .before .before .before .args .bam .now)) ≡ false
@@ -30,31 +25,30 @@ has-ops c =
     some-left (k .before .before .before .before .before .before .args .bam .now) _ _ (c .before .count .ensures .0) (k .of-record .ensures .0 _) (c .if3 .left)
 
 -- the record's place, from `pos` + 1
-from-next : (c : tie.After-one-based) → let l = c .before .before in let b = l .before .before .before .before .before .before .before .before .before .args .bam .now in
-    unclippedAt (c .one-based .result) (isReverse (flagsOf b)) (recordOps b) ≡ unclippedOf b
+from-next : (c : tie.After-plus-one) → let l = c .before .before in let b = l .before .before .before .before .before .before .before .before .before .args .bam .now in
+    unclippedAt (c .plus-one .result) (isReverse (flagsOf b)) (recordOps b) ≡ unclippedOf b
 from-next c =
     let i = c .before in
     let l = i .before in
     let m = l .before .before .before .before in
     let u = m .before .before in
     let b = u .before .before .before .args .bam .now in
-    let e : toZ w32 (ofZ w32 (i .i32-at .result)) ≡ i .i32-at .result = search needs in
-    ap (λ (q : Place1). unclippedAt q (isReverse (flagsOf b)) (recordOps b)) (c .one-based .ensures ∙ ap (λ (z : ℤ). oneBased (record { 0 = z })) (e ∙ i .i32-at .ensures))
+    ap (λ (q : Sum). unclippedAt q (isReverse (flagsOf b)) (recordOps b)) (c .plus-one .ensures ∙ ap (λ (z : ℤ). plusOne (record { 0 = z })) (i .own-place .ensures))
     ∙ is-placed b (u .before .if1 .left) (mapped m) (has-ops l)
 
 -- and by its strand
 placed : (c : tie.After-is-reverse) → let k = c .before .before .before .before in let o = k .before .before .before .before .before in let b = o .before .before .before .before .before .before .args .bam .now in
-    at-place (fivePrime (c .is-reverse .result) (c .before .before .p .given .0 .0 .0) (opsOf [] b (o .of-record .result))) ≡ unclippedOf b
+    asUnclipped (fivePrime (c .is-reverse .result) (c .before .before .at .given .0 .0) (opsOf [] b (o .of-record .result))) ≡ unclippedOf b
 placed c =
     let g = c .before .before in
     let k = g .before .before in
     let o = k .before .before .before .before .before in
     let u = o .before .before .before in
     let b = u .before .before .before .args .bam .now in
-    let z = g .p .given .0 .0 .0 in
-    ap (λ (t : Bool). at-place (fivePrime t z (opsOf [] b (o .of-record .result)))) (c .is-reverse .ensures ∙ ap isReverse (u .u16-at .ensures .0))
-    ∙ ap (λ xs. at-place (fivePrime (isReverse (flagsOf b)) z xs)) (o .of-record .ensures .0 _)
-    ∙ ap (λ (q : Place1). unclippedAt q (isReverse (flagsOf b)) (recordOps b)) (sym (g .p .given .1))
+    let z = g .at .given .0 .0 in
+    ap (λ (t : Bool). asUnclipped (fivePrime t z (opsOf [] b (o .of-record .result)))) (c .is-reverse .ensures ∙ ap isReverse (u .u16-at .ensures .0))
+    ∙ ap (λ xs. asUnclipped (fivePrime (isReverse (flagsOf b)) z xs)) (o .of-record .ensures .0 _)
+    ∙ ap (λ (q : Sum). unclippedAt q (isReverse (flagsOf b)) (recordOps b)) (sym (g .at .given .1))
     ∙ from-next k
 
 returns : tie.Need-returns
@@ -90,14 +84,23 @@ returns-3 c =
     let b = u .before .before .before .args .bam .now in
     no-ops b (u .before .if1 .left) (mapped m) (none-left b _ _ (n .count .ensures .0) (k .of-record .ensures .0 _) (c .if3 .taken))
 
-i32-at-requires : tie.Need-i32-at-requires
-i32-at-requires c κs = search needs
+own-place-requires : tie.Need-own-place-requires
+own-place-requires c κs = search needs
 
-one-based-requires : tie.Need-one-based-requires
-one-based-requires c κs = search needs
+plus-one-requires : tie.Need-plus-one-requires
+plus-one-requires c κs = search needs
 
-enum-known-p : tie.Need-enum-known-p
-enum-known-p c = search needs
+enum-known-at : tie.Need-enum-known-at
+enum-known-at c = search needs
+
+enum-told : tie.Need-enum-told
+enum-told c = search needs
+
+returns-4 : tie.Need-returns-4
+returns-4 c =
+    let k = c .before .before in
+    let b = k .before .before .before .before .before .before .before .before .before .before .before .args .bam .now in
+    ap (λ (q : Sum). unclippedAt q (isReverse (flagsOf b)) (recordOps b)) (sym (c .enum-told .given .1)) ∙ from-next k
 
 is-reverse-requires : tie.Need-is-reverse-requires
 is-reverse-requires c κs = search needs
@@ -114,16 +117,16 @@ end-from-requires c κs = search needs
 as-unclipped-requires : tie.Need-as-unclipped-requires
 as-unclipped-requires c κs = search needs
 
-returns-4 : tie.Need-returns-4
-returns-4 c =
-    let w = c .before .before .before in
+returns-5 : tie.Need-returns-5
+returns-5 c =
+    let w = c .before .before in
     let t = w .before .before in
     let r = t .before in
-    let z = r .before .before .p .given .0 .0 .0 in
+    let z = r .before .before .at .given .0 .0 in
     let e : toZ w32 (ofZ w32 z) ≡ z = search needs in
     let f = w .tail-of .ensures in
     c .as-unclipped .ensures
-    ∙ ap at-place (simp e at (c .before .end-from .ensures) ∙ backward z _ (r .is-reverse .result) (w .tail-of .result) (t .if4 .taken) (f .0) (f .1) (f .2))
+    ∙ ap asUnclipped (simp e at (c .before .end-from .ensures) ∙ backward z _ (r .is-reverse .result) (w .tail-of .result) (t .if4 .taken) (f .0) (f .1) (f .2))
     ∙ placed r
 
 slice-aggregate-leading-clips : tie.Need-slice-aggregate-leading-clips
@@ -138,26 +141,16 @@ start-from-requires c κs = search needs
 as-unclipped-requires-2 : tie.Need-as-unclipped-requires-2
 as-unclipped-requires-2 c κs = search needs
 
-enum-known-why : tie.Need-enum-known-why
-enum-known-why c = search needs
-
-returns-5 : tie.Need-returns-5
-returns-5 c =
-    let w = c .before .before .before in
-    let t = w .before .before in
-    let r = t .before in
-    let z = r .before .before .p .given .0 .0 .0 in
-    let e : toZ w32 (ofZ w32 z) ≡ z = search needs in
-    c .as-unclipped2 .ensures
-    ∙ ap at-place (simp e at (c .before .start-from .ensures) ∙ forward z _ (r .is-reverse .result) (w .leading-clips .result) (t .if4 .left) (w .leading-clips .ensures))
-    ∙ placed r
-
 returns-6 : tie.Need-returns-6
 returns-6 c =
-    let g = c .before in
-    let k = g .before .before in
-    let b = k .before .before .before .before .before .before .before .before .before .before .before .args .bam .now in
-    ap (λ (q : Place1). unclippedAt q (isReverse (flagsOf b)) (recordOps b)) (sym (g .why .given .1)) ∙ from-next k
+    let w = c .before .before in
+    let t = w .before .before in
+    let r = t .before in
+    let z = r .before .before .at .given .0 .0 in
+    let e : toZ w32 (ofZ w32 z) ≡ z = search needs in
+    c .as-unclipped2 .ensures
+    ∙ ap asUnclipped (simp e at (c .before .start-from .ensures) ∙ forward z _ (r .is-reverse .result) (w .leading-clips .result) (t .if4 .left) (w .leading-clips .ensures))
+    ∙ placed r
 
 pub unclipped-5prime-spec : {M : Type 1} → statement M
 unclipped-5prime-spec =
@@ -171,19 +164,19 @@ unclipped-5prime-spec =
     slice-aggregate-count
     count-requires
     returns-3
-    i32-at-requires
-    one-based-requires
-    enum-known-p
+    own-place-requires
+    plus-one-requires
+    enum-known-at
+    enum-told
+    returns-4
     is-reverse-requires
     slice-aggregate-tail-of
     tail-of-requires
     end-from-requires
     as-unclipped-requires
-    returns-4
+    returns-5
     slice-aggregate-leading-clips
     leading-clips-requires
     start-from-requires
     as-unclipped-requires-2
-    enum-known-why
-    returns-5
     returns-6)

@@ -1,4 +1,7 @@
--- By the two answers.
+-- By the two sums.
+use mathlib.Core.Path.{_≡_}
+use mir.Syntax.{w32}
+use mir.Val.{toZ, ofZ}
 use borrow.Author.Needs.{needs}
 use Rattle.overlap.proofs.both_places.Statement.{statement}
 use Rattle.overlap.proofs.both_places.Tie as tie
@@ -22,7 +25,12 @@ returns-2 : tie.Need-returns-2
 returns-2 c = search needs
 
 returns-3 : tie.Need-returns-3
-returns-3 c = simp (c .before .before .before .before .own .given .1, c .before .mate .given .1)
+returns-3 c =
+    let m = c .before in
+    let p = m .before .before .before in
+    let x : toZ w32 (ofZ w32 (p .own .given .0 .0)) ≡ p .own .given .0 .0 = search needs in
+    let y : toZ w32 (ofZ w32 (m .mate .given .0 .0)) ≡ m .mate .given .0 .0 = search needs in
+    simp (p .own .given .1, m .mate .given .1, x, y)
 
 pub both-places-spec : {M : Type 1} → statement M
 both-places-spec =

@@ -4,8 +4,6 @@ use mathlib.Core.List.{List}
 use denote.Ref.{now}
 use lib.ListN.{length, take}
 use lib.Seq.{take-all}
-use mir.Syntax.{w32}
-use mir.Val.{toZ, ofZ}
 use Prim.Native.Nat.{ℕ, _≤_}
 use native.Mathlib.Omega.{arith}
 use Rattle.lists.specs.Lists.{splice}
@@ -34,15 +32,13 @@ module _ (q : tie.After-placed-pair) where
   -- where the two lie
   lie : listLeft (placedPair (q .before .before .before .before .before .args .fr) b (matePosOf b)) b xs d ≡ listLeft (q .placed-pair .result) b xs d
   lie =
-      let i = q .before .i32-at .result in
-      let e : toZ w32 (ofZ w32 i) ≡ i = search needs in
-      ap (λ (p : PairPlaces). listLeft p b xs d) (sym (q .placed-pair .ensures ∙ ap (placedPair (q .before .before .before .before .before .args .fr) b) (e ∙ q .before .i32-at .ensures)))
+      ap (λ (p : PairPlaces). listLeft p b xs d) (sym (q .placed-pair .ensures ∙ ap (placedPair (q .before .before .before .before .before .args .fr) b) (q .before .mate-place .ensures)))
 
   count : length xs ≡ q .before .before .before .before .before .args .n
   count = q .before .before .before .before .before .pre .1
 
-i32-at-requires : tie.Need-i32-at-requires
-i32-at-requires c κs = search needs
+mate-place-requires : tie.Need-mate-place-requires
+mate-place-requires c κs = search needs
 
 placed-pair-requires : tie.Need-placed-pair-requires
 placed-pair-requires c κs = search needs
@@ -60,8 +56,8 @@ returns-2 c = let q = c .before .before .before in
 write-ops-requires : tie.Need-write-ops-requires
 write-ops-requires c κs = search needs
 
-cast-t20 : tie.Need-cast-t20
-cast-t20 c = search needs
+cast-t19 : tie.Need-cast-t19
+cast-t19 c = search needs
 
 slice-aggregate-bases-at : tie.Need-slice-aggregate-bases-at
 slice-aggregate-bases-at c = search needs
@@ -86,13 +82,13 @@ pub list-left-spec : {M : Type 1} → statement M
 list-left-spec =
     tie.close
     (tie.spec
-    i32-at-requires
+    mate-place-requires
     placed-pair-requires
     is-over-requires
     returns
     returns-2
     write-ops-requires
-    cast-t20
+    cast-t19
     slice-aggregate-bases-at
     bases-at-requires
     same-length

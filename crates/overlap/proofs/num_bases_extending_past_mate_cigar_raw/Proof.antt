@@ -71,8 +71,8 @@ returns-4 c = let k = c .before .before .before .before .before in
     let s = k .before .before .before .before .before .before .before .before .before in
     cigar-bad (now (s .args .bam)) (now (s .args .mate-ops)) (k .before .before .before .before .before .before .if1 .left) (k .before .before .before .before .before .if2 .left) (sym (validity (c .before)) ∙ not-true _ (c .if4 .taken))
 
-i32-at-requires : tie.Need-i32-at-requires
-i32-at-requires c κs = search needs
+mate-place-requires : tie.Need-mate-place-requires
+mate-place-requires c κs = search needs
 
 slice-aggregate-pair-overhang : tie.Need-slice-aggregate-pair-overhang
 slice-aggregate-pair-overhang c = search needs
@@ -84,10 +84,8 @@ returns-5 : tie.Need-returns-5
 returns-5 c = let v = c .before .before .before .before in
     let k = v .before .before .before .before in
     let s = k .before .before .before .before .before .before .before .before .before in
-    let i = c .before .before .i32-at .result in
-    let e : toZ w32 (ofZ w32 i) ≡ i = search needs in
     cigar-is (now (s .args .bam)) (now (s .args .mate-ops)) (k .before .before .before .before .before .before .if1 .left) (k .before .before .before .before .before .if2 .left) (sym (validity v) ∙ not-false _ (c .before .before .before .if4 .left)) (orientation k)
-    (e ∙ c .before .before .i32-at .ensures) (k .before .before .before .before .lent .ensures []) (c .pair-overhang .ensures)
+    (c .before .before .mate-place .ensures) (k .before .before .before .before .lent .ensures []) (c .pair-overhang .ensures)
 
 pub num-bases-extending-past-mate-cigar-raw-spec : {M : Type 1} → statement M
 num-bases-extending-past-mate-cigar-raw-spec =
@@ -105,7 +103,7 @@ num-bases-extending-past-mate-cigar-raw-spec =
     slice-aggregate-valid
     valid-requires
     returns-4
-    i32-at-requires
+    mate-place-requires
     slice-aggregate-pair-overhang
     pair-overhang-requires
     returns-5)

@@ -1,8 +1,5 @@
 -- One test after another, and then the overhang by the pair test.
-use mathlib.Core.Path.{_≡_, _∙_}
 use denote.Ref.{now}
-use mir.Syntax.{w32}
-use mir.Val.{toZ, ofZ}
 use mathlib.Core.List.{[]}
 use Rattle.overlap.proofs.CallLaws.{record-short, mate-short, record-is}
 use borrow.Author.Needs.{needs}
@@ -18,8 +15,8 @@ returns-2 c = mate-short _ _ (c .before .if1 .left) (c .if2 .taken)
 primary-fr-requires : tie.Need-primary-fr-requires
 primary-fr-requires c κs = search needs
 
-i32-at-requires : tie.Need-i32-at-requires
-i32-at-requires c κs = search needs
+own-place-requires : tie.Need-own-place-requires
+own-place-requires c κs = search needs
 
 slice-aggregate-pair-overhang : tie.Need-slice-aggregate-pair-overhang
 slice-aggregate-pair-overhang c = search needs
@@ -33,9 +30,7 @@ pair-overhang-requires c κs = search needs
 returns-3 : tie.Need-returns-3
 returns-3 c = let k = c .before .before .before .before in
     let s = k .before .before .before .before .before in
-    let i = c .before .before .before .i32-at .result in
-    let e : toZ w32 (ofZ w32 i) ≡ i = search needs in
-    record-is (now (s .args .rec)) (now (s .args .mate)) (k .before .before .if1 .left) (k .before .if2 .left) (k .primary-fr .ensures) (e ∙ c .before .before .before .i32-at .ensures)
+    record-is (now (s .args .rec)) (now (s .args .mate)) (k .before .before .if1 .left) (k .before .if2 .left) (k .primary-fr .ensures) (c .before .before .before .own-place .ensures)
     (c .before .of-record .ensures .0 []) (c .pair-overhang .ensures)
 
 pub num-bases-extending-past-mate-vs-mate-raw-spec : {M : Type 1} → statement M
@@ -45,7 +40,7 @@ num-bases-extending-past-mate-vs-mate-raw-spec =
     returns
     returns-2
     primary-fr-requires
-    i32-at-requires
+    own-place-requires
     slice-aggregate-pair-overhang
     of-record-requires
     pair-overhang-requires

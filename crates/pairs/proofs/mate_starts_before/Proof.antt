@@ -10,11 +10,11 @@ use borrow.Author.Needs.{needs}
 use Rattle.pairs.proofs.mate_starts_before.Statement.{statement}
 use Rattle.pairs.proofs.mate_starts_before.Tie as tie
 
-i32-at-requires : tie.Need-i32-at-requires
-i32-at-requires c κs = search needs
+mate-place-requires : tie.Need-mate-place-requires
+mate-place-requires c κs = search needs
 
-i32-at-requires-2 : tie.Need-i32-at-requires-2
-i32-at-requires-2 c κs = search needs
+own-place-requires : tie.Need-own-place-requires
+own-place-requires c κs = search needs
 
 asked-length-requires : tie.Need-asked-length-requires
 asked-length-requires c κs = search needs
@@ -33,14 +33,12 @@ unfolding mateStartsBefore
 returns c =
     let k = c .before .before in
     let a = k .before .before in
-    let b = now (a .before .before .before .before .args .bam) in
-    let m = a .before .before .i32-at .result in
-    let p = a .before .i32-at2 .result in
+    let p = a .before in
+    let m = p .before in
+    let b = now (m .before .before .args .bam) in
     let n = k .n .given .0 .0 in
-    let e : toZ w32 (ofZ w32 m) ≡ m = search needs in
-    let f : toZ w32 (ofZ w32 p) ≡ p = search needs in
-    let g : toZ w32 (ofZ w32 n) ≡ n = search needs in
-    ap Flag.Is (simp (e ∙ a .before .before .i32-at .ensures, f ∙ a .before .i32-at2 .ensures, g) at (c .starts-before-end .ensures))
+    let e : toZ w32 (ofZ w32 n) ≡ n = search needs in
+    ap Flag.Is (simp (m .mate-place .ensures, p .own-place .ensures, e) at (c .starts-before-end .ensures))
     ∙ ap (startsBeforeEnd (matePosOf b) (posOf b)) (sym (k .n .given .1) ∙ a .asked-length .ensures)
 
 returns-2 : tie.Need-returns-2
@@ -54,8 +52,8 @@ pub mate-starts-before-spec : {M : Type 1} → statement M
 mate-starts-before-spec =
     tie.close
     (tie.spec
-    i32-at-requires
-    i32-at-requires-2
+    mate-place-requires
+    own-place-requires
     asked-length-requires
     enum-known-n
     starts-before-end-requires

@@ -14,7 +14,9 @@ use Rattle.sam.specs.Record.{opsEnd}
 use Rattle.oplist.specs.Ops.{recordOps}
 use Rattle.oplist.proofs.OpsLaws.{lies, overruns}
 use Rattle.lengths.specs.Lengths.{checkedRefLength}
+use Rattle.answers.specs.Answers.{bare1}
 use Rattle.answers.specs.declared.Int.the-variants as Int
+use Rattle.ends.specs.Ends.{asRust, unclippedOf}
 use Rattle.line_rules.specs.Inner.{rowOf}
 use Rattle.line_rules.proofs.LineLaws.{refs-overrun, refs-over, refs-are, figures-are}
 use borrow.Author.Needs.{needs}
@@ -37,6 +39,12 @@ refs-kept c =
     let t = c .before .before in
     let s = t .before .before .before .before .before .before in
     refs-are (s .args .rec .now) (s .pre) (within (t .before .before)) (omega (arith, c .if2 .left, refs-told t)) ∙ ap (λ (n : ℕ). Int.Number (pos n)) (sym (refs-told t))
+
+five-told : (c : tie.After-bare1) → c .bare1 .result ≡ bare1 (asRust (unclippedOf (c .before .before .before .before .before .before .before .before .before .before .before .args .rec .now)))
+five-told c = c .bare1 .ensures ∙ ap bare1 (c .before .unclipped-5prime-from-raw-bam .ensures)
+
+five-fits : (c : tie.After-bin-from-raw-bam) → let z = c .before .before .five .given .0 .0 in toZ w32 (ofZ w32 z) ≡ z
+five-fits c = search needs
 
 of-record-requires : tie.Need-of-record-requires
 of-record-requires c κs = search needs
@@ -76,6 +84,9 @@ cast-same c = search needs
 unclipped-5prime-from-raw-bam-requires : tie.Need-unclipped-5prime-from-raw-bam-requires
 unclipped-5prime-from-raw-bam-requires c κs = search needs
 
+bare1-requires : tie.Need-bare1-requires
+bare1-requires c κs = search needs
+
 enum-known-why : tie.Need-enum-known-why
 enum-known-why c = search needs
 
@@ -91,16 +102,16 @@ enum-known-why-2 c = search needs
 enum-known-bin : tie.Need-enum-known-bin
 enum-known-bin c = search needs
 
-cast-t23 : tie.Need-cast-t23
-cast-t23 c = search needs
+cast-t24 : tie.Need-cast-t24
+cast-t24 c = search needs
 
 returns-3 : tie.Need-returns-3
 unfolding rowOf
 returns-3 c =
     let u = c .before .before .before in
-    let e = u .before .before in
+    let e = u .before .before .before in
     let s = e .before .before .before .before .before .before .before .before in
-    sym (figures-are (s .args .rec .now) _ _ _ _ _ (refs-kept e) refl (sym (u .unclipped-5prime-from-raw-bam .ensures) ∙ c .before .why .given .1) refl refl)
+    sym (figures-are (s .args .rec .now) _ _ _ _ _ (refs-kept e) refl (sym (five-told u) ∙ c .before .why .given .1) refl refl)
 
 returns-4 : tie.Need-returns-4
 unfolding rowOf
@@ -108,25 +119,24 @@ returns-4 c =
     let n = c .before .before .before in
     let f = n .before .before in
     let u = f .before .before in
-    let e = u .before .before in
+    let e = u .before .before .before in
     let s = e .before .before .before .before .before .before .before .before in
-    sym (figures-are (s .args .rec .now) _ _ _ _ _ (refs-kept e) refl (sym (u .unclipped-5prime-from-raw-bam .ensures) ∙ f .five .given .1) (sym (n .bin-from-raw-bam .ensures) ∙ c .before .why2 .given .1) refl)
+    sym (figures-are (s .args .rec .now) _ _ _ _ _ (refs-kept e) refl (sym (five-told u) ∙ f .five .given .1) (sym (n .bin-from-raw-bam .ensures) ∙ c .before .why2 .given .1) refl)
 
 returns-5 : tie.Need-returns-5
 unfolding rowOf
 returns-5 c =
-    let k = c .before .before .before in
+    let k = c .before .before in
     let n = k .before .before in
     let f = n .before .before in
     let u = f .before .before in
-    let w = u .before in
+    let w = u .before .before in
     let e = w .before in
     let t = e .before .before in
     let s = t .before .before .before .before .before .before in
     let z : toZ w32 (t .sums .result .refs) ≡ pos (t .sums .result .refs) = toZ-pos w32 (omega (arith, e .if2 .left)) in
-    let y : toZ w32 (ofZ w32 (f .five .given .0 .0 .0)) ≡ f .five .given .0 .0 .0 = search needs in
-    simp (z, y)
-    (sym (figures-are (s .args .rec .now) _ _ _ _ _ (refs-kept e) (query-told t) (sym (u .unclipped-5prime-from-raw-bam .ensures) ∙ f .five .given .1) (sym (n .bin-from-raw-bam .ensures) ∙ k .bin .given .1) (sym (w .u32-at .ensures))))
+    simp (z, five-fits n)
+    (sym (figures-are (s .args .rec .now) _ _ _ _ _ (refs-kept e) (query-told t) (sym (five-told u) ∙ f .five .given .1) (sym (n .bin-from-raw-bam .ensures) ∙ k .bin .given .1) (sym (w .u32-at .ensures))))
 
 pub row-of-spec : {M : Type 1} → statement M
 row-of-spec =
@@ -141,12 +151,13 @@ row-of-spec =
     u32-at-requires
     cast-same
     unclipped-5prime-from-raw-bam-requires
+    bare1-requires
     enum-known-why
     enum-known-five
     bin-from-raw-bam-requires
     enum-known-why-2
     enum-known-bin
-    cast-t23
+    cast-t24
     returns-3
     returns-4
     returns-5)

@@ -6,6 +6,9 @@ use Rattle.exports.proofs.field_calls.cigar_pos.Tie as tie
 pos-requires : tie.Need-pos-requires
 pos-requires c κs = search needs
 
+bare0-requires : tie.Need-bare0-requires
+bare0-requires c κs = search needs
+
 told-int-requires : tie.Need-told-int-requires
 told-int-requires c κs = search needs
 
@@ -13,4 +16,4 @@ returns : tie.Need-returns
 returns c = cc
 
 pub cigar-pos-spec : {M : Type 1} → statement M
-cigar-pos-spec = tie.close (tie.spec pos-requires told-int-requires returns)
+cigar-pos-spec = tie.close (tie.spec pos-requires bare0-requires told-int-requires returns)

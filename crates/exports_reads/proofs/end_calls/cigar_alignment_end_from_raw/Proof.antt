@@ -8,12 +8,12 @@ use Rattle.exports_reads.proofs.end_calls.cigar_alignment_end_from_raw.
 alignment-end-from-raw-requires : tie.Need-alignment-end-from-raw-requires
 alignment-end-from-raw-requires c κs = search needs
 
-told-found1-requires : tie.Need-told-found1-requires
-told-found1-requires c κs = search needs
+told-place1-requires : tie.Need-told-place1-requires
+told-place1-requires c κs = search needs
 
 returns : tie.Need-returns
 returns c = cc
 
 pub cigar-alignment-end-from-raw-spec : {M : Type 1} → statement M
 cigar-alignment-end-from-raw-spec =
-    tie.close (tie.spec alignment-end-from-raw-requires told-found1-requires returns)
+    tie.close (tie.spec alignment-end-from-raw-requires told-place1-requires returns)

@@ -8,12 +8,12 @@ use Rattle.exports_reads.proofs.end_calls.cigar_alignment_start_from_ra
 alignment-start-from-raw-requires : tie.Need-alignment-start-from-raw-requires
 alignment-start-from-raw-requires c κs = search needs
 
-told-found1-requires : tie.Need-told-found1-requires
-told-found1-requires c κs = search needs
+told-place1-requires : tie.Need-told-place1-requires
+told-place1-requires c κs = search needs
 
 returns : tie.Need-returns
 returns c = cc
 
 pub cigar-alignment-start-from-raw-spec : {M : Type 1} → statement M
 cigar-alignment-start-from-raw-spec =
-    tie.close (tie.spec alignment-start-from-raw-requires told-found1-requires returns)
+    tie.close (tie.spec alignment-start-from-raw-requires told-place1-requires returns)

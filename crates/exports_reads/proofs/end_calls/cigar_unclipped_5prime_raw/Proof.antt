@@ -10,12 +10,15 @@ flag-requires c κs = search needs
 unclipped-5prime-raw-requires : tie.Need-unclipped-5prime-raw-requires
 unclipped-5prime-raw-requires c κs = search needs
 
-told-place0-requires : tie.Need-told-place0-requires
-told-place0-requires c κs = search needs
+bare0-requires : tie.Need-bare0-requires
+bare0-requires c κs = search needs
+
+told-int-requires : tie.Need-told-int-requires
+told-int-requires c κs = search needs
 
 returns : tie.Need-returns
-returns c = let s = c .before .before .before .before in cc (toZ-ofZ (s .fits .position))
+returns c = let s = c .before .before .before .before .before in cc (toZ-ofZ (s .fits .position))
 
 pub cigar-unclipped-5prime-raw-spec : {M : Type 1} → statement M
 cigar-unclipped-5prime-raw-spec =
-    tie.close (tie.spec flag-requires unclipped-5prime-raw-requires told-place0-requires returns)
+    tie.close (tie.spec flag-requires unclipped-5prime-raw-requires bare0-requires told-int-requires returns)

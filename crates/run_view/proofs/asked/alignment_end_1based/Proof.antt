@@ -1,6 +1,6 @@
 -- `Borrower`'s law of `RawRecordView::alignment_end_1based`.
-use Rattle.ends.proofs.Found1 as R
-use Rattle.ends.proofs.Found1.Laws as R′
+use Rattle.answers.proofs.Place1 as R
+use Rattle.answers.proofs.Place1.Laws as R′
 use Rattle.view.proofs.RawRecordView.alignment_end_1based as method
 use Rattle.view.proofs.RawRecordView.alignment_end_1based.Met as theorem
 use Rattle.view.proofs.RawRecordView.alignment_end_1based.Symbol as symbol

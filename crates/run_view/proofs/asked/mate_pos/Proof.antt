@@ -1,6 +1,6 @@
 -- `Borrower`'s law of `RawRecordView::mate_pos`.
-use Rattle.answers.proofs.Int as R
-use Rattle.answers.proofs.Int.Laws as R′
+use Rattle.answers.proofs.Place0 as R
+use Rattle.answers.proofs.Place0.Laws as R′
 use Rattle.view.proofs.RawRecordView.mate_pos as method
 use Rattle.view.proofs.RawRecordView.mate_pos.Met as theorem
 use Rattle.view.proofs.RawRecordView.mate_pos.Symbol as symbol

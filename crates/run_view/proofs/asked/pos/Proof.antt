@@ -1,6 +1,6 @@
 -- `Borrower`'s law of `RawRecordView::pos`.
-use Rattle.answers.proofs.Int as R
-use Rattle.answers.proofs.Int.Laws as R′
+use Rattle.answers.proofs.Place0 as R
+use Rattle.answers.proofs.Place0.Laws as R′
 use Rattle.view.proofs.RawRecordView.pos as method
 use Rattle.view.proofs.RawRecordView.pos.Met as theorem
 use Rattle.view.proofs.RawRecordView.pos.Symbol as symbol
