@@ -56,17 +56,7 @@ fn clip_start(
 ) -> Clipped
     ensures { λ r. ⌜ Settled (clippedUpTo limit (opsOf (now (words .entry)) (now (rec .entry)) list) amount true (now (out .entry))) r (now (out .exit)) ⌝ }
 {
-    match plan::plan_clip(words, rec, list, limit, amount, true) {
-        Planned::Made(p) => {
-            let n = p.heads + (oplist::count(words, rec, list) - p.skip);
-            if out.len() < n {
-                return Clipped::Refused(Refusal::NoRoom);
-            }
-            write::write_start(words, rec, list, p, out);
-            Clipped::Done(n as u64, p.lost)
-        }
-        Planned::Refused(why) => Clipped::Refused(why),
-    }
+    clip_ops(words, rec, list, limit, amount, true, out)
 }
 
 // The same at the end, where the count is 0.
@@ -80,11 +70,30 @@ fn clip_end(
 ) -> Clipped
     ensures { λ r. ⌜ Settled (clippedUpTo limit (opsOf (now (words .entry)) (now (rec .entry)) list) amount false (now (out .entry))) r (now (out .exit)) ⌝ }
 {
-    match plan::plan_clip(words, rec, list, limit, amount, false) {
+    clip_ops(words, rec, list, limit, amount, false, out)
+}
+
+// Both ends, in one function that all else is inlined into: between two of them, lists and plan would go through memory, which takes as long as a short list.
+fn clip_ops(
+    words: &[u32],
+    rec: &[u8],
+    list: Ops,
+    limit: usize,
+    amount: u64,
+    start: bool,
+    out: &mut [u32],
+) -> Clipped
+    ensures { λ r. ⌜ Settled (clippedUpTo limit (opsOf (now (words .entry)) (now (rec .entry)) list) amount start (now (out .entry))) r (now (out .exit)) ⌝ }
+{
+    match plan::plan_clip(words, rec, list, limit, amount, start) {
         Planned::Made(p) => {
             let n = p.heads + (oplist::count(words, rec, list) - p.skip);
             if out.len() < n {
                 return Clipped::Refused(Refusal::NoRoom);
+            }
+            if start {
+                write::write_start(words, rec, list, p, out);
+                return Clipped::Done(n as u64, p.lost);
             }
             write::write_end(words, rec, list, p, out);
             Clipped::Done(n as u64, 0)

@@ -182,7 +182,7 @@ pub(crate) fn take_bases(
     let mut lost: u64 = 0;
     let mut i = from;
     while i < count {
-        let op = oplist::op_from(words, rec, list, start, i);
+        let op = oplist::op_from(words, rec, list, count, start, i);
         if !goes_on(left, op) {
             return stop(i, left, op, bases, lost);
         }

@@ -64,7 +64,7 @@ fn run_at(
     let mut hard: u64 = 0;
     let mut i = from;
     while i < n {
-        let op = oplist::op_from(words, rec, list, start, i);
+        let op = oplist::op_from(words, rec, list, n, start, i);
         if !in_mask(mask, op) {
             return Run {
                 soft: soft,

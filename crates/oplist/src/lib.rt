@@ -84,15 +84,16 @@ pub fn op_at(words: &[u32], rec: &[u8], ops: Ops, i: usize) -> u32
     words[i]
 }
 
-// Op i as seen from the chosen end.
-pub fn op_from(words: &[u32], rec: &[u8], ops: Ops, start: bool, i: usize) -> u32
-    requires { ⌜ i < length (opsOf (now words) (now rec) ops) ⌝ }
+// Op i of n as seen from the chosen end. The caller has counted the ops, and they are not counted again: the walks over this are small enough to be inlined.
+pub fn op_from(words: &[u32], rec: &[u8], ops: Ops, n: usize, start: bool, i: usize) -> u32
+    requires { ⌜ n ≡ length (opsOf (now words) (now rec) ops) ⌝ }
+    requires { ⌜ i < n ⌝ }
     ensures { λ r. ⌜ r ≡ getD (facing start (opsOf (now (words .entry)) (now (rec .entry)) ops)) i 0 ⌝ }
 {
     if start {
         return op_at(words, rec, ops, i);
     }
-    op_at(words, rec, ops, count(words, rec, ops) - 1 - i)
+    op_at(words, rec, ops, n - 1 - i)
 }
 
 // Copies n ops, from op `from` on, to the places of out from `at` on.

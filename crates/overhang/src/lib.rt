@@ -176,7 +176,7 @@ fn within_at(
     let mut bases: u64 = 0;
     let mut i: usize = 0;
     while i < n {
-        let op = oplist::op_from(words, rec, list, start, i);
+        let op = oplist::op_from(words, rec, list, n, start, i);
         let span = ops::ref_len(op);
         if left < span {
             return bases + covered(op, left);

@@ -3,6 +3,7 @@ use Rattle.lists.proofs.ListLaws.{at-start, at-end}
 use lib.ListN.{getD}
 use Prim.Native.Nat.{ℕ, _-_}
 use mathlib.Core.Path.{ap, _∙_}
+use native.Mathlib.Omega.{arith}
 use borrow.Author.Needs.{needs}
 use Rattle.oplist.proofs.op_from.Statement.{statement}
 use Rattle.oplist.proofs.op_from.Tie as tie
@@ -15,9 +16,6 @@ returns c = let a = c .before .before .before .before .args in
     let xs = opsOf (a .words .now) (a .rec .now) (a .ops) in
     c .op-at .ensures ∙ at-start (a .start) xs (a .i) (c .before .if1 .taken)
 
-count-requires : tie.Need-count-requires
-count-requires c κs = search needs
-
 sub-op-at : tie.Need-sub-op-at
 sub-op-at c = search needs
 
@@ -28,9 +26,10 @@ op-at-requires-2 : tie.Need-op-at-requires-2
 op-at-requires-2 c κs = search needs
 
 returns-2 : tie.Need-returns-2
-returns-2 c = let a = c .before .before .before .before .before .args in
+returns-2 c = let s = c .before .before .before .before in
+    let a = s .args in
     let xs = opsOf (a .words .now) (a .rec .now) (a .ops) in
-    c .op-at2 .ensures ∙ ap (λ (n : ℕ). getD xs (n - 1 - a .i) 0) (c .before .count .ensures .0) ∙ at-end (a .start) xs (a .i) (c .before .before .if1 .left) (c .before .before .before .before .before .pre)
+    c .op-at2 .ensures ∙ ap (λ (n : ℕ). getD xs (n - 1 - a .i) 0) (s .pre .0) ∙ at-end (a .start) xs (a .i) (c .before .if1 .left) (omega arith)
 
 pub op-from-spec : {M : Type 1} → statement M
 op-from-spec =
@@ -38,7 +37,6 @@ op-from-spec =
     (tie.spec
     op-at-requires
     returns
-    count-requires
     sub-op-at
     sub-op-at-2
     op-at-requires-2
