@@ -1,13 +1,14 @@
 -- The tests of each pair rule, one by one, as the definitions have them; f is a record's flag, as it was read.
 use Prim.Native.Nat.{ℕ, _+_, _<_, _≤_}
-use mathlib.Core.Path.{_≡_, sym, ap}
-use mathlib.Core.Bool.{Bool, true, false, cond, not, xor}
+use mathlib.Core.Path.{_≡_, refl, sym, ap, _∙_}
+use mathlib.Core.Bool.{Bool, true, false, cond, not, xor, _&&_}
 use mathlib.Core.List.{List}
 use native.Mathlib.Omega.{arith}
 use lib.IntN.{ℤ, pos, _+ℤ_}
 use lib.Signed.{leZ}
 use mir.Syntax.{w32}
 use mir.Val.{SFits}
+use Rattle.lists.proofs.Absurd.{false-true}
 use Rattle.signed.specs.Equal.{eqℤ}
 use Rattle.signed.specs.Whole.{raised}
 use Rattle.signed.proofs.Halves.{up, dn, plus, minus, leℤ, gtℤ, raise-fact}
@@ -53,14 +54,16 @@ module _ (b : List ℕ) (f : ℕ) (e : f ≡ flagsOf b) where
   unfolding isOpposite
   strands r x y p q s t u v = simp (sym e, p, q, s, sym t, sym u) v
 
-  module _ (forward : Bool) (o : isOpposite b ≡ true) where
-    pub fr-reverse : (r : Flag) → isReverse f ≡ true → r ≡ mateStartsBefore b → r ≡ frBy forward b
-    unfolding frBy
-    fr-reverse r p t = simp (o, sym e, p) t
+  pub reverse-is : {t : Bool} → t ≡ isReverse f → t ≡ true → isReverse (flagsOf b) ≡ true
+  reverse-is r p = ap isReverse (sym e) ∙ sym r ∙ p
 
-    pub fr-forward : isReverse f ≡ false → Flag.Is forward ≡ frBy forward b
-    unfolding frBy
-    fr-forward p = simp (o, sym e, p)
+  pub fr-forward : (forward : Bool) → isOpposite b ≡ true → isReverse f ≡ false → Flag.Is forward ≡ frBy forward b
+  unfolding frBy
+  fr-forward forward o p = simp (o, sym e, p)
+
+pub fr-reverse : (b : List ℕ) → isOpposite b ≡ true → isReverse (flagsOf b) ≡ true → (forward : Bool) → mateStartsBefore b ≡ frBy forward b
+unfolding frBy
+fr-reverse b o p forward = simp (o, p)
 
 pub not-fr : (forward : Bool) (b : List ℕ) → isOpposite b ≡ false → Flag.Is false ≡ frBy forward b
 unfolding frBy
@@ -86,6 +89,18 @@ module _ (a b : List ℕ) (f g : ℕ) (e : f ≡ flagsOf a) (h : g ≡ flagsOf b
       pub two-strands : (r x y : Bool) → eqℤ (refIdOf a) (refIdOf b) ≡ true → x ≡ isReverse f → y ≡ isReverse g → r ≡ xor x y → r ≡ areOpposite a b
       unfolding areOpposite
       two-strands r x y s t u v = simp (sym e, sym h, p, q, s, sym t, sym u) v
+
+-- strands that differ: where the first record is forward, the second is reverse
+last-of : (m x y : Bool) → (m && xor x y) ≡ true → x ≡ false → y ≡ true
+unfolding xor
+last-of true false true e f = refl
+last-of true false false e f = false-true e
+last-of true true y e f = false-true (sym f)
+last-of false x y e f = false-true e
+
+pub second-reverse : (a b : List ℕ) (f : ℕ) → areOpposite a b ≡ true → f ≡ flagsOf a → isReverse f ≡ false → isReverse (flagsOf b) ≡ true
+unfolding areOpposite
+second-reverse a b f o e p = last-of (bothMapped (flagsOf a) && bothMapped (flagsOf b) && eqℤ (refIdOf a) (refIdOf b)) (isReverse (flagsOf a)) (isReverse (flagsOf b)) o (ap isReverse (sym e) ∙ p)
 
 pub no-pair : (a b : List ℕ) → areOpposite a b ≡ false → Flag.Is false ≡ isPrimaryFr a b
 unfolding isPrimaryFr

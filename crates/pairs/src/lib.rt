@@ -1,10 +1,11 @@
 // Document 01, module 10: the pair tests. `fr_with_mate` and `primary_fr` are inner: their callers have tested that each record has 32 bytes.
 ghost use mathlib.Core.Path.{_≡_};
-ghost use mathlib.Core.Bool.{xor};
+ghost use mathlib.Core.Bool.{Bool, true, xor};
 ghost use Prim.Native.Nat.{_≤_};
 ghost use lib.IntN.{pos};
 ghost use lib.ListN.{length};
 ghost use lib.Signed.{leZ};
+ghost use Rattle.sam.specs.Record.{flagsOf, isReverse};
 ghost use Rattle.pairs.specs.Pairs.{bothMapped, isOpposite, startOf, lastOf, mateStartsBefore, frBy, isFr, isFrWithMate, areOpposite, isPrimaryFr, oppositePair, frPair, primaryFrPair};
 use answers::Flag;
 use answers::Int;
@@ -80,18 +81,16 @@ fn at_least_one(n: i32) -> bool
     1 <= n
 }
 
-// FR, by the test of a forward record.
-fn fr_by(forward: bool, bam: &[u8]) -> Flag
+// FR of a reverse record, whatever the test of a forward one.
+fn reverse_fr(bam: &[u8]) -> Flag
     requires { ⌜ 32 ≤ length (now bam) ⌝ }
-    ensures { λ r. ⌜ r ≡ frBy forward (now (bam .entry)) ⌝ }
+    requires { ⌜ isReverse (flagsOf (now bam)) ≡ true ⌝ }
+    ensures { λ r. ⌜ ((forward : Bool) → r ≡ frBy forward (now (bam .entry))) ⌝ }
 {
     if !opposite(bam) {
         return Flag::Is(false);
     }
-    if fields::is_reverse(little_endian::u16_at(bam, 14)) {
-        return mate_starts_before(bam);
-    }
-    Flag::Is(forward)
+    mate_starts_before(bam)
 }
 
 // FR by the record alone; a forward record's template length decides.
@@ -99,7 +98,13 @@ fn fr(bam: &[u8]) -> Flag
     requires { ⌜ 32 ≤ length (now bam) ⌝ }
     ensures { λ r. ⌜ r ≡ isFr (now (bam .entry)) ⌝ }
 {
-    fr_by(at_least_one(little_endian::i32_at(bam, 28)), bam)
+    if fields::is_reverse(little_endian::u16_at(bam, 14)) {
+        return reverse_fr(bam);
+    }
+    if !opposite(bam) {
+        return Flag::Is(false);
+    }
+    Flag::Is(at_least_one(little_endian::i32_at(bam, 28)))
 }
 
 // FR by the record and the mate's reference length.
@@ -107,9 +112,15 @@ pub fn fr_with_mate(bam: &[u8], n: i32) -> Flag
     requires { ⌜ 32 ≤ length (now bam) ⌝ }
     ensures { λ r. ⌜ r ≡ isFrWithMate (now (bam .entry)) n ⌝ }
 {
+    if fields::is_reverse(little_endian::u16_at(bam, 14)) {
+        return reverse_fr(bam);
+    }
+    if !opposite(bam) {
+        return Flag::Is(false);
+    }
     let own = fields::own_place(bam);
     let mate = fields::mate_place(bam);
-    fr_by(starts_before_end(own, mate, n), bam)
+    Flag::Is(starts_before_end(own, mate, n))
 }
 
 // Of two records: all of them mapped, same reference, strands differ.
@@ -140,9 +151,9 @@ pub fn primary_fr(a: &[u8], b: &[u8]) -> Flag
         return Flag::Is(false);
     }
     if fields::is_reverse(little_endian::u16_at(a, 14)) {
-        return fr(a);
+        return reverse_fr(a);
     }
-    fr(b)
+    reverse_fr(b)
 }
 
 // Paired, both mapped, same reference, strands differ. Refusal 1.

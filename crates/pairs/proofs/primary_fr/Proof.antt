@@ -3,7 +3,7 @@ use mathlib.Core.Path.{sym, _∙_}
 use mathlib.Core.Bool.{true, false}
 use borrow.Author.Tests.{not-true, not-false}
 use denote.Ref.{now}
-use Rattle.pairs.proofs.PairLaws.{no-pair, decided}
+use Rattle.pairs.proofs.PairLaws.{reverse-is, second-reverse, no-pair, decided}
 use borrow.Author.Needs.{needs}
 use Rattle.pairs.proofs.primary_fr.Statement.{statement}
 use Rattle.pairs.proofs.primary_fr.Tie as tie
@@ -21,23 +21,30 @@ u16-at-requires c κs = search needs
 is-reverse-requires : tie.Need-is-reverse-requires
 is-reverse-requires c κs = search needs
 
-fr-requires : tie.Need-fr-requires
-fr-requires c κs = search needs
+reverse-fr-requires : tie.Need-reverse-fr-requires
+reverse-fr-requires c κs = let u = c .before .before in
+    let s = u .before .before .before .before .before in
+    (s .pre .0, reverse-is (now (s .args .a)) _ (u .u16-at .ensures .0) (c .before .is-reverse .ensures) (c .if2 .taken))
 
 returns-2 : tie.Need-returns-2
 returns-2 c = let u = c .before .before .before in
     let s = u .before .before .before .before .before in
     decided (now (s .args .a)) (now (s .args .b)) _ _ true (sym (u .before .before .both-opposite .ensures) ∙ not-false _ (u .before .if1 .left)) (u .u16-at .ensures .0)
-    (sym (c .before .before .is-reverse .ensures) ∙ c .before .if2 .taken) (c .fr .ensures)
+    (sym (c .before .before .is-reverse .ensures) ∙ c .before .if2 .taken) (c .reverse-fr .ensures _)
 
-fr-requires-2 : tie.Need-fr-requires-2
-fr-requires-2 c κs = search needs
+reverse-fr-requires-2 : tie.Need-reverse-fr-requires-2
+reverse-fr-requires-2 c κs = let u = c .before .before in
+    let s = u .before .before .before .before .before in (
+      s .pre .1,
+      second-reverse (now (s .args .a)) (now (s .args .b)) _ (sym (u .before .before .both-opposite .ensures) ∙ not-false _ (u .before .if1 .left)) (u .u16-at .ensures .0)
+          (sym (c .before .is-reverse .ensures) ∙ c .if2 .left),
+    )
 
 returns-3 : tie.Need-returns-3
 returns-3 c = let u = c .before .before .before in
     let s = u .before .before .before .before .before in
     decided (now (s .args .a)) (now (s .args .b)) _ _ false (sym (u .before .before .both-opposite .ensures) ∙ not-false _ (u .before .if1 .left)) (u .u16-at .ensures .0)
-    (sym (c .before .before .is-reverse .ensures) ∙ c .before .if2 .left) (c .fr2 .ensures)
+    (sym (c .before .before .is-reverse .ensures) ∙ c .before .if2 .left) (c .reverse-fr2 .ensures _)
 
 pub primary-fr-spec : {M : Type 1} → statement M
 primary-fr-spec =
@@ -47,7 +54,7 @@ primary-fr-spec =
     returns
     u16-at-requires
     is-reverse-requires
-    fr-requires
+    reverse-fr-requires
     returns-2
-    fr-requires-2
+    reverse-fr-requires-2
     returns-3)
