@@ -7,7 +7,8 @@ use lib.ListN.{length}
 use lib.Dec.{ltb}
 use Rattle.lists.specs.Lists.{facing, splice, sumOf}
 use Rattle.sam.specs.Op.{lenOf}
-use Rattle.oplist.specs.Ops.{recordOps}
+use Rattle.sam.specs.Record.{isShort}
+use Rattle.oplist.specs.Ops.{mostOps, recordOps}
 use Rattle.answers.specs.Answers.{Told, answered, refused}
 use Rattle.answers.specs.Settled.{Outcome, keeps}
 use Rattle.answers.specs.declared.Refusal.the-variants.{ShortRecord, TooManyOps, TooLong, NoRoom}
@@ -40,11 +41,11 @@ clippedUpTo limit xs amount start d = cond (ltb limit (length xs)) (keeps (Refus
 
 -- `clip_cigar_ops_raw`
 abbrev pub clipped : List ℕ → ℕ → Bool → List ℕ → Outcome Clipped
-clipped xs amount start d = clippedUpTo 65535 xs amount start d
+clipped xs amount start d = clippedUpTo mostOps xs amount start d
 
 -- `clip_cigar_ops`: 1 comes first; an overrun area is an empty list
 unfoldable pub clippedRecord : List ℕ → ℕ → Bool → List ℕ → Outcome Clipped
-clippedRecord b amount start d = cond (ltb (length b) 32) (keeps (Refused ShortRecord) d) (clippedInto (recordOps b) amount start d)
+clippedRecord b amount start d = cond (isShort b) (keeps (Refused ShortRecord) d) (clippedInto (recordOps b) amount start d)
 
 -- document 01's number and values of an answer: the ops written, and the count
 abbrev pub tellClipped : Clipped → Told

@@ -12,6 +12,7 @@ use Rattle.lists.proofs.Absurd.{nil-cons}
 use Rattle.sam.specs.Op.{lenOf, codeOf, opOf, isRef, refLen}
 use Rattle.ops.specs.Ops.{isRead, readLen, isClip}
 use Rattle.clip_runs.specs.Clips.{outerHard, nextSoft, inside, leadingClips}
+use Rattle.oplist.specs.Ops.{mostOps}
 use Rattle.clip.specs.Clipping.{goes, ends, taking, softOf, upgraded, cutInto, clip}
 use Rattle.clip.specs.Answer.{clippedOps}
 use Rattle.clip_laws.specs.Demand3.{isInner, Takes, most, survives, EndsInsertion}
@@ -20,7 +21,7 @@ use Rattle.clip_laws.specs.Demand3.{isInner, Takes, most, survives, Ends
 abbrev inserted : List ℕ
 inserted = opOf 5 0 ∷ opOf 3 1 ∷ opOf 2 2 ∷ opOf 6 0 ∷ []
 
-pub takes : Takes 65535 inserted
+pub takes : Takes mostOps inserted
 unfolding isInner sumOf
 takes =
     record {

@@ -13,6 +13,7 @@ use Rattle.sam.specs.Op.{opOf, isRef, refLen}
 use Rattle.answers.specs.Settled.{Outcome, keeps}
 use Rattle.ops.specs.Ops.{isRead, readLen, isClip}
 use Rattle.clip_runs.specs.Clips.{outerHard, nextSoft, inside, leadingClips}
+use Rattle.oplist.specs.Ops.{mostOps}
 use Rattle.clip.specs.Clipping.{goes, ends, taking, softOf, upgraded, cutInto, clip}
 use Rattle.clip.specs.Answer.{clippedOps, clippedUpTo, written}
 use Rattle.clip.specs.declared.Clipped.{Clipped}
@@ -30,7 +31,7 @@ hard = opOf 1 5 ∷ (opOf 1 0 ∷ [])
 inserted : List ℕ
 inserted = opOf 1 1 ∷ []
 
-matched-taken : Takes 65535 matched
+matched-taken : Takes mostOps matched
 unfolding matched isInner sumOf
 matched-taken =
     record {
@@ -39,7 +40,7 @@ matched-taken =
       short = lit< tt;
     }
 
-hard-taken : Takes 65535 hard
+hard-taken : Takes mostOps hard
 unfolding hard isInner sumOf
 hard-taken =
     record {
@@ -48,7 +49,7 @@ hard-taken =
       short = lit< tt;
     }
 
-inserted-taken : Takes 65535 inserted
+inserted-taken : Takes mostOps inserted
 unfolding inserted isInner sumOf
 inserted-taken =
     record {
@@ -74,7 +75,7 @@ inserted-most = lit≤ tt
 abbrev copies : Clipper
 copies xs a start d = written xs 0 d
 
-pub copier : Demand3 65535 Itself copies → ⊥
+pub copier : Demand3 mostOps Itself copies → ⊥
 unfolding matched outerHard leading sumOf
 copier D =
     let O = D .once matched matched refl matched-taken true 1 matched-most in
@@ -86,9 +87,9 @@ copier D =
 -- ---- "One that clips honestly once and then only copies breaks [..] demand 3 for b beyond the first cut": 1H1M, which 2M by 1 leaves, by 2
 
 abbrev onceOnly : Clipper
-onceOnly xs a start d = cond (leb 1 (outerHard (facing start xs))) (written xs 0 d) (clippedUpTo 65535 xs a start d)
+onceOnly xs a start d = cond (leb 1 (outerHard (facing start xs))) (written xs 0 d) (clippedUpTo mostOps xs a start d)
 
-pub honest-once : Demand3 65535 Itself onceOnly → ⊥
+pub honest-once : Demand3 mostOps Itself onceOnly → ⊥
 unfolding hard outerHard leading sumOf
 honest-once D =
     let O = D .once hard hard refl hard-taken true 2 hard-most in
@@ -102,7 +103,7 @@ honest-once D =
 abbrev invents : Clipper
 invents xs a start d = written (clippedOps xs a start) a d
 
-pub invented : Demand3 65535 Itself invents → ⊥
+pub invented : Demand3 mostOps Itself invents → ⊥
 unfolding inserted isRead isRef isClip readLen refLen leading sumOf afterLeading goes ends taking softOf upgraded cutInto outerHard nextSoft inside leadingClips clip clippedOps
 invented D =
     let O = D .once inserted inserted refl inserted-taken true 1 inserted-most in
@@ -117,7 +118,7 @@ unfolding outerHard leading sumOf
 zeros-soft zero = refl
 zeros-soft (suc n) = refl
 
-pub constant : (r : Clipped) → Demand3 65535 Itself (λ xs a start d. keeps r d) → ⊥
+pub constant : (r : Clipped) → Demand3 mostOps Itself (λ xs a start d. keeps r d) → ⊥
 constant r D =
     let O = D .once matched matched refl matched-taken true 1 matched-most in
     let n = length (O .ys) in

@@ -9,10 +9,9 @@ use Rattle.lists.specs.Lists.{sumOf}
 use Rattle.lists.specs.Runs.{leading, holds, afterLast}
 use Rattle.lists.proofs.Tables.{below-same}
 use Rattle.sam.specs.Op.{lenOf, codeOf, opOf, letters, isRef, refLen}
-use Rattle.sam.specs.Text.{value, Spells, end, op}
+use Rattle.sam.specs.Text.{value, Spells, end, op, isDigit}
 use Rattle.ops.specs.Ops.{isClip}
 use Rattle.clip_runs.specs.Clips.{clipLen, leadingClips, trailingClips}
-use Rattle.mate_rules.specs.Run.{isDigit}
 use Rattle.mate_rules.specs.Pieces.{refLetters, clipLetters, isRefLetter, isClipLetter, Piece, pieces, counts, total, isRefPiece, isClipPiece, refCount, clipCount, mateLeading, mateReference, mateTrailing}
 use Rattle.mate_rules.specs.Readers.{Short, Agree}
 use Rattle.mate_rules.proofs.Digits.{count-small}

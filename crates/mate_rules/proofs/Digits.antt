@@ -1,26 +1,14 @@
--- Digits as bytes and as numbers: the test is the specification's, and a run capped at 2^64 - 1 counts what the unbounded number counts, since both count 0 from 2^31 on.
+-- Digits as numbers: a run capped at 2^64 - 1 counts what the unbounded number counts, since both count 0 from 2^31 on.
 use mathlib.Core.Path.{_≡_, refl, sym, ap, _∙_}
 use mathlib.Core.Bool.{Bool, true, false}
 use mathlib.Core.List.{List, [], _∷_, _++_}
 use Prim.Native.Nat.{ℕ, _+_, _-_, _*_, _≤_, _<_, min}
 use native.Mathlib.Omega.{arith}
-use lib.Dec.{ltb, leb}
-use borrow.Author.Tests.{le-ltb, ltb-false, leb-true, leb-false, le-leb, lt-leb}
-use Rattle.lists.proofs.Absurd.{false-true}
-use Rattle.sam.specs.Text.{Digit, Digits, value}
-use Rattle.mate_rules.specs.Run.{isDigit, countsAs, pushOf}
-
--- ---- the test of a byte
-
-pub digit-range : (b : ℕ) → isDigit b ≡ true → Digit b
-digit-range b e = go (ltb b 48) refl
-  where
-    go : (t : Bool) → ltb b 48 ≡ t → Digit b
-    go true q = false-true ((rw q at e))
-    go false q = record { least = ltb-false b 48 q; most = leb-true b 57 (rw q at e) }
-
-pub digit-test : (b : ℕ) → Digit b → isDigit b ≡ true
-digit-test b d = rw (le-ltb b 48 (d .least)) (le-leb b 57 (d .most))
+use lib.Dec.{leb}
+use borrow.Author.Tests.{leb-true, leb-false, le-leb, lt-leb}
+use Rattle.sam.specs.Text.{Digit, Digits, value, isDigit}
+use Rattle.sam.proofs.TextLaws.{is-digit}
+use Rattle.mate_rules.specs.Run.{countsAs, pushOf}
 
 -- ---- what a number counts
 
@@ -65,7 +53,7 @@ run-held : (ds : List ℕ) (n x : ℕ) → Digits ds → x ≡ min n 18446744073
 unfolding value
 run-held [] n x k h = h
 run-held (b ∷ ds) n x k h =
-    run-held ds (n * 10 + (b - 48)) (pushOf x b) (k .1) (ap (λ (y : ℕ). pushOf y b) h ∙ push-held n b (digit-test b (k .0)))
+    run-held ds (n * 10 + (b - 48)) (pushOf x b) (k .1) (ap (λ (y : ℕ). pushOf y b) h ∙ push-held n b (is-digit b (k .0)))
 
 -- THE LAW of the run: saturating at 2^64 - 1 does not show
 pub run-counts : (ds : List ℕ) → Digits ds → countsAs (runOf 0 ds) ≡ countsAs (value 0 ds)

@@ -6,11 +6,12 @@ use Prim.Native.Nat.{ℕ, _+_, _<_, _≤_}
 use lib.IntN.{ℤ, pos}
 use lib.ListN.{length, drop, getD}
 use Rattle.lists.proofs.Walks.{step, done}
-use Rattle.sam.specs.Text.{Digits, value}
-use Rattle.mate_rules.specs.Run.{isDigit, countsAs, pushOf}
+use Rattle.sam.specs.Text.{Digits, value, isDigit}
+use Rattle.sam.proofs.TextLaws.{is-digit, a-digit}
+use Rattle.mate_rules.specs.Run.{countsAs, pushOf}
 use Rattle.mate_rules.specs.Pieces.{Piece, pieces, withDigit, counts}
 use Rattle.mate_rules.specs.InnerScan.{runAfter, foundAfter}
-use Rattle.mate_rules.proofs.Digits.{digit-range, digit-test, runOf, run-snoc, digits-snoc, run-counts}
+use Rattle.mate_rules.proofs.Digits.{runOf, run-snoc, digits-snoc, run-counts}
 use Rattle.mate_rules.proofs.Steps.{run-digit, run-letter, push-letter, found-digit, found-letter}
 
 -- ---- pieces of a text that begins with digits
@@ -18,12 +19,12 @@ use Rattle.mate_rules.proofs.Steps.{run-digit, run-letter, push-letter,
 pub no-piece : (ds : List ℕ) → Digits ds → pieces ds ≡ []
 unfolding pieces
 no-piece [] k = refl
-no-piece (d ∷ ds) k = rw (digit-test d (k .0)) (ap (withDigit d) (no-piece ds (k .1)))
+no-piece (d ∷ ds) k = rw (is-digit d (k .0)) (ap (withDigit d) (no-piece ds (k .1)))
 
 pub first-piece : (ds : List ℕ) (b : ℕ) (t : List ℕ) → Digits ds → isDigit b ≡ false → pieces (ds ++ (b ∷ t)) ≡ record { digits = ds; letter = b } ∷ pieces t
 unfolding pieces
 first-piece [] b t k e = rw e
-first-piece (d ∷ ds) b t k e = rw (digit-test d (k .0)) (ap (withDigit d) (first-piece ds b t (k .1) e))
+first-piece (d ∷ ds) b t k e = rw (is-digit d (k .0)) (ap (withDigit d) (first-piece ds b t (k .1) e))
 
 -- ---- the scan
 
@@ -47,7 +48,7 @@ module _ {S : Type 0} (f : S → ℤ → ℕ → S) where
       go true e ih =
           ap (λ (x : ℕ). scan x (foundAfter f (runOf 0 ds) s b) t) (run-digit (runOf 0 ds) b e ∙ sym (run-snoc 0 ds b))
           ∙ ap (λ (r : S). scan (runOf 0 (ds ++ (b ∷ []))) r t) (found-digit f (runOf 0 ds) s b e)
-          ∙ ih (ds ++ (b ∷ [])) s (digits-snoc ds b k (digit-range b e))
+          ∙ ih (ds ++ (b ∷ [])) s (digits-snoc ds b k (a-digit b e))
           ∙ ap (λ (l : List ℕ). overPieces s (pieces l)) (append-assoc ds (b ∷ []) t)
       go false e ih =
           ap (λ (x : ℕ). scan x (foundAfter f (runOf 0 ds) s b) t) (run-letter (runOf 0 ds) b e)

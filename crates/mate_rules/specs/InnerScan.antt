@@ -3,7 +3,8 @@
 use Prim.Native.Nat.{ℕ}
 use mathlib.Core.Bool.{cond}
 use lib.IntN.{ℤ, pos}
-use Rattle.mate_rules.specs.Run.{isDigit, pushOf, countsAs}
+use Rattle.sam.specs.Text.{isDigit}
+use Rattle.mate_rules.specs.Run.{pushOf, countsAs}
 
 -- the run: a byte that is no digit empties it
 unfoldable pub runAfter : ℕ → ℕ → ℕ

@@ -6,8 +6,8 @@ use lib.IntN.{ℤ, pos}
 use lib.Dec.{eqb}
 use Rattle.lists.specs.Runs.{leading, afterLast}
 use Rattle.signed.specs.Whole.{clamp32}
-use Rattle.sam.specs.Text.{value}
-use Rattle.mate_rules.specs.Run.{isDigit, countsAs}
+use Rattle.sam.specs.Text.{value, isDigit}
+use Rattle.mate_rules.specs.Run.{countsAs}
 
 -- this reader's letters: M D N = X of the reference, S H of clips
 abbrev pub refLetters : List ℕ

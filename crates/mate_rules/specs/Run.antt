@@ -1,10 +1,8 @@
 -- Document 01, module 6: "A missing number, or one above 2^31-1, counts 0. [..] The digit run belongs to the scan, which lends it for each byte."
 use Prim.Native.Nat.{ℕ, _+_, _-_, _*_, min}
-use mathlib.Core.Bool.{Bool, false, cond}
-use lib.Dec.{ltb, leb}
-
-abbrev pub isDigit : ℕ → Bool
-isDigit b = cond (ltb b 48) false (leb b 57)
+use mathlib.Core.Bool.{cond}
+use lib.Dec.{leb}
+use Rattle.sam.specs.Text.{isDigit}
 
 -- what a number counts
 unfoldable pub countsAs : ℕ → ℕ

@@ -38,7 +38,8 @@ use denote.Triple.Statement.{Contract, Triple}
 use denote.Triple.Call.{calls-at}
 use denote.Triple.Clauses.{ensured, lasts}
 use denote.Triple.Spec.{tripleOf}
-use Rattle.mate_rules.specs.Run.{isDigit, countsAs, pushOf}
+use Rattle.sam.specs.Text.{isDigit}
+use Rattle.mate_rules.specs.Run.{countsAs, pushOf}
 use Rattle.mate_text.specs.declared.DigitRun.{DigitRun}
 use Rattle.mate_text.proofs.DigitRun as T
 use Rattle.mate_text.proofs.DigitRun.Laws as T′

@@ -5,7 +5,8 @@ use mathlib.Core.List.{List, [], _∷_}
 use Prim.Native.Nat.{ℕ}
 use lib.IntN.{ℤ, pos, _+ℤ_}
 use Rattle.signed.specs.Whole.{clamp32}
-use Rattle.mate_rules.specs.Run.{isDigit, countsAs}
+use Rattle.sam.specs.Text.{isDigit}
+use Rattle.mate_rules.specs.Run.{countsAs}
 use Rattle.mate_rules.specs.Pieces.{isRefLetter, isClipLetter}
 use Rattle.mate_rules.specs.InnerScan.{runAfter, foundAfter}
 use Rattle.mate_rules.proofs.Steps.{found-digit, found-letter}

@@ -1,7 +1,8 @@
 // Document 01, module 6: the mate's unclipped 5' end from text. Reads any bytes, refuses none; each step saturates.
 ghost use mathlib.Core.Path.{_≡_};
 ghost use lib.IntN.{pos};
-ghost use Rattle.mate_rules.specs.Run.{isDigit, countsAs, pushOf};
+ghost use Rattle.sam.specs.Text.{isDigit};
+ghost use Rattle.mate_rules.specs.Run.{countsAs, pushOf};
 ghost use Rattle.mate_rules.specs.Pieces.{isRefLetter, isClipLetter, mateLeading, mateReference, mateTrailing, capped};
 ghost use Rattle.mate_text.specs.Mate.{mateStart, mateEnd, mateFivePrime, saturatedOneBased, mateUnclipped, mateUnclipped1};
 ghost use Rattle.mate_text.specs.InnerPiece.{leadPiece, trailPiece};

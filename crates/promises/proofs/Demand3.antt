@@ -6,6 +6,7 @@ use mathlib.Core.List.{List}
 use lib.ListN.{length}
 use Rattle.lists.specs.Lists.{splice}
 use Rattle.answers.specs.Settled.{Outcome, Settled}
+use Rattle.oplist.specs.Ops.{mostOps}
 use Rattle.clip.specs.Answer.{clipped, clippedRecord}
 use Rattle.clip.specs.declared.Clipped.{Clipped}
 use Rattle.clip.specs.declared.Clipped.the-variants.{Done}
@@ -13,12 +14,12 @@ use Rattle.clip_laws.specs.Demand3.{Clipper, Answers, Demand3, Itself, InRecord
 use Rattle.clip_laws.proofs.Demand3.{list-demand3, record-demand3}
 
 -- `clip_cigar_ops_raw`
-pub list : Demand3 65535 Itself clipped
-list = list-demand3 65535
+pub list : Demand3 mostOps Itself clipped
+list = list-demand3 mostOps
 
 -- `clip_cigar_ops`
-pub of-record : Demand3 65535 InRecord clippedRecord
-of-record = record-demand3 65535
+pub of-record : Demand3 mostOps InRecord clippedRecord
+of-record = record-demand3 mostOps
 
 -- each outcome that a contract admits: the answer, and the buffer
 pub admitted : (f : Clipper) (s : List ℕ) (a : ℕ) (start : Bool) (ys : List ℕ) (count : ℕ) → Answers f s a start ys count

@@ -4,9 +4,10 @@ use mathlib.Core.Bool.{true}
 use Prim.Native.Nat.{_+_, _-_, _*_, min}
 use native.Mathlib.Omega.{arith}
 use borrow.Author.Tests.{not-true, not-false}
-use Rattle.sam.specs.Text.{Digit}
-use Rattle.mate_rules.specs.Run.{isDigit, pushOf}
-use Rattle.mate_rules.proofs.Digits.{digit-range, push-digit}
+use Rattle.sam.specs.Text.{Digit, isDigit}
+use Rattle.sam.proofs.TextLaws.{a-digit}
+use Rattle.mate_rules.specs.Run.{pushOf}
+use Rattle.mate_rules.proofs.Digits.{push-digit}
 use Rattle.mate_rules.proofs.Steps.{push-letter}
 use borrow.Author.Needs.{needs}
 use Rattle.mate_text.proofs.pushed.Statement.{statement}
@@ -19,7 +20,7 @@ digit c = sym (c .before .before .is-digit .ensures) ∙ not-false _ (c .before 
 pushes : (c : tie.After-wide)
     → let a = c .before .before .before .args in
     Digit (a .b) × (pushOf (a .x) (a .b) ≡ min (a .x * 10 + (a .b - 48)) 18446744073709551615)
-pushes c = let a = c .before .before .before .args in (digit-range (a .b) (digit c), push-digit (a .x) (a .b) (digit c))
+pushes c = let a = c .before .before .before .args in (a-digit (a .b) (digit c), push-digit (a .x) (a .b) (digit c))
 
 is-digit-requires : tie.Need-is-digit-requires
 is-digit-requires c κs = search needs
@@ -31,7 +32,7 @@ wide-requires : tie.Need-wide-requires
 wide-requires c κs = search needs
 
 sub-d : tie.Need-sub-d
-sub-d c = let k = digit-range (c .before .before .before .args .b) (digit c) in omega arith
+sub-d c = let k = a-digit (c .before .before .before .args .b) (digit c) in omega arith
 
 mul-result : tie.Need-mul-result
 mul-result c = search needs
