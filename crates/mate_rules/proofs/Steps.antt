@@ -3,7 +3,8 @@ use mathlib.Core.Path.{_≡_}
 use mathlib.Core.Bool.{true, false}
 use Prim.Native.Nat.{ℕ}
 use lib.IntN.{ℤ, pos}
-use Rattle.mate_rules.specs.Run.{isDigit, pushOf, countsAs}
+use Rattle.sam.specs.Text.{isDigit}
+use Rattle.mate_rules.specs.Run.{pushOf, countsAs}
 use Rattle.mate_rules.specs.InnerScan.{runAfter, foundAfter}
 
 module _ (x b : ℕ) where

@@ -24,7 +24,7 @@ is-reverse-requires c κs = search needs
 reverse-fr-requires : tie.Need-reverse-fr-requires
 reverse-fr-requires c κs = let u = c .before .before in
     let s = u .before .before .before .before .before in
-    (s .pre .0, reverse-is (now (s .args .a)) _ (u .u16-at .ensures .0) (c .before .is-reverse .ensures) (c .if2 .taken))
+    (search needs, reverse-is (now (s .args .a)) _ (u .u16-at .ensures .0) (c .before .is-reverse .ensures) (c .if2 .taken))
 
 returns-2 : tie.Need-returns-2
 returns-2 c = let u = c .before .before .before in
