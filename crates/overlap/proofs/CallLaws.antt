@@ -99,13 +99,13 @@ module _ (b ys : List ℕ) where
       -- a pair that is not FR, whether or not the list is valid
       pub cigar-apart : isNo (isFrBy b ys) ≡ true → Count.Number 0 ≡ pastMateCigar b ys
       unfolding pastMateCigar placedPair overhangAt
-      cigar-apart e = simp (le-ltb (length b) 32 h, le-ltb mostOps (length ys) k) (go (isFrBy b ys) (validMapped ys) e)
+      cigar-apart e = simp (le-ltb (length b) 32 h, le-ltb mostOps (length ys) k) (go (isFrBy b ys) (validMapped ys) _ e)
         where
-          go : (fr : Flag) (v : Bool) → isNo fr ≡ true → Count.Number 0 ≡ cond v (pairOverhang fr b (matePosOf b) ys) (Count.Number 0)
-          go (Flag.Is true) v f = never (cc)
-          go (Flag.Is false) true f = refl
-          go (Flag.Is false) false f = refl
-          go (Flag.Refused r) v f = never (cc)
+          go : (fr : Flag) (v : Bool) (m : ℤ) → isNo fr ≡ true → Count.Number 0 ≡ cond v (pairOverhang fr b m ys) (Count.Number 0)
+          go (Flag.Is true) v m f = never (cc)
+          go (Flag.Is false) true m f = refl
+          go (Flag.Is false) false m f = refl
+          go (Flag.Refused r) v m f = never (cc)
 
       pub cigar-is : {r : Count} {fr : Flag} {z : ℤ} {xs : List ℕ} → validMapped ys ≡ true → fr ≡ isFrBy b ys → z ≡ matePosOf b → xs ≡ ys → r ≡ pairOverhang fr b z xs → r ≡ pastMateCigar b ys
       unfolding pastMateCigar
