@@ -50,7 +50,7 @@ unfoldable pub refLengthOrZero : List ℕ → ℤ
 unfolding checkedRefLength
 refLengthOrZero b = orZero (checkedRefLength b)
 
--- a record's length as bins and pair tests ask for it; they pass a refusal on, of which document 01 has none here
+-- a record's length as ends, bins and pair tests ask for it; they pass a refusal on, of which document 01 has none here
 unfoldable pub askedLength : List ℕ → Int
 askedLength b = Int.Number (refLengthOrZero b)
 

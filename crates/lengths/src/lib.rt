@@ -123,7 +123,7 @@ pub fn reference_length_from_raw_bam(bam: &[u8]) -> i32
     }
 }
 
-// A record's reference length as bins and pair tests ask for it: they pass a refusal on, and here alone it is made 0.
+// A record's reference length as ends, bins and pair tests ask for it: they pass a refusal on, and here alone it is made 0.
 pub fn asked_length(bam: &[u8]) -> Int
     ensures { λ r. ⌜ r ≡ askedLength (now (bam .entry)) ⌝ }
 {
