@@ -19,7 +19,12 @@ fn main() -> Result<()> {
         let (place, bin) = (cigar::unclipped_5prime_from_raw_bam(&record), bin::bin_from_raw_bam(&record));
         write!(out, "{records}\t")?;
         out.write_all(&text)?;
-        writeln!(out, "\t{refs}\t{bases}\t{place}\t{bin}\t{}", u32::from(bases == view.l_seq() as usize))?;
+        let same = match view.l_seq() as usize {
+            0 => '-',
+            stored if stored == bases => '1',
+            _ => '0',
+        };
+        writeln!(out, "\t{refs}\t{bases}\t{place}\t{bin}\t{same}")?;
     }
     writeln!(out, "records {records}")
 }

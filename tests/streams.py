@@ -111,8 +111,8 @@ def fields(rec):
         raise Refused(2)
     refs = fits(sum(op >> 4 for op in ops if op & 15 in REFERENCE))
     query = sum(op >> 4 for op in ops if op & 15 in QUERY)
-    same = query == struct.unpack_from('<I', rec, 16)[0]
-    return text or '*', refs, query, five_prime(rec, ops), bin_of(rec, refs), int(same)
+    stored = struct.unpack_from('<I', rec, 16)[0]
+    return text or '*', refs, query, five_prime(rec, ops), bin_of(rec, refs), int(query == stored) if stored else '-'
 
 
 def line(number, rec):

@@ -4,11 +4,10 @@ use mathlib.Core.Path.{_≡_, refl, sym, ap, _∙_}
 use mathlib.Core.Bool.{Bool, true, false}
 use mathlib.Core.List.{List, [], _∷_, _++_, append-assoc}
 use native.Mathlib.Omega.{arith}
-use lib.Dec.{eqb}
 use lib.IntN.{pos}
 use lib.ListN.{length, take, drop, length-append, length-take, length-drop}
 use lib.Seq.{take-at, length-take-le}
-use borrow.Author.Tests.{ltb-false, le-ltb, lt-ltb}
+use borrow.Author.Tests.{ltb-false, le-ltb, lt-ltb, eq-eqb, ne-eqb}
 use borrow.Rule.Slice.PartMut.{midOf, postOf, putMid, same-len-mid, put-same}
 use Rattle.lists.proofs.Absurd.{never}
 use Rattle.lists.specs.Lists.{sumOf, splice}
@@ -33,12 +32,23 @@ use Rattle.ends.specs.Ends.{asRust, unclippedOf}
 use Rattle.bin.specs.Bin.{recordBin}
 use Rattle.put_text.specs.Puts.{Put, signedDecimal}
 use Rattle.put_text.proofs.PutLaws.{put-then, put-as, put-dropped}
-use Rattle.line_rules.specs.Line.{textRoom, textTold, refsTold, fiveTold, binTold, refusalOf, shown, orStar, oneIf, tabbed, refusedFields, lineOf}
+use Rattle.line_rules.specs.Line.{textRoom, textTold, refsTold, fiveTold, binTold, refusalOf, shown, orStar, lengthMark, tabbed, refusedFields, lineOf}
 use Rattle.line_rules.specs.Inner.{rowOf, figuresOf, rowFields}
 use Rattle.line_rules.specs.declared.LineRow.{LineRow}
 use Rattle.line_rules.specs.declared.Figures.the-variants as Figures
 use Rattle.answers.proofs.Numbers.{not-zero}
 use Rattle.line_rules.proofs.OrderLaws.{any-room, text-refused, text-shown, firstGiven, query-is, refusal-long, refusal-short}
+
+-- ---- the last field: `-` where no sequence is stored, 1 where it is as long as the query, else 0
+
+pub no-sequence : (q : ℕ) → lengthMark q 0 ≡ 45
+no-sequence q = refl
+
+pub same-length : (n : ℕ) → 1 ≤ n → lengthMark n n ≡ 49
+same-length n h = rw (ne-eqb n 0 (λ (e : n ≡ 0). omega arith), eq-eqb n n refl) refl
+
+pub other-length : (q n : ℕ) → 1 ≤ n → (q ≡ n → ⊥) → lengthMark q n ≡ 48
+other-length q n h d = rw (ne-eqb n 0 (λ (e : n ≡ 0). omega arith), ne-eqb q n d) refl
 
 -- ---- the text, where a part of memory was printed into
 
@@ -145,11 +155,11 @@ module _ (b : List ℕ) (h : 32 ≤ length b) where
   refs-are k o = simp (le-ltb _ _ h, le-ltb (length b) (opsEnd b) k, le-ltb 2147483647 (sumOf refLen (recordOps b)) o)
 
 pub figures-are : (b : List ℕ) (i : Int) (q : ℕ) (u : Int) (k : Nat) (l : ℕ) → checkedRefLength b ≡ i → sumOf queryLen (recordOps b) ≡ q → bare1 (asRust (unclippedOf b)) ≡ u → recordBin b ≡ k → seqLenOf b ≡ l
-    → figuresOf b ≡ rowOf i q u k (eqb q l)
+    → figuresOf b ≡ rowOf i q u k (lengthMark q l)
 unfolding figuresOf
 figures-are b i q u k l e f g h m = cc
 
-row-refused : (i : Int) (q : ℕ) (u : Int) (k : Nat) (s : Bool) (w : Refusal) → rowOf i q u k s ≡ Figures.Refused w
+row-refused : (i : Int) (q : ℕ) (u : Int) (k : Nat) (s : ℕ) (w : Refusal) → rowOf i q u k s ≡ Figures.Refused w
     → firstGiven 0 (tellInt i .number) (tellInt u .number) (tellNat k .number) ≡ numberOf w
 unfolding rowOf
 row-refused (Int.Refused r) q u k s w e = let g : r ≡ w = cc in rw (not-zero r) (ap numberOf g)
@@ -157,7 +167,7 @@ row-refused (Int.Number z) q (Int.Refused r) k s w e = let g : r ≡ w = cc in r
 row-refused (Int.Number z) q (Int.Number p) (Nat.Refused r) s w e = let g : r ≡ w = cc in ap numberOf g
 row-refused (Int.Number z) q (Int.Number p) (Nat.Number m) s w e = never (cc)
 
-row-given : (i : Int) (q : ℕ) (u : Int) (k : Nat) (s : Bool) (w : LineRow) → rowOf i q u k s ≡ Figures.Row w
+row-given : (i : Int) (q : ℕ) (u : Int) (k : Nat) (s : ℕ) (w : LineRow) → rowOf i q u k s ≡ Figures.Row w
     → firstGiven 0 (tellInt i .number) (tellInt u .number) (tellNat k .number) ≡ 0
 unfolding rowOf
 row-given (Int.Refused r) q u k s w e = never (cc)
@@ -165,14 +175,14 @@ row-given (Int.Number z) q (Int.Refused r) k s w e = never (cc)
 row-given (Int.Number z) q (Int.Number p) (Nat.Refused r) s w e = never (cc)
 row-given (Int.Number z) q (Int.Number p) (Nat.Number m) s w e = refl
 
-row-shown : (i : Int) (q : ℕ) (u : Int) (k : Nat) (s : Bool) (w : LineRow) → rowOf i q u k s ≡ Figures.Row w
-    → shown (tellInt i) ∷ decimal q ∷ shown (tellInt u) ∷ shown (tellNat k) ∷ decimal (oneIf s) ∷ [] ≡ rowFields w
+row-shown : (i : Int) (q : ℕ) (u : Int) (k : Nat) (s : ℕ) (w : LineRow) → rowOf i q u k s ≡ Figures.Row w
+    → shown (tellInt i) ∷ decimal q ∷ shown (tellInt u) ∷ shown (tellNat k) ∷ (s ∷ []) ∷ [] ≡ rowFields w
 unfolding rowOf signedDecimal
 row-shown (Int.Refused r) q u k s w e = never (cc)
 row-shown (Int.Number z) q (Int.Refused r) k s w e = never (cc)
 row-shown (Int.Number z) q (Int.Number p) (Nat.Refused r) s w e = never (cc)
 row-shown (Int.Number z) q (Int.Number p) (Nat.Number m) s w e =
-    let g : _≡_ {A = LineRow} (record { refs = z; query = q; five = p; bin = m; same = s }) w = cc in ap rowFields g
+    let g : _≡_ {A = LineRow} (record { refs = z; query = q; five = p; bin = m; mark = s }) w = cc in ap rowFields g
 
 module _ (n : ℕ) (b : List ℕ) (h : 32 ≤ length b) (k : ℕ) (e : printed b textRoom .answer ≡ Count.Number k) where
   given : refusalOf b ≡ firstGiven 0 (refsTold b .number) (fiveTold b .number) (binTold b .number)

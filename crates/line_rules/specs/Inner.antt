@@ -1,9 +1,7 @@
 -- What the inner functions of the line promise. Document 01's rule is `Line`.
 use Prim.Native.Nat.{ℕ, _+_, _≤_}
 use mathlib.Core.Path.{_≡_}
-use mathlib.Core.Bool.{Bool}
 use mathlib.Core.List.{List, [], _∷_}
-use lib.Dec.{eqb}
 use lib.ListN.{length}
 use Rattle.lists.specs.Lists.{sumOf}
 use Rattle.sam.specs.Op.{queryLen}
@@ -21,7 +19,7 @@ use Rattle.bin.specs.Bin.{recordBin}
 use Rattle.decimal.specs.Decimal.{decimal}
 use Rattle.print.specs.Text.{textOf, printed}
 use Rattle.put_text.specs.Puts.{Put, signedDecimal}
-use Rattle.line_rules.specs.Line.{textRoom, orStar, oneIf}
+use Rattle.line_rules.specs.Line.{textRoom, orStar, lengthMark}
 use Rattle.line_rules.specs.declared.LineRow.{LineRow}
 use Rattle.line_rules.specs.declared.Figures.{Figures}
 use Rattle.line_rules.specs.declared.Figures.the-variants as Figures
@@ -29,19 +27,19 @@ use Rattle.line_rules.specs.declared.Text.{Text}
 use Rattle.line_rules.specs.declared.Text.the-variants as Text
 
 -- the figures, or the first refusal on the way
-unfoldable pub rowOf : Int → ℕ → Int → Nat → Bool → Figures
-rowOf (Int.Refused r) q u n s = Figures.Refused r
-rowOf (Int.Number z) q (Int.Refused r) n s = Figures.Refused r
-rowOf (Int.Number z) q (Int.Number p) (Nat.Refused r) s = Figures.Refused r
-rowOf (Int.Number z) q (Int.Number p) (Nat.Number k) s = Figures.Row (record { refs = z; query = q; five = p; bin = k; same = s })
+unfoldable pub rowOf : Int → ℕ → Int → Nat → ℕ → Figures
+rowOf (Int.Refused r) q u n m = Figures.Refused r
+rowOf (Int.Number z) q (Int.Refused r) n m = Figures.Refused r
+rowOf (Int.Number z) q (Int.Number p) (Nat.Refused r) m = Figures.Refused r
+rowOf (Int.Number z) q (Int.Number p) (Nat.Number k) m = Figures.Row (record { refs = z; query = q; five = p; bin = k; mark = m })
 
 unfoldable pub figuresOf : List ℕ → Figures
 figuresOf b =
-    rowOf (checkedRefLength b) (sumOf queryLen (recordOps b)) (bare1 (asRust (unclippedOf b))) (recordBin b) (eqb (sumOf queryLen (recordOps b)) (seqLenOf b))
+    rowOf (checkedRefLength b) (sumOf queryLen (recordOps b)) (bare1 (asRust (unclippedOf b))) (recordBin b) (lengthMark (sumOf queryLen (recordOps b)) (seqLenOf b))
 
 -- the fields behind the text
 abbrev pub rowFields : LineRow → List (List ℕ)
-rowFields w = signedDecimal (w .refs) ∷ decimal (w .query) ∷ signedDecimal (w .five) ∷ decimal (w .bin) ∷ decimal (oneIf (w .same)) ∷ []
+rowFields w = signedDecimal (w .refs) ∷ decimal (w .query) ∷ signedDecimal (w .five) ∷ decimal (w .bin) ∷ (w .mark ∷ []) ∷ []
 
 -- a tab and the text, or `*`; or why not, with nothing changed before the place
 abbrev pub TextPut : List ℕ → List ℕ → ℕ → Text → List ℕ → Type 0

@@ -1,7 +1,8 @@
 -- Document 01, "Program": "Output lines are tab-separated: record number from 1; text, or `*` if empty; checked reference length; query length; unclipped 5' position; bin;
 -- 1 if query length equals l_seq, else 0. A refused record prints its number, `refused`, the refusal; the first of 1, 7, 6, 2, 4. Text room is 65,536 bytes."
+-- Document 02, item 2: "Document 01's field becomes `-` where l_seq is 0. Its other cases stay."
 use Prim.Native.Nat.{ℕ}
-use mathlib.Core.Bool.{Bool, cond}
+use mathlib.Core.Bool.{cond}
 use mathlib.Core.List.{List, [], _∷_, _++_}
 use lib.Dec.{eqb}
 use lib.IntN.{ℤ, pos}
@@ -68,12 +69,9 @@ abbrev pub orStar : List ℕ → List ℕ
 orStar [] = 42 ∷ []
 orStar (x ∷ xs) = x ∷ xs
 
--- "1 if query length equals l_seq, else 0"
-abbrev pub sameLength : List ℕ → Bool
-sameLength b = eqb (natural (valueOf (queryTold b .values))) (seqLenOf b)
-
-abbrev pub oneIf : Bool → ℕ
-oneIf is = cond is 1 0
+-- `-` where no sequence is stored; else "1 if query length equals l_seq, else 0"
+abbrev pub lengthMark : ℕ → ℕ → ℕ
+lengthMark query seq = cond (eqb seq 0) 45 (cond (eqb query seq) 49 48)
 
 -- further fields, each behind a tab, and the end of the line
 unfoldable pub tabbed : List (List ℕ) → List ℕ
@@ -87,7 +85,7 @@ recordFields b =
     ∷ shown (queryTold b)
     ∷ shown (fiveTold b)
     ∷ shown (binTold b)
-    ∷ decimal (oneIf (sameLength b))
+    ∷ (lengthMark (natural (valueOf (queryTold b .values))) (seqLenOf b) ∷ [])
     ∷ []
 
 -- "prints its number, `refused`, the refusal"

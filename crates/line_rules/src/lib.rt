@@ -7,7 +7,7 @@ pub struct LineRow {
     pub query: u64,
     pub five: i32,
     pub bin: u32,
-    pub same: bool,
+    pub mark: u8,
 }
 
 pub enum Figures {

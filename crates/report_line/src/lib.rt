@@ -1,9 +1,10 @@
 // Document 01, section Program: the line that stands for a record, written into lent memory. An inner crate of the program.
 ghost use mathlib.Core.Path.{_≡_};
+ghost use mathlib.Core.List.{[], _∷_};
 ghost use Prim.Native.Nat.{_+_, _≤_};
 ghost use lib.ListN.{length};
 ghost use Rattle.answers.specs.Answers.{numberOf};
-ghost use Rattle.line_rules.specs.Line.{tabbed, refusedFields, lineOf, oneIf};
+ghost use Rattle.line_rules.specs.Line.{tabbed, refusedFields, lineOf, lengthMark};
 ghost use Rattle.line_rules.specs.Inner.{TextPut, rowFields, figuresOf};
 ghost use Rattle.put_text.specs.Puts.{Put};
 use answers::Count;
@@ -17,13 +18,17 @@ use line_rules::Text;
 // The most bytes of a record's text.
 pub const TEXT_ROOM: usize = 65536;
 
-fn flag(is: bool) -> u64
-    ensures { λ r. ⌜ r ≡ oneIf is ⌝ }
+// Whether the query length is that of the stored sequence, or `-` where none is stored.
+fn length_mark(query: u64, seq: u32) -> u8
+    ensures { λ r. ⌜ r ≡ lengthMark query seq ⌝ }
 {
-    if is {
-        return 1;
+    if seq == 0 {
+        return b'-';
     }
-    0
+    if query == seq as u64 {
+        return b'1';
+    }
+    b'0'
 }
 
 // The figures of a record that has 32 bytes. Refusals 2 and 4.
@@ -40,7 +45,7 @@ fn row_of(rec: &[u8]) -> Figures
         return Figures::Refused(Refusal::Overflow);
     }
     let query = total.query;
-    let same = query == little_endian::u32_at(rec, 16) as u64;
+    let mark = length_mark(query, little_endian::u32_at(rec, 16));
     match answers::bare1(ends::unclipped_5prime_from_raw_bam(rec)) {
         Int::Refused(why) => Figures::Refused(why),
         Int::Number(five) => match bin::bin_from_raw_bam(rec) {
@@ -50,7 +55,7 @@ fn row_of(rec: &[u8]) -> Figures
                 query: query,
                 five: five,
                 bin: bin,
-                same: same,
+                mark: mark,
             }),
         },
     }
@@ -74,6 +79,17 @@ fn put_text(rec: &[u8], out: &mut [u8], at: usize) -> Text
     }
 }
 
+// The last field, of one byte, and the end of the line.
+fn put_last(mark: u8, out: &mut [u8], at: usize) -> usize
+    requires { ⌜ at + 3 ≤ length (now out) ⌝ }
+    ensures { λ r. ⌜ Put (now (out .entry)) at (tabbed ((mark ∷ []) ∷ [])) r (now (out .exit)) ⌝ }
+    ensures { λ r. ⌜ r ≤ at + 3 ⌝ }
+{
+    let from = put_text::put_byte(b'\t', out, at);
+    let end = put_text::put_byte(mark, out, from);
+    put_text::put_byte(b'\n', out, end)
+}
+
 fn put_row(row: LineRow, out: &mut [u8], at: usize) -> usize
     requires { ⌜ at + 108 ≤ length (now out) ⌝ }
     ensures { λ r. ⌜ Put (now (out .entry)) at (tabbed (rowFields row)) r (now (out .exit)) ⌝ }
@@ -82,9 +98,8 @@ fn put_row(row: LineRow, out: &mut [u8], at: usize) -> usize
     let query = put_text::put_signed(row.refs, out, at);
     let five = put_text::put_field(row.query, out, query);
     let bin = put_text::put_signed(row.five, out, five);
-    let same = put_text::put_field(row.bin as u64, out, bin);
-    let end = put_text::put_field(flag(row.same), out, same);
-    put_text::put_byte(b'\n', out, end)
+    let mark = put_text::put_field(row.bin as u64, out, bin);
+    put_last(row.mark, out, mark)
 }
 
 fn put_refusal(why: Refusal, out: &mut [u8], at: usize) -> usize

@@ -1,12 +1,10 @@
 -- Field behind field, and the end of the line.
-use Prim.Native.Nat.{ℕ}
 use mathlib.Core.Path.{_≡_, refl, ap}
 use mathlib.Core.List.{_∷_}
 use native.Mathlib.Omega.{arith}
 use lib.IntN.{ℤ}
 use mir.Syntax.{w32}
 use mir.Val.{toZ, ofZ}
-use Rattle.decimal.specs.Decimal.{decimal}
 use Rattle.put_text.specs.Puts.{signedDecimal}
 use Rattle.line_rules.specs.Line.{tabbed}
 use Rattle.put_text.proofs.PutLaws.{put-then, put-as}
@@ -34,14 +32,8 @@ cast-put-field c = search needs
 put-field-requires-2 : tie.Need-put-field-requires-2
 put-field-requires-2 c κs = search needs
 
-flag-requires : tie.Need-flag-requires
-flag-requires c κs = search needs
-
-put-field-requires-3 : tie.Need-put-field-requires-3
-put-field-requires-3 c κs = search needs
-
-put-byte-requires : tie.Need-put-byte-requires
-put-byte-requires c κs = search needs
+put-last-requires : tie.Need-put-last-requires
+put-last-requires c κs = search needs
 
 same-length : tie.Need-same-length
 same-length c = search needs
@@ -50,9 +42,7 @@ returns : tie.Need-returns
 unfolding tabbed
 returns c =
     let y = c .before .before in
-    let f₃ = y .before .before .before .before in
-    let g = f₃ .before .before in
-    let f₂ = g .before .before .before in
+    let f₂ = y .before .before .before .before in
     let s₂ = f₂ .before .before .before .before .before in
     let f₁ = s₂ .before .before .before .before .before in
     let s₁ = f₁ .before .before .before .before in
@@ -60,10 +50,9 @@ returns c =
     let r : toZ w32 (ofZ w32 (a .row .refs)) ≡ a .row .refs = search needs in
     let v = five-is s₂ in
     let p₁ = put-as _ (ap (λ (z : ℤ). 9 ∷ signedDecimal z) r) refl refl (s₁ .put-signed .ensures .0) in
-    let p₃ = put-as _ (ap (λ (z : ℤ). 9 ∷ signedDecimal z) v) refl refl (s₂ .put-signed2 .ensures .0) in
-    let p₅ = put-as _ (ap (λ (n : ℕ). 9 ∷ decimal n) (g .flag .ensures)) refl refl (f₃ .put-field3 .ensures .0) in (
-      put-then _ _ p₁ (put-then _ _ (f₁ .put-field .ensures .0) (put-then _ _ p₃ (put-then _ _ (f₂ .put-field2 .ensures .0) (put-then _ _ p₅ (y .put-byte .ensures .0))))),
-      omega (arith, s₁ .put-signed .ensures .1, f₁ .put-field .ensures .1, s₂ .put-signed2 .ensures .1, f₂ .put-field2 .ensures .1, f₃ .put-field3 .ensures .1, y .put-byte .ensures .1),
+    let p₃ = put-as _ (ap (λ (z : ℤ). 9 ∷ signedDecimal z) v) refl refl (s₂ .put-signed2 .ensures .0) in (
+      put-then _ _ p₁ (put-then _ _ (f₁ .put-field .ensures .0) (put-then _ _ p₃ (put-then _ _ (f₂ .put-field2 .ensures .0) (y .put-last .ensures .0)))),
+      omega (arith, s₁ .put-signed .ensures .1, f₁ .put-field .ensures .1, s₂ .put-signed2 .ensures .1, f₂ .put-field2 .ensures .1, y .put-last .ensures .1),
     )
 
 pub put-row-spec : {M : Type 1} → statement M
@@ -75,8 +64,6 @@ put-row-spec =
     put-signed-requires-2
     cast-put-field
     put-field-requires-2
-    flag-requires
-    put-field-requires-3
-    put-byte-requires
+    put-last-requires
     same-length
     returns)

@@ -40,7 +40,7 @@ refs-kept c =
     let s = t .before .before .before .before .before .before in
     refs-are (s .args .rec .now) (s .pre) (within (t .before .before)) (omega (arith, c .if2 .left, refs-told t)) ∙ ap (λ (n : ℕ). Int.Number (pos n)) (sym (refs-told t))
 
-five-told : (c : tie.After-bare1) → c .bare1 .result ≡ bare1 (asRust (unclippedOf (c .before .before .before .before .before .before .before .before .before .before .before .args .rec .now)))
+five-told : (c : tie.After-bare1) → c .bare1 .result ≡ bare1 (asRust (unclippedOf (c .before .before .before .before .before .before .before .before .before .before .before .before .args .rec .now)))
 five-told c = c .bare1 .ensures ∙ ap bare1 (c .before .unclipped-5prime-from-raw-bam .ensures)
 
 five-fits : (c : tie.After-bin-from-raw-bam) → let z = c .before .before .five .given .0 .0 in toZ w32 (ofZ w32 z) ≡ z
@@ -78,8 +78,8 @@ returns-2 c =
 u32-at-requires : tie.Need-u32-at-requires
 u32-at-requires c κs = search needs
 
-cast-same : tie.Need-cast-same
-cast-same c = search needs
+length-mark-requires : tie.Need-length-mark-requires
+length-mark-requires c κs = search needs
 
 unclipped-5prime-from-raw-bam-requires : tie.Need-unclipped-5prime-from-raw-bam-requires
 unclipped-5prime-from-raw-bam-requires c κs = search needs
@@ -102,14 +102,14 @@ enum-known-why-2 c = search needs
 enum-known-bin : tie.Need-enum-known-bin
 enum-known-bin c = search needs
 
-cast-t24 : tie.Need-cast-t24
-cast-t24 c = search needs
+cast-t23 : tie.Need-cast-t23
+cast-t23 c = search needs
 
 returns-3 : tie.Need-returns-3
 unfolding rowOf
 returns-3 c =
     let u = c .before .before .before in
-    let e = u .before .before .before in
+    let e = u .before .before .before .before in
     let s = e .before .before .before .before .before .before .before .before in
     sym (figures-are (s .args .rec .now) _ _ _ _ _ (refs-kept e) refl (sym (five-told u) ∙ c .before .why .given .1) refl refl)
 
@@ -119,7 +119,7 @@ returns-4 c =
     let n = c .before .before .before in
     let f = n .before .before in
     let u = f .before .before in
-    let e = u .before .before .before in
+    let e = u .before .before .before .before in
     let s = e .before .before .before .before .before .before .before .before in
     sym (figures-are (s .args .rec .now) _ _ _ _ _ (refs-kept e) refl (sym (five-told u) ∙ f .five .given .1) (sym (n .bin-from-raw-bam .ensures) ∙ c .before .why2 .given .1) refl)
 
@@ -130,12 +130,13 @@ returns-5 c =
     let n = k .before .before in
     let f = n .before .before in
     let u = f .before .before in
-    let w = u .before .before in
+    let m = u .before .before in
+    let w = m .before in
     let e = w .before in
     let t = e .before .before in
     let s = t .before .before .before .before .before .before in
     let z : toZ w32 (t .sums .result .refs) ≡ pos (t .sums .result .refs) = toZ-pos w32 (omega (arith, e .if2 .left)) in
-    simp (z, five-fits n)
+    simp (z, five-fits n, m .length-mark .ensures)
     (sym (figures-are (s .args .rec .now) _ _ _ _ _ (refs-kept e) (query-told t) (sym (five-told u) ∙ f .five .given .1) (sym (n .bin-from-raw-bam .ensures) ∙ k .bin .given .1) (sym (w .u32-at .ensures))))
 
 pub row-of-spec : {M : Type 1} → statement M
@@ -149,7 +150,7 @@ row-of-spec =
     sums-requires
     returns-2
     u32-at-requires
-    cast-same
+    length-mark-requires
     unclipped-5prime-from-raw-bam-requires
     bare1-requires
     enum-known-why
@@ -157,7 +158,7 @@ row-of-spec =
     bin-from-raw-bam-requires
     enum-known-why-2
     enum-known-bin
-    cast-t24
+    cast-t23
     returns-3
     returns-4
     returns-5)
