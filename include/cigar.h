@@ -37,6 +37,8 @@ struct cigar_count { uint32_t refusal; uint64_t value; };
 struct cigar_flag { uint32_t refusal; bool value; };
 /* None, where `found` is false, or a number that is never negative */
 struct cigar_found { uint32_t refusal; bool found; uint64_t value; };
+/* What lookup found, none where `found` is false, and how many ops it examined */
+struct cigar_lookup { uint32_t refusal; bool found; uint64_t value; uint64_t examined; };
 /* Two numbers that are never negative; each call says which */
 struct cigar_two { uint32_t refusal; uint64_t first; uint64_t second; };
 /* Reference and query length */
@@ -146,8 +148,9 @@ struct cigar_int cigar_unclipped_5prime_raw(const uint8_t *rec, size_t rec_len, 
 struct cigar_found cigar_alignment_start_from_raw(const uint8_t *rec, size_t rec_len);
 struct cigar_found cigar_alignment_end_from_raw(const uint8_t *rec, size_t rec_len);
 
-/* ---- lookup: none or the query position, counted from 1, at a reference position; both count from 1. Refusals 3, 9 */
-struct cigar_found cigar_read_pos_at_ref_pos_raw(const uint32_t *ops, size_t ops_len, uint64_t start, uint64_t position, uint8_t last_base_if_deleted);
+/* ---- lookup: none or the query position, counted from 1, at a reference position; both count from 1. Beside either the ops examined: the place, counted
+ * from 1, of the op that holds the position (a D or N too), the number of ops if none does, 0 before the start. Refusals 3, 9 */
+struct cigar_lookup cigar_read_pos_at_ref_pos_raw(const uint32_t *ops, size_t ops_len, uint64_t start, uint64_t position, uint8_t last_base_if_deleted);
 
 /* ---- clipping: the clipped list into out; `first` the ops written, `second` the reference bases lost at the start */
 

@@ -98,7 +98,7 @@ fn lists(n: usize, random: &mut Random) {
     pair!("saturating_reference_length", n, "", overlap::saturating_reference_length => fn(&[u32]) -> i32, port::saturating_reference_length => fn(&[u32]) -> Result<i32, port::Refusal>, |i, f| f(&l[i]), |i, g| g(&l[i]));
     pair!("is_valid_mapped_cigar", n, "", overlap::reach::is_valid_mapped_cigar => fn(&[u32]) -> bool, port::is_valid_mapped_cigar => fn(&[u32]) -> Result<bool, port::Refusal>, |i, f| f(&l[i]), |i, g| g(&l[i]));
     let far = 1000 + 40 * n;
-    pair!("read_pos_at_ref_pos_raw", n, "", cigar::read_pos_at_ref_pos_raw => fn(&[u32], usize, usize, bool) -> Option<usize>, port::read_pos_at_ref_pos_raw => fn(&[u32], usize, usize, bool) -> Result<Option<usize>, port::Refusal>, |i, f| f(&l[i], 1000, far, false), |i, g| g(&l[i], 1000, far, false));
+    pair!("read_pos_at_ref_pos_raw", n, "", cigar::read_pos_at_ref_pos_raw => fn(&[u32], usize, usize, bool) -> Option<usize>, port::read_pos_at_ref_pos_raw => fn(&[u32], usize, usize, bool) -> Result<(Option<usize>, usize), port::Refusal>, |i, f| f(&l[i], 1000, far, false), |i, g| g(&l[i], 1000, far, false));
     for start in [true, false] {
         let name = if start { "clip_cigar_ops_raw, start" } else { "clip_cigar_ops_raw, end" };
         pair!(name, n, "the Rust allocates", cigar::clip_cigar_ops_raw => fn(&[u32], usize, bool) -> (Vec<u32>, usize), port::clip_cigar_ops_raw => fn(&[u32], usize, bool, &mut [u32]) -> Result<(usize, usize), port::Refusal>, |i, f| f(&l[i], 160, start), |i, g| g(&l[i], 160, start, &mut out));
@@ -221,7 +221,7 @@ fn plain(n: usize, name: &str, op: impl Fn(u32) -> u32, random: &mut Random) {
     pair!(&named("query_length_from_cigar"), n, "further", cigar::query_length_from_cigar => fn(&[u32]) -> usize, port::query_length_from_cigar => fn(&[u32]) -> Result<usize, port::Refusal>, |i, f| f(&l[i]), |i, g| g(&l[i]));
     pair!(&named("is_valid_mapped_cigar"), n, "further", overlap::reach::is_valid_mapped_cigar => fn(&[u32]) -> bool, port::is_valid_mapped_cigar => fn(&[u32]) -> Result<bool, port::Refusal>, |i, f| f(&l[i]), |i, g| g(&l[i]));
     let far = 1000 + 40 * n;
-    pair!(&named("read_pos_at_ref_pos_raw"), n, "further", cigar::read_pos_at_ref_pos_raw => fn(&[u32], usize, usize, bool) -> Option<usize>, port::read_pos_at_ref_pos_raw => fn(&[u32], usize, usize, bool) -> Result<Option<usize>, port::Refusal>, |i, f| f(&l[i], 1000, far, false), |i, g| g(&l[i], 1000, far, false));
+    pair!(&named("read_pos_at_ref_pos_raw"), n, "further", cigar::read_pos_at_ref_pos_raw => fn(&[u32], usize, usize, bool) -> Option<usize>, port::read_pos_at_ref_pos_raw => fn(&[u32], usize, usize, bool) -> Result<(Option<usize>, usize), port::Refusal>, |i, f| f(&l[i], 1000, far, false), |i, g| g(&l[i], 1000, far, false));
     clips(n, name, &l, &mut out);
     let mate = |i: usize| &l[(i + 1) % INPUTS];
     pair!(&named("bases_extending_past_mate_ops"), n, "further", overlap::bases_extending_past_mate_ops => fn(bool, i32, &[u32], i32, &[u32]) -> usize, port::bases_extending_past_mate_ops => fn(bool, i32, &[u32], i32, &[u32]) -> Result<usize, port::Refusal>, |i, f| f(false, 1000, &l[i], 1010, mate(i)), |i, g| g(false, 1000, &l[i], 1010, mate(i)));

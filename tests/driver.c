@@ -82,7 +82,7 @@ static uint8_t bytes_room[MOST + GUARD];
     CALL(unclipped_5prime_raw, "Rif", "s", BYTES(0), I32(1), FLAG(2)) \
     CALL(alignment_start_from_raw, "R", "n", BYTES(0)) \
     CALL(alignment_end_from_raw, "R", "n", BYTES(0)) \
-    CALL(read_pos_at_ref_pos_raw, "LUUf", "n", OPS(0), U64(1), U64(2), FLAG(3)) \
+    CALL(read_pos_at_ref_pos_raw, "LUUf", "nu", OPS(0), U64(1), U64(2), FLAG(3)) \
     CALL(clip_cigar_ops_raw, "LUfo", "uu", OPS(0), U64(1), FLAG(2), OPS(3)) \
     CALL(clip_cigar_ops, "RUfo", "uu", BYTES(0), U64(1), FLAG(2), OPS(3)) \
     CALL(is_mapped_opposite_strand_pair_raw, "R", "u", BYTES(0)) \
@@ -102,15 +102,17 @@ CALLS
 #undef CALL
 
 /* What a call answered: its number, and its values as they are told, two of a value that may be none. */
+enum { VALUES = 3 };
 struct answer {
     uint32_t refusal;
-    uint64_t values[2];
+    uint64_t values[VALUES];
 };
 
 static struct answer of_int(struct cigar_int a) { return (struct answer){a.refusal, {(uint64_t)(int64_t)a.value, 0}}; }
 static struct answer of_count(struct cigar_count a) { return (struct answer){a.refusal, {a.value, 0}}; }
 static struct answer of_flag(struct cigar_flag a) { return (struct answer){a.refusal, {a.value, 0}}; }
 static struct answer of_found(struct cigar_found a) { return (struct answer){a.refusal, {a.found, a.value}}; }
+static struct answer of_lookup(struct cigar_lookup a) { return (struct answer){a.refusal, {a.found, a.value, a.examined}}; }
 static struct answer of_two(struct cigar_two a) { return (struct answer){a.refusal, {a.first, a.second}}; }
 static struct answer of_lengths(struct cigar_lengths a) { return (struct answer){a.refusal, {(uint64_t)(int64_t)a.reference, a.query}}; }
 static struct answer of_bool(bool a) { return (struct answer){0, {a, 0}}; }
@@ -118,8 +120,8 @@ static struct answer of_u32(uint32_t a) { return (struct answer){0, {a, 0}}; }
 static struct answer of_i32(int32_t a) { return (struct answer){0, {(uint64_t)(int64_t)a, 0}}; }
 
 #define ANSWER(a) \
-    _Generic((a), struct cigar_int: of_int, struct cigar_count: of_count, struct cigar_flag: of_flag, struct cigar_found: of_found, struct cigar_two: of_two, \
-        struct cigar_lengths: of_lengths, bool: of_bool, uint32_t: of_u32, int32_t: of_i32)(a)
+    _Generic((a), struct cigar_int: of_int, struct cigar_count: of_count, struct cigar_flag: of_flag, struct cigar_found: of_found, struct cigar_lookup: of_lookup, \
+        struct cigar_two: of_two, struct cigar_lengths: of_lengths, bool: of_bool, uint32_t: of_u32, int32_t: of_i32)(a)
 
 #define CALL(name, args, kinds, ...) \
     static struct answer run_##name(void) { return ANSWER(cigar_##name(__VA_ARGS__)); }
@@ -349,17 +351,14 @@ static const struct call *read_request(void)
 
 static void put_values(const struct call *c, const uint64_t *values)
 {
-    if (c->kinds[0] == 'n' && !values[0]) {
-        put_text("none");
-        return;
-    }
-    put_text("ok");
-    for (int i = 0; c->kinds[i] && c->kinds[i] != 'p'; i++) {
+    int may_be_none = c->kinds[0] == 'n', none = may_be_none && !values[0];
+    put_text(none ? "none" : "ok");
+    for (int i = none; c->kinds[i] && c->kinds[i] != 'p'; i++) {
         put(' ');
         if (c->kinds[i] == 's')
             put_signed((int64_t)values[i]);
         else
-            put_number(values[c->kinds[i] == 'n' ? 1 : i]);
+            put_number(values[i + may_be_none]);
     }
 }
 
@@ -376,7 +375,10 @@ static void put_part(const struct answer *a)
 /* Said where the library told or wrote what it may not: a value beside a refusal or beside none, places behind a lent output. */
 static void put_strays(const struct call *c, const struct answer *a)
 {
-    if ((a->refusal && (a->values[0] || a->values[1])) || (c->kinds[0] == 'n' && !a->values[0] && a->values[1]))
+    int beside = c->kinds[0] == 'n' && !a->values[0] && a->values[1];
+    for (int i = 0; i < VALUES; i++)
+        beside |= a->refusal && a->values[i];
+    if (beside)
         put_text(" ; a value beside none");
     for (int i = 0; c->args[i]; i++)
         for (size_t g = 0; g < GUARD; g++)

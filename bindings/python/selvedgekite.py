@@ -57,6 +57,10 @@ class Found(Structure):
     _fields_ = [('refusal', c_uint32), ('found', c_bool), ('value', c_uint64)]
 
 
+class Lookup(Structure):
+    _fields_ = [('refusal', c_uint32), ('found', c_bool), ('value', c_uint64), ('examined', c_uint64)]
+
+
 class Two(Structure):
     _fields_ = [('refusal', c_uint32), ('first', c_uint64), ('second', c_uint64)]
 
@@ -90,7 +94,7 @@ DECLARED = [
     (Count, BYTES + ROOM, 'cigar_to_bytes_into'),
     (c_int32, [c_int32, c_uint8] + BYTES, 'mate_unclipped_5prime mate_unclipped_5prime_1based'),
     (Int, BYTES + [c_int32, c_uint8], 'unclipped_5prime_raw'),
-    (Found, OPS + [c_uint64, c_uint64, c_uint8], 'read_pos_at_ref_pos_raw'),
+    (Lookup, OPS + [c_uint64, c_uint64, c_uint8], 'read_pos_at_ref_pos_raw'),
     (Two, OPS + [c_uint64, c_uint8] + OPS, 'clip_cigar_ops_raw'),
     (Two, BYTES + [c_uint64, c_uint8] + OPS, 'clip_cigar_ops'),
     (Flag, BYTES + BYTES, 'is_primary_fr_pair_raw'),
@@ -417,8 +421,9 @@ def alignment_end_from_raw(bam):
 
 
 def read_pos_at_ref_pos_raw(ops, alignment_start, ref_pos, return_last_base_if_deleted):
-    """The query position, counted from 1, at a reference position; None where there is none."""
-    return _found(C.cigar_read_pos_at_ref_pos_raw(*_ops(ops), _u64(alignment_start), _u64(ref_pos), bool(return_last_base_if_deleted)))
+    """The query position, counted from 1, at a reference position, None where there is none; and how many ops were examined for it."""
+    answer = C.cigar_read_pos_at_ref_pos_raw(*_ops(ops), _u64(alignment_start), _u64(ref_pos), bool(return_last_base_if_deleted))
+    return _found(answer), answer.examined
 
 
 # ---- clipping

@@ -67,7 +67,7 @@ fn count(value: usize) -> i64 {
 }
 
 fn some(value: Option<usize>) -> Said {
-    value.map_or(Said::Nothing, |v| Said::Values(vec![count(v)]))
+    value.map_or(Said::Nothing(Vec::new()), |v| Said::Values(vec![count(v)]))
 }
 
 fn alone(said: Said) -> Option<Reply> {
@@ -153,7 +153,7 @@ fn op_new(words: &mut Words) -> Option<Reply> {
     let (kind, length) = (words.u32()?, words.u32()?);
     words.done()?;
     let Some(kind) = CigarKind::from_op_type(kind) else {
-        return alone(Said::Nothing);
+        return alone(Said::Nothing(Vec::new()));
     };
     alone(said(hold(rules::bad_length(length), || CigarOp::new(kind, length).raw()), one))
 }
@@ -257,8 +257,9 @@ fn read_pos_at_ref_pos_raw(words: &mut Words) -> Option<Reply> {
     alone(match rules::too_many(&list).or(rules::bad_start(start)) {
         Some(n) => Said::Refusal(n),
         None => {
-            let (start, position) = (start as usize, position as usize);
-            said(hold(None, || cigar::read_pos_at_ref_pos_raw(&list, start, position, last)), some)
+            let examined = rules::examined(&list, start, position);
+            let found = hold(None, || cigar::read_pos_at_ref_pos_raw(&list, start as usize, position as usize, last));
+            said(found, |found| found.map_or(Said::Nothing(vec![examined]), |at| Said::Values(vec![count(at), examined])))
         }
     })
 }
@@ -396,8 +397,8 @@ pub const CALLS: [(&str, Call); 51] = [
     ("consumes_ref", |w| of_number(w, |n| one(cigar::consumes_ref(n)))),
     ("consumes_query", |w| of_number(w, |n| one(cigar::consumes_query(n)))),
     ("consumes_read", |w| of_number(w, |n| one(cigar::consumes_read(n)))),
-    ("from_op_type", |w| of_number(w, |n| CigarKind::from_op_type(n).map_or(Said::Nothing, |kind| one(kind as u8)))),
-    ("as_char", |w| of_number(w, |n| CigarKind::from_op_type(n).map_or(Said::Nothing, |kind| one(u32::from(kind.as_char()))))),
+    ("from_op_type", |w| of_number(w, |n| CigarKind::from_op_type(n).map_or(Said::Nothing(Vec::new()), |kind| one(kind as u8)))),
+    ("as_char", |w| of_number(w, |n| CigarKind::from_op_type(n).map_or(Said::Nothing(Vec::new()), |kind| one(u32::from(kind.as_char()))))),
     ("op_new", op_new),
     ("op_kind", |w| of_number(w, |n| one(CigarOp::from_raw(n).kind() as u8))),
     ("op_len", |w| of_number(w, |n| one(CigarOp::from_raw(n).len()))),

@@ -118,7 +118,8 @@ impl<'a> Words<'a> {
 #[derive(Debug, PartialEq)]
 pub enum Said {
     Values(Vec<i64>),
-    Nothing,
+    /// None, and what is told beside it.
+    Nothing(Vec<i64>),
     Refusal(u8),
     /// The original and document 01, as the judge reads it, disagree.
     Mismatch(String),
@@ -185,14 +186,13 @@ pub fn put_hex(bytes: &[u8], line: &mut Vec<u8>) {
 impl Reply {
     pub fn put(&self, line: &mut Vec<u8>) {
         match &self.said {
-            Said::Values(values) => {
-                line.extend_from_slice(b"ok");
+            Said::Values(values) | Said::Nothing(values) => {
+                line.extend_from_slice(if matches!(self.said, Said::Values(_)) { b"ok" } else { b"none" });
                 for &v in values {
                     line.push(b' ');
                     put_signed(v, line);
                 }
             }
-            Said::Nothing => line.extend_from_slice(b"none"),
             Said::Refusal(n) => {
                 line.extend_from_slice(b"refuse ");
                 put_number(u64::from(*n), line);

@@ -47,6 +47,23 @@ pub fn bad_start(start: u64) -> Option<u8> {
     (start < 1 || start > 1 << 31).then_some(9)
 }
 
+/// How many ops lookup examines (document 02, item 9): up to the first op on the reference that ends behind the position, or all; none before the start.
+pub fn examined(list: &[u32], start: u64, position: u64) -> i64 {
+    if position < start {
+        return 0;
+    }
+    let mut end = start;
+    for (place, &op) in (1..).zip(list) {
+        if [0, 2, 3, 7, 8].contains(&code(op)) {
+            end += u64::from(op / 16);
+        }
+        if position < end {
+            return place;
+        }
+    }
+    i64::try_from(list.len()).expect("a list is short")
+}
+
 /// 10: `CigarOp::new`, length 0 or above 2^28 - 1.
 pub fn bad_length(length: u32) -> Option<u8> {
     (length == 0 || u64::from(length) >= TOO_LONG).then_some(10)

@@ -351,10 +351,11 @@ pub fn alignment_end_from_raw(bam: &[u8]) -> Result<Option<usize>, Refusal> {
     found(unsafe { raw::cigar_alignment_end_from_raw(bam.as_ptr(), bam.len()) })
 }
 
-/// The query position, counted from 1, at a reference position; none where there is none.
+/// The query position, counted from 1, at a reference position, none where there is none; and how many ops were examined for it.
 #[inline]
-pub fn read_pos_at_ref_pos_raw(ops: &[u32], alignment_start: usize, ref_pos: usize, return_last_base_if_deleted: bool) -> Result<Option<usize>, Refusal> {
-    found(unsafe { raw::cigar_read_pos_at_ref_pos_raw(ops.as_ptr(), ops.len(), alignment_start as u64, ref_pos as u64, return_last_base_if_deleted as u8) })
+pub fn read_pos_at_ref_pos_raw(ops: &[u32], alignment_start: usize, ref_pos: usize, return_last_base_if_deleted: bool) -> Result<(Option<usize>, usize), Refusal> {
+    let a = unsafe { raw::cigar_read_pos_at_ref_pos_raw(ops.as_ptr(), ops.len(), alignment_start as u64, ref_pos as u64, return_last_base_if_deleted as u8) };
+    unless(a.refusal, (a.found.then_some(a.value as usize), a.examined as usize))
 }
 
 /// The clipped list into the first places of `out`; the ops written, and the reference bases lost at the start.

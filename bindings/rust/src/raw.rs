@@ -25,6 +25,14 @@ pub struct Found {
 }
 
 #[repr(C)]
+pub struct Lookup {
+    pub refusal: u32,
+    pub found: bool,
+    pub value: u64,
+    pub examined: u64,
+}
+
+#[repr(C)]
 pub struct Two {
     pub refusal: u32,
     pub first: u64,
@@ -80,7 +88,7 @@ extern "C" {
     pub fn cigar_unclipped_5prime_raw(rec: *const u8, rec_len: usize, position: i32, reverse: u8) -> Int;
     pub fn cigar_alignment_start_from_raw(rec: *const u8, rec_len: usize) -> Found;
     pub fn cigar_alignment_end_from_raw(rec: *const u8, rec_len: usize) -> Found;
-    pub fn cigar_read_pos_at_ref_pos_raw(ops: *const u32, ops_len: usize, start: u64, position: u64, last_base_if_deleted: u8) -> Found;
+    pub fn cigar_read_pos_at_ref_pos_raw(ops: *const u32, ops_len: usize, start: u64, position: u64, last_base_if_deleted: u8) -> Lookup;
     pub fn cigar_clip_cigar_ops_raw(ops: *const u32, ops_len: usize, amount: u64, from_start: u8, out: *mut u32, out_len: usize) -> Two;
     pub fn cigar_clip_cigar_ops(rec: *const u8, rec_len: usize, amount: u64, from_start: u8, out: *mut u32, out_len: usize) -> Two;
     pub fn cigar_is_mapped_opposite_strand_pair_raw(rec: *const u8, rec_len: usize) -> Flag;

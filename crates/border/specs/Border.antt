@@ -12,6 +12,7 @@ use Rattle.border.specs.declared.ToldInt.{ToldInt}
 use Rattle.border.specs.declared.ToldCount.{ToldCount}
 use Rattle.border.specs.declared.ToldFlag.{ToldFlag}
 use Rattle.border.specs.declared.ToldFound.{ToldFound}
+use Rattle.border.specs.declared.ToldLookup.{ToldLookup}
 use Rattle.border.specs.declared.ToldTwo.{ToldTwo}
 use Rattle.border.specs.declared.ToldLengths.{ToldLengths}
 
@@ -38,6 +39,10 @@ flagOf t = record { refusal = t .number; value = isSet (valueAt 0 t) }
 -- none, or a number that is never negative
 abbrev pub foundOf : Told → ToldFound
 foundOf t = record { refusal = t .number; found = isSet (valueAt 0 t); value = natural (valueAt 1 t) }
+
+-- the same, and a number that is never negative
+abbrev pub lookupOf : Told → ToldLookup
+lookupOf t = record { refusal = t .number; found = isSet (valueAt 0 t); value = natural (valueAt 1 t); examined = natural (valueAt 2 t) }
 
 -- two numbers that are never negative
 abbrev pub twoOf : Told → ToldTwo

@@ -39,6 +39,15 @@ pub struct ToldFound {
     pub value: u64,
 }
 
+// What lookup found, and the ops that it examined.
+#[repr(C)]
+pub struct ToldLookup {
+    pub refusal: u32,
+    pub found: bool,
+    pub value: u64,
+    pub examined: u64,
+}
+
 // Two numbers that are never negative.
 #[repr(C)]
 pub struct ToldTwo {

@@ -1,17 +1,32 @@
 // Lookup.
 ghost use mathlib.Core.Path.{_≡_};
-ghost use Rattle.lookup.specs.Lookup.{lookup, tellFound};
-ghost use Rattle.border.specs.Border.{foundOf, flagged};
-use border::ToldFound;
+ghost use Rattle.lookup.specs.Lookup.{looked, tellFound};
+ghost use Rattle.border.specs.Border.{lookupOf, flagged};
+use border::ToldLookup;
 use lookup::Found;
 
-fn told_found(answer: Found) -> ToldFound
-    ensures { λ r. ⌜ r ≡ foundOf (tellFound answer) ⌝ }
+fn told_found(answer: Found) -> ToldLookup
+    ensures { λ r. ⌜ r ≡ lookupOf (tellFound answer) ⌝ }
 {
     match answer {
-        Found::At(n) => border::found(n),
-        Found::Nothing => border::nothing(),
-        Found::Refused(why) => border::refused_found(why),
+        Found::At(n, examined) => ToldLookup {
+            refusal: 0,
+            found: true,
+            value: n,
+            examined,
+        },
+        Found::Nothing(examined) => ToldLookup {
+            refusal: 0,
+            found: false,
+            value: 0,
+            examined,
+        },
+        Found::Refused(why) => ToldLookup {
+            refusal: answers::number(why),
+            found: false,
+            value: 0,
+            examined: 0,
+        },
     }
 }
 
@@ -21,8 +36,8 @@ pub extern "C" fn cigar_read_pos_at_ref_pos_raw(
     start: u64,
     position: u64,
     asked: u8,
-) -> ToldFound
-    ensures { λ r. ⌜ r ≡ foundOf (tellFound (lookup (now (ops .entry)) start position (flagged asked))) ⌝ }
+) -> ToldLookup
+    ensures { λ r. ⌜ r ≡ lookupOf (tellFound (looked (now (ops .entry)) start position (flagged asked))) ⌝ }
 {
     told_found(lookup::read_pos_at_ref_pos_raw(ops, start, position, border::flag(asked)))
 }

@@ -9,11 +9,10 @@ use lib.Dec.{ltb}
 use borrow.Author.Tests.{ltb-true, ltb-false, lt-ltb, le-ltb}
 use Rattle.sam.specs.Op.{lenOf, codeOf, isRef, isQuery, queryLen, refLen}
 use Rattle.sam.specs.Columns.{Spot, Column, spell, columns, Seen, base, gap, off, past}
-use Rattle.lookup.specs.Lookup.{spotIn, look, readOver, lookup}
+use Rattle.lookup.specs.Lookup.{Answer, Nothing, spotIn, look, readOver, lookup, counted, looked}
+use Rattle.lookup.specs.Examined.{placeOf, examined}
 use Rattle.lookup.specs.Meaning.{InBounds, Reads}
 use Rattle.lookup.specs.Meaning as means
-use Rattle.lookup.specs.declared.Found.{Found}
-use Rattle.lookup.specs.declared.Found.the-variants.{Nothing}
 use Rattle.sam.proofs.ColumnLaws.{seen, seen-past, seen-in, seen-both, seen-gap, seen-is, is-seen, queries-spell, refs-spell}
 
 -- within one op
@@ -63,6 +62,11 @@ module _ (xs : List ℕ) (start at : ℕ) (asked : Bool) (t : InBounds xs start)
   unfolding lookup
   lookup-at h = simp (le-ltb _ _ (t .few), le-ltb _ _ (t .low), le-ltb _ _ (t .high), le-ltb _ _ h)
 
+  -- and the count beside it
+  pub looked-at : start ≤ at → looked xs start at asked ≡ counted (readOver asked (look xs (at - start) .before) (look xs (at - start) .over)) (placeOf xs (at - start))
+  unfolding looked examined
+  looked-at h = rw (lookup-at h, le-ltb at start h) refl
+
   spot-at : (s : Spot) → start ≤ at → s ≡ look xs (at - start) → lookup xs start at asked ≡ readOver asked (s .before) (s .over)
   spot-at s h e = lookup-at h ∙ ap (λ (u : Spot). readOver asked (u .before) (u .over)) (sym e)
 
@@ -79,7 +83,7 @@ module _ (xs : List ℕ) (start at : ℕ) (asked : Bool) (t : InBounds xs start)
       go true e = means.off (inl (ltb-true at start e)) (not-yet (ltb-true at start e))
       go false e = sees (ltb-false at start e) (look-means xs (at - start))
 
-  pub lookup-only : (r : Found) → Reads (columns xs) start at asked r → r ≡ lookup xs start at asked
+  pub lookup-only : (r : Answer) → Reads (columns xs) start at asked r → r ≡ lookup xs start at asked
   lookup-only r (means.base left right e f g) = g ∙ sym (spot-at _ (omega arith) (look-only xs (at - start) _ (base left right e (omega arith) refl)))
   lookup-only r (means.gap left right e f g) = g ∙ sym (spot-at _ (omega arith) (look-only xs (at - start) _ (gap left right e (omega arith) refl)))
   lookup-only r (means.off (inl h) g) = g ∙ sym (not-yet h)

@@ -1,3 +1,4 @@
 pub mod Lookup
+pub mod Examined
 pub mod InnerLookup
 pub mod Meaning

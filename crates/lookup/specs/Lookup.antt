@@ -1,17 +1,25 @@
 -- Document 01, module 8: "The 1-based query position of a reference position. In D or N: none, or if asked the last query base before it, at least 1."
 use Prim.Native.Nat.{ℕ, _+_, _-_, max}
 use mathlib.Core.Bool.{Bool, true, false, cond}
-use mathlib.Core.List.{List, [], _∷_}
+use mathlib.Core.List.{List, [], _∷_, _++_}
 use lib.Dec.{ltb}
 use lib.IntN.{pos}
 use lib.ListN.{length}
 use Rattle.sam.specs.Columns.{Over, Base, Gap, Off, Spot, past}
 use Rattle.sam.specs.Op.{codeOf, isQuery, queryLen, refLen}
 use Rattle.answers.specs.Answers.{Told, answered, refused, some, none}
+use Rattle.answers.specs.declared.Refusal.{Refusal}
 use Rattle.answers.specs.declared.Refusal.the-variants.{TooManyOps, BadStart}
 use Rattle.oplist.specs.Ops.{mostOps}
+use Rattle.lookup.specs.Examined.{examined}
 use Rattle.lookup.specs.declared.Found.{Found}
-use Rattle.lookup.specs.declared.Found.the-variants.{At, Nothing, Refused}
+use Rattle.lookup.specs.declared.Found.the-variants as Found
+
+-- a query position, counted from 1; none; or why not
+pub data Answer : Type 0 where
+  At : ℕ → Answer
+  Nothing : Answer
+  Refused : Refusal → Answer
 
 -- the op that decides: the one that holds reference base k of those from it on
 abbrev pub decides : ℕ → ℕ → Bool
@@ -28,13 +36,13 @@ look [] k = record { before = 0; over = Off }
 look (o ∷ xs) k = cond (decides o k) (spotIn (isQuery (codeOf o)) k) (past (queryLen o) (look xs (k - refLen o)))
 
 -- "The 1-based query position"; "In D or N: none, or if asked the last query base before it, at least 1"
-abbrev pub readOver : Bool → ℕ → Over → Found
+abbrev pub readOver : Bool → ℕ → Over → Answer
 readOver asked n Base = At (n + 1)
 readOver asked n Gap = cond asked (At (max n 1)) Nothing
 readOver asked n Off = Nothing
 
 -- the call: 3, 9 for an alignment start outside 1 to 2,147,483,648; none before the start
-unfoldable pub lookup : List ℕ → ℕ → ℕ → Bool → Found
+unfoldable pub lookup : List ℕ → ℕ → ℕ → Bool → Answer
 unfolding look
 lookup xs start at asked =
     cond (ltb mostOps (length xs)) (Refused TooManyOps)
@@ -43,7 +51,17 @@ lookup xs start at asked =
     (cond (ltb at start) Nothing
     (readOver asked (look xs (at - start) .before) (look xs (at - start) .over)))))
 
+-- document 02, item 9: "Return, beside the answer, how many ops were examined"; a refusal has no count
+abbrev pub counted : Answer → ℕ → Found
+counted (At n) count = Found.At n count
+counted Nothing count = Found.Nothing count
+counted (Refused r) count = Found.Refused r
+
+unfoldable pub looked : List ℕ → ℕ → ℕ → Bool → Found
+unfolding lookup examined
+looked xs start at asked = counted (lookup xs start at asked) (examined xs start at)
+
 abbrev pub tellFound : Found → Told
-tellFound (At n) = answered (some (pos n))
-tellFound Nothing = answered none
-tellFound (Refused r) = refused r
+tellFound (Found.At n count) = answered (some (pos n) ++ (pos count ∷ []))
+tellFound (Found.Nothing count) = answered (none ++ (pos count ∷ []))
+tellFound (Found.Refused r) = refused r

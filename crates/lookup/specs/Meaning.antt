@@ -8,8 +8,7 @@ use mathlib.Core.Logic.{_⊎_}
 use lib.ListN.{length}
 use Rattle.sam.specs.Columns.{Column, Both, Reference, queries, refs}
 use Rattle.oplist.specs.Ops.{mostOps}
-use Rattle.lookup.specs.declared.Found.{Found}
-use Rattle.lookup.specs.declared.Found.the-variants.{At, Nothing}
+use Rattle.lookup.specs.Lookup.{Answer, At, Nothing}
 
 -- what the call answers for: at most 65,535 ops, and a start from 1 to 2^31
 pub record InBounds (xs : List ℕ) (start : ℕ) : Type 0 where
@@ -17,7 +16,7 @@ pub record InBounds (xs : List ℕ) (start : ℕ) : Type 0 where
   pub low : 1 ≤ start
   pub high : start ≤ 2147483648
 
-pub data Reads (cs : List Column) (start at : ℕ) (asked : Bool) (r : Found) : Type 0 where
+pub data Reads (cs : List Column) (start at : ℕ) (asked : Bool) (r : Answer) : Type 0 where
   base : (left right : List Column) → cs ≡ left ++ (Both ∷ right) → start + refs left ≡ at → r ≡ At (queries left + 1) → Reads cs start at asked r
   gap : (left right : List Column) → cs ≡ left ++ (Reference ∷ right) → start + refs left ≡ at → r ≡ cond asked (At (max (queries left) 1)) Nothing → Reads cs start at asked r
   off : (at < start) ⊎ (start + refs cs ≤ at) → r ≡ Nothing → Reads cs start at asked r

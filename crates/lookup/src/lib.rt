@@ -2,15 +2,16 @@
 ghost use mathlib.Core.Path.{_≡_};
 ghost use Prim.Native.Nat.{_≤_, max};
 ghost use Rattle.oplist.specs.Ops.{opsOf};
-ghost use Rattle.lookup.specs.Lookup.{look, lookup, readOver};
+ghost use Rattle.lookup.specs.Lookup.{look, looked, counted, readOver};
+ghost use Rattle.lookup.specs.Examined.{placeOf};
 ghost use Rattle.lookup.specs.InnerLookup.{spotOf, overOf};
 use answers::Refusal;
 use oplist::Ops;
 
-// A query position, counted from 1; or none.
+// A query position, counted from 1, or none; and how many ops were examined.
 pub enum Found {
-    At(u64),
-    Nothing,
+    At(u64, u64),
+    Nothing(u64),
     Refused(Refusal),
 }
 
@@ -21,10 +22,11 @@ pub enum Over {
     Off,
 }
 
-// That, and the query bases in the columns before it (in all columns, if there is no such reference base).
+// That, and the query bases in the columns before it (in all columns, if there is no such reference base); and the place, counted from 1, of the op that decides.
 pub struct Spot {
     pub before: u64,
     pub over: Over,
+    pub place: usize,
 }
 
 // The last alignment start that lookup takes: one past the last `pos`, counted from 1.
@@ -33,6 +35,7 @@ pub const LAST_START: u64 = 2147483648;
 // What is seen at reference base k of the alignment, counted from 0.
 fn look_at(words: &[u32], rec: &[u8], list: Ops, k: u64) -> Spot
     ensures { λ r. ⌜ (spotOf r ≡ look (opsOf (now (words .entry)) (now (rec .entry)) list) k) × (r .before ≤ 1152921504606846976) ⌝ }
+    ensures { λ r. ⌜ r .place ≡ placeOf (opsOf (now (words .entry)) (now (rec .entry)) list) k ⌝ }
 {
     let n = oplist::count(words, rec, list);
     let mut before: u64 = 0;
@@ -46,11 +49,13 @@ fn look_at(words: &[u32], rec: &[u8], list: Ops, k: u64) -> Spot
                 return Spot {
                     before: before + left,
                     over: Over::Base,
+                    place: i + 1,
                 };
             }
             return Spot {
                 before: before,
                 over: Over::Gap,
+                place: i + 1,
             };
         }
         left -= refs;
@@ -60,6 +65,7 @@ fn look_at(words: &[u32], rec: &[u8], list: Ops, k: u64) -> Spot
     Spot {
         before: before,
         over: Over::Off,
+        place: i,
     }
 }
 
@@ -72,27 +78,27 @@ fn at_least_one(n: u64) -> u64
     n
 }
 
-// What lookup answers at a spot.
-fn read_over(asked: bool, before: u64, over: Over) -> Found
+// What lookup answers at a spot, and the count.
+fn read_over(asked: bool, before: u64, over: Over, count: u64) -> Found
     requires { ⌜ before ≤ 1152921504606846976 ⌝ }
-    ensures { λ r. ⌜ r ≡ readOver asked before (overOf over) ⌝ }
+    ensures { λ r. ⌜ r ≡ counted (readOver asked before (overOf over)) count ⌝ }
 {
     match over {
-        Over::Base => Found::At(before + 1),
+        Over::Base => Found::At(before + 1, count),
         Over::Gap => {
             if asked {
-                return Found::At(at_least_one(before));
+                return Found::At(at_least_one(before), count);
             }
-            Found::Nothing
+            Found::Nothing(count)
         }
-        Over::Off => Found::Nothing,
+        Over::Off => Found::Nothing(count),
     }
 }
 
 // The query position over the reference position `pos` of an alignment that starts at `start`, all counted from 1; in a deletion none, or if asked
-// the last query base before it. Refusals 3 and 9.
+// the last query base before it. Beside it the ops examined: 0 before the start. Refusals 3 and 9.
 pub fn read_pos_at_ref_pos_raw(cigar: &[u32], start: u64, pos: u64, asked: bool) -> Found
-    ensures { λ r. ⌜ r ≡ lookup (now (cigar .entry)) start pos asked ⌝ }
+    ensures { λ r. ⌜ r ≡ looked (now (cigar .entry)) start pos asked ⌝ }
 {
     if oplist::MOST_OPS < cigar.len() {
         return Found::Refused(Refusal::TooManyOps);
@@ -104,9 +110,9 @@ pub fn read_pos_at_ref_pos_raw(cigar: &[u32], start: u64, pos: u64, asked: bool)
         return Found::Refused(Refusal::BadStart);
     }
     if pos < start {
-        return Found::Nothing;
+        return Found::Nothing(0);
     }
     let s = look_at(cigar, &[], oplist::lent(cigar), pos - start);
     let over = s.over;
-    read_over(asked, s.before, over)
+    read_over(asked, s.before, over, s.place as u64)
 }

@@ -27,9 +27,8 @@ use Rattle.ends.specs.Tails.{greatestRun}
 use Rattle.ends.specs.Ends.{provided, trailingSum, unclippedStart, unclippedEnd, fivePrime, toPlace0, toPlace1, plusOne, noOps, asUnclipped, unclippedAt, unclippedOf, asRust, unclippedFrom, alignmentStart, alignmentEnd}
 use Rattle.ends.specs.declared.Unclipped.{Unclipped}
 use Rattle.ends.specs.declared.Unclipped.the-variants as Unclipped
-use Rattle.lookup.specs.Lookup.{look, readOver, lookup, tellFound}
-use Rattle.lookup.specs.declared.Found.{Found}
-use Rattle.lookup.specs.declared.Found.the-variants as Found
+use Rattle.lookup.specs.Lookup.{Answer, Nothing, Refused, look, readOver, lookup, counted, looked, tellFound}
+use Rattle.lookup.specs.Examined.{examined}
 use Rattle.promises.specs.Table.{Gives}
 use Rattle.promises.specs.Rows.{over, endSums, unclippedRows, unclippedFromRows, startRows, endRows, lookupRows}
 use Rattle.promises.proofs.RowLaws.{number-alone, answer, row, row-either, row-unless, row-sum}
@@ -112,14 +111,17 @@ alignment-end-from-raw b =
     (row-unless tellPlace1 (eqb (natural (refLengthOrZero b)) 0) Place1.Nothing _ refl
     (row-sum tellPlace1 toPlace1 (posOf b +ℤ refLengthOrZero b) [] refl (answer refl refl))))
 
-pub read-pos-at-ref-pos-raw : (xs : List ℕ) (start at : ℕ) (asked : Bool) → Gives (tellFound (lookup xs start at asked)) (lookupRows xs start)
-unfolding lookup
+pub read-pos-at-ref-pos-raw : (xs : List ℕ) (start at : ℕ) (asked : Bool) → Gives (tellFound (looked xs start at asked)) (lookupRows xs start)
+unfolding looked lookup
 read-pos-at-ref-pos-raw xs start at asked =
-    row tellFound (ltb mostOps (length xs)) (Found.Refused TooManyOps) _ 3 refl
-    (row-either tellFound (ltb start 1) (ltb 2147483648 start) (Found.Refused BadStart) _ 9 refl
+    row told (ltb mostOps (length xs)) (Refused TooManyOps) _ 3 refl
+    (row-either told (ltb start 1) (ltb 2147483648 start) (Refused BadStart) _ 9 refl
     (never (ltb at start) (look xs (at - start) .before) asked (look xs (at - start) .over)))
   where
-    never : (t : Bool) (n : ℕ) (asked : Bool) (o : Over) → Gives (tellFound (cond t Found.Nothing (readOver asked n o))) []
+    told : Answer → Told
+    told a = tellFound (counted a (examined xs start at))
+
+    never : (t : Bool) (n : ℕ) (asked : Bool) (o : Over) → Gives (told (cond t Nothing (readOver asked n o))) []
     never true n asked o = answer refl refl
     never false n asked Base = answer refl refl
     never false n true Gap = answer refl refl

@@ -12,11 +12,12 @@ use Rattle.text_rules.specs.Text.{indexOf, letterCode, effectOf, rowFrom, opsFr
 use Rattle.text_rules.specs.Valid.{isEmpty, allHard, anyRef, each, validMapped}
 use Rattle.text_rules.specs.Strict.{strict}
 use Rattle.strict_text.specs.Parsed.{parsed}
-use Rattle.lookup.specs.Lookup.{look, lookup}
+use Rattle.lookup.specs.Lookup.{look, lookup, looked}
+use Rattle.lookup.specs.Examined.{reached, firstAbove, placeOf, examined}
 use Rattle.signed.specs.Equal.{eqℤ}
 use Rattle.bin.specs.Bin.{low16, firstAgreed, binTo, reg2bin}
 use Rattle.promises.specs.Marked.{marked, calls, sayings}
 
 pub p1-to-p10 : calls marked ≡ sayings marked
-unfolding splice sumOf isRef isQuery refLen queryLen isRead readLen isClip leading afterLeading goes ends taking softOf upgraded cutInto outerHard nextSoft inside leadingClips clip clippedOps clippedCount clippedInto clippedUpTo indexOf letterCode effectOf rowFrom opsFrom isEmpty allHard anyRef each validMapped strict parsed look lookup checked sideOf eqℤ low16 firstAgreed binTo reg2bin
+unfolding splice sumOf isRef isQuery refLen queryLen isRead readLen isClip leading afterLeading goes ends taking softOf upgraded cutInto outerHard nextSoft inside leadingClips clip clippedOps clippedCount clippedInto clippedUpTo indexOf letterCode effectOf rowFrom opsFrom isEmpty allHard anyRef each validMapped strict parsed look lookup looked reached firstAbove placeOf examined checked sideOf eqℤ low16 firstAgreed binTo reg2bin
 p1-to-p10 = refl

@@ -1,10 +1,10 @@
--- What document 01 promises of ends, pair tests and overhangs beside the answers. Each line is a theorem of the crate that it is cited from, over the definitions that the contracts use.
-use Prim.Native.Nat.{ℕ, _+_, _≤_}
+-- What documents 01 and 02 promise of ends, lookup, pair tests and overhangs beside the answers. Each line is a theorem of the crate that it is cited from, over the definitions that the contracts use.
+use Prim.Native.Nat.{ℕ, _+_, _-_, _≤_, _<_}
 use mathlib.Core.Path.{_≡_}
 use mathlib.Core.Bool.{Bool, true, false}
 use mathlib.Core.List.{List, _∷_, _++_}
 use lib.IntN.{ℤ, pos, _+ℤ_, _-ℤ_}
-use lib.ListN.{take}
+use lib.ListN.{length, take}
 use lib.Signed.{ltZ, leZ}
 use mir.Syntax.{w32}
 use mir.Val.{SFits}
@@ -19,6 +19,8 @@ use Rattle.ends.specs.Ends.{unclippedStart, unclippedEnd}
 use Rattle.ends.specs.Tails.{greatestRun, Reached}
 use Rattle.ends.proofs.Meaning as Ends
 use Rattle.ends.proofs.RunMost as Runs
+use Rattle.lookup.specs.Examined.{examined, Deciding}
+use Rattle.lookup.proofs.PlaceLaws as Places
 use Rattle.pairs.specs.Pairs.{oppositePair, frPair, primaryFrPair}
 use Rattle.pairs.specs.Needed.{SamePair, SameReverse}
 use Rattle.pairs.proofs.Needed as Pairs
@@ -46,6 +48,21 @@ run-most xs i = Runs.run-most xs i
 
 pub run-reached : (xs : List ℕ) → Reached xs
 run-reached xs = Runs.run-reached xs
+
+-- ---- lookup: the ops that it examined
+
+-- the place of the op that decides, and no other number is that place; "never exceeds the list length"
+pub examined-means : (xs : List ℕ) (start at : ℕ) → start ≤ at → Deciding xs (at - start) (examined xs start at)
+examined-means xs start at h = Places.examined-means xs start at h
+
+pub examined-only : (xs : List ℕ) (start at n : ℕ) → start ≤ at → Deciding xs (at - start) n → n ≡ examined xs start at
+examined-only xs start at n h d = Places.examined-only xs start at n h d
+
+pub examined-before : (xs : List ℕ) (start at : ℕ) → at < start → examined xs start at ≡ 0
+examined-before xs start at h = Places.examined-before xs start at h
+
+pub examined-most : (xs : List ℕ) (start at : ℕ) → examined xs start at ≤ length xs
+examined-most xs start at = Places.examined-most xs start at
 
 -- ---- pair tests
 

@@ -27,9 +27,8 @@ use Rattle.promises.specs.RoundTrip.{withoutZeros}
 use Rattle.promises.proofs.RoundTrip as Round
 use Rattle.mate_rules.specs.Readers.{Agree}
 use Rattle.mate_rules.proofs.Agree as Mate
-use Rattle.lookup.specs.Lookup.{lookup}
+use Rattle.lookup.specs.Lookup.{Answer, lookup}
 use Rattle.lookup.specs.Meaning.{InBounds, Reads}
-use Rattle.lookup.specs.declared.Found.{Found}
 use Rattle.lookup.proofs.LookupLaws as Looked
 use Rattle.bin.specs.Bin.{binOf, low16, reg2bin}
 use Rattle.bin.proofs.Smallest as Bins
@@ -56,7 +55,7 @@ reference-length xs = Length.reference-length xs
 pub lookup-means : (xs : List ℕ) (start at : ℕ) (asked : Bool) → InBounds xs start → Reads (columns xs) start at asked (lookup xs start at asked)
 lookup-means xs start at asked t = Looked.lookup-means xs start at asked t
 
-pub lookup-only : (xs : List ℕ) (start at : ℕ) (asked : Bool) → InBounds xs start → (r : Found) → Reads (columns xs) start at asked r → r ≡ lookup xs start at asked
+pub lookup-only : (xs : List ℕ) (start at : ℕ) (asked : Bool) → InBounds xs start → (r : Answer) → Reads (columns xs) start at asked r → r ≡ lookup xs start at asked
 lookup-only xs start at asked t r s = Looked.lookup-only xs start at asked t r s
 
 -- ---- text

@@ -1,14 +1,14 @@
 -- Document 01, "Marked examples", P1 to P10: each call with what it tells and what it leaves in lent memory.
 use Prim.Native.Nat.{ℕ}
 use mathlib.Core.Bool.{Bool, true, false}
-use mathlib.Core.List.{List, [], _∷_}
+use mathlib.Core.List.{List, [], _∷_, _++_}
 use lib.IntN.{ℤ, pos}
 use Rattle.sam.specs.Op.{opOf}
 use Rattle.answers.specs.Answers.{Told, answered, some, none, tellCount, tellNat}
 use Rattle.answers.specs.Settled.{Outcome, keeps}
 use Rattle.clip.specs.Answer.{clipped, tellClipped}
 use Rattle.strict_text.specs.Parsed.{parsed}
-use Rattle.lookup.specs.Lookup.{lookup, tellFound}
+use Rattle.lookup.specs.Lookup.{looked, tellFound}
 use Rattle.bin.specs.Bin.{reg2bin}
 
 -- one row of the table: what the call comes to, and what document 01 says
@@ -65,8 +65,8 @@ accepted n left = record { answer = answered (pos n ∷ []); left = left }
 abbrev refused5 : Outcome Told
 refused5 = keeps (record { number = 5; values = [] }) room
 
-abbrev looks : ℕ → Bool → List ℤ → Example
-looks at asked values = record { call = alone (tellFound (lookup soft5 100 at asked)); says = alone (answered values) }
+abbrev looks : ℕ → Bool → List ℤ → ℕ → Example
+looks at asked values count = record { call = alone (tellFound (looked soft5 100 at asked)); says = alone (answered (values ++ (pos count ∷ []))) }
 
 abbrev bins : ℕ → ℕ → ℕ → Example
 bins beg end bin = record { call = alone (tellNat (reg2bin (pos beg) (pos end))); says = alone (answered (pos bin ∷ [])) }
@@ -88,11 +88,13 @@ marked =
     -- P8 5S5S10M refused; 3H5S10M accepted
     ∷ reads (53 ∷ 83 ∷ 53 ∷ 83 ∷ 49 ∷ 48 ∷ 77 ∷ []) refused5
     ∷ reads (51 ∷ 72 ∷ 53 ∷ 83 ∷ 49 ∷ 48 ∷ 77 ∷ []) (accepted 3 (h 3 ∷ s 5 ∷ m 10 ∷ 4 ∷ 5 ∷ 6 ∷ []))
-    -- P9 lookup, 5S20M2D5M from 100: 119 gives 25; 120 none, or 25 if asked; 122 gives 26
-    ∷ looks 119 false (some (pos 25))
-    ∷ looks 120 false none
-    ∷ looks 120 true (some (pos 25))
-    ∷ looks 122 false (some (pos 26))
+    -- P9 lookup, 5S20M2D5M from 100: 119 gives 25; 120 none, or 25 if asked; 122 gives 26. Document 02, item 9: the M is the second op, the D the third; 99 is before the start
+    ∷ looks 119 false (some (pos 25)) 2
+    ∷ looks 120 false none 3
+    ∷ looks 120 true (some (pos 25)) 3
+    ∷ looks 122 false (some (pos 26)) 4
+    ∷ looks 127 false none 4
+    ∷ looks 99 false none 0
     -- P10 bins: (0,1) 4681; (16383,16385) 585; (131071,131073) 73; (0,2^29) 0
     ∷ bins 0 1 4681
     ∷ bins 16383 16385 585

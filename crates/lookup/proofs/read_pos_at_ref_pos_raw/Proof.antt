@@ -4,27 +4,28 @@ use mathlib.Core.Path.{ap, sym, _∙_}
 use mathlib.Core.List.{List}
 use borrow.Author.Tests.{lt-ltb, le-ltb}
 use Rattle.sam.specs.Columns.{Spot}
-use Rattle.lookup.specs.Lookup.{look, lookup, readOver}
+use Rattle.lookup.specs.Lookup.{look, lookup, looked, counted, readOver}
+use Rattle.lookup.specs.Examined.{placeOf, examined}
 use Rattle.lookup.specs.Meaning.{InBounds}
-use Rattle.lookup.proofs.LookupLaws.{lookup-at}
+use Rattle.lookup.proofs.LookupLaws.{looked-at}
 use borrow.Author.Needs.{needs}
 use Rattle.lookup.proofs.read_pos_at_ref_pos_raw.Statement.{statement}
 use Rattle.lookup.proofs.read_pos_at_ref_pos_raw.Tie as tie
 
 returns : tie.Need-returns
-unfolding lookup
+unfolding looked lookup examined
 returns c = simp (lt-ltb _ _ (c .if1 .taken))
 
 returns-2 : tie.Need-returns-2
-unfolding lookup
+unfolding looked lookup examined
 returns-2 c = simp (le-ltb _ _ (c .before .if1 .left), lt-ltb _ _ (c .if2 .taken))
 
 returns-3 : tie.Need-returns-3
-unfolding lookup
+unfolding looked lookup examined
 returns-3 c = simp (le-ltb _ _ (c .before .before .if1 .left), le-ltb _ _ (c .before .if2 .left), lt-ltb _ _ (c .if3 .taken))
 
 returns-4 : tie.Need-returns-4
-unfolding lookup
+unfolding looked lookup examined
 returns-4 c =
     simp (le-ltb _ _ (c .before .before .before .if1 .left), le-ltb _ _ (c .before .before .if2 .left), le-ltb _ _ (c .before .if3 .left), lt-ltb _ _ (c .if4 .taken))
 
@@ -46,10 +47,13 @@ returns-5 c =
     let k = s .before .before .before in
     let a = k .before .before .before .before .before .args in
     let t : InBounds (a .cigar .now) (a .start) = record { few = k .before .before .before .if1 .left; low = k .before .before .if2 .left; high = k .before .if3 .left } in
-    let e = s .look-at .ensures .0 ∙ ap (λ (l : List ℕ). look l (a .pos - a .start)) (s .before .lent .ensures _) in
+    let l = s .before .lent .ensures _ in
+    let e = s .look-at .ensures .0 .0 ∙ ap (λ (l : List ℕ). look l (a .pos - a .start)) l in
+    let p = s .look-at .ensures .1 ∙ ap (λ (l : List ℕ). placeOf l (a .pos - a .start)) l in
     c .read-over .ensures
-    ∙ ap (λ (u : Spot). readOver (a .asked) (u .before) (u .over)) e
-    ∙ sym (lookup-at (a .cigar .now) (a .start) (a .pos) (a .asked) t (k .if4 .left))
+    ∙ ap (λ (u : Spot). counted (readOver (a .asked) (u .before) (u .over)) (s .look-at .result .place)) e
+    ∙ ap (counted (readOver (a .asked) (look (a .cigar .now) (a .pos - a .start) .before) (look (a .cigar .now) (a .pos - a .start) .over))) p
+    ∙ sym (looked-at (a .cigar .now) (a .start) (a .pos) (a .asked) t (k .if4 .left))
 
 pub read-pos-at-ref-pos-raw-spec : {M : Type 1} → statement M
 read-pos-at-ref-pos-raw-spec =

@@ -1,4 +1,4 @@
--- A number, none, or the number of a refusal.
+-- A number or none, and the count; or the number of a refusal.
 use borrow.Author.Needs.{needs}
 use Rattle.exports_reads.proofs.lookup_calls.told_found.Statement.{statement}
 use Rattle.exports_reads.proofs.lookup_calls.told_found.Tie as tie
@@ -6,40 +6,32 @@ use Rattle.exports_reads.proofs.lookup_calls.told_found.Tie as tie
 enum-known-answer : tie.Need-enum-known-answer
 enum-known-answer c = search needs
 
-found-requires : tie.Need-found-requires
-found-requires c κs = search needs
-
-enum-told : tie.Need-enum-told
-enum-told c = search needs
-
-nothing-requires : tie.Need-nothing-requires
-nothing-requires c κs = search needs
-
 enum-known-answer-2 : tie.Need-enum-known-answer-2
 enum-known-answer-2 c = search needs
 
-refused-found-requires : tie.Need-refused-found-requires
-refused-found-requires c κs = search needs
+enum-known-answer-3 : tie.Need-enum-known-answer-3
+enum-known-answer-3 c = search needs
+
+number-requires : tie.Need-number-requires
+number-requires c κs = search needs
 
 returns : tie.Need-returns
-returns c = rw (c .before .before .answer .given .1) (c .found .ensures)
+returns c = rw (c .before .answer .given .1)
 
 returns-2 : tie.Need-returns-2
-returns-2 c = rw (c .before .enum-told .given .1) (c .nothing .ensures)
+returns-2 c = rw (c .before .answer2 .given .1)
 
 returns-3 : tie.Need-returns-3
-returns-3 c = rw (c .before .before .answer2 .given .1) (c .refused-found .ensures)
+returns-3 c = rw (c .before .before .answer3 .given .1, c .number .ensures)
 
 pub told-found-spec : {M : Type 1} → statement M
 told-found-spec =
     tie.close
     (tie.spec
     enum-known-answer
-    found-requires
-    enum-told
-    nothing-requires
     enum-known-answer-2
-    refused-found-requires
+    enum-known-answer-3
+    number-requires
     returns
     returns-2
     returns-3)
