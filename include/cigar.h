@@ -37,8 +37,8 @@ struct cigar_count { uint32_t refusal; uint64_t value; };
 struct cigar_flag { uint32_t refusal; bool value; };
 /* None, where `found` is false, or a number that is never negative */
 struct cigar_found { uint32_t refusal; bool found; uint64_t value; };
-/* What lookup found, none where `found` is false, and how many ops it examined */
-struct cigar_lookup { uint32_t refusal; bool found; uint64_t value; uint64_t examined; };
+/* What lookup found, none where `found` is false, and how many ops it examined: 16 bytes, for registers, so the refusal has 16 bits here */
+struct cigar_lookup { uint16_t refusal; bool found; uint32_t examined; uint64_t value; };
 /* Two numbers that are never negative; each call says which */
 struct cigar_two { uint32_t refusal; uint64_t first; uint64_t second; };
 /* Reference and query length */

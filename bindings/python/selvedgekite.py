@@ -9,7 +9,7 @@ The shared library is libselvedgekite.so, that ./build-libraries writes to targe
 SELVEDGEKITE_LIB names another folder."""
 import os
 from array import array
-from ctypes import CDLL, POINTER, Structure, c_bool, c_char_p, c_int32, c_size_t, c_uint8, c_uint32, c_uint64
+from ctypes import CDLL, POINTER, Structure, c_bool, c_char_p, c_int32, c_size_t, c_uint8, c_uint16, c_uint32, c_uint64
 from operator import index
 
 WORDS = {
@@ -58,7 +58,7 @@ class Found(Structure):
 
 
 class Lookup(Structure):
-    _fields_ = [('refusal', c_uint32), ('found', c_bool), ('value', c_uint64), ('examined', c_uint64)]
+    _fields_ = [('refusal', c_uint16), ('found', c_bool), ('examined', c_uint32), ('value', c_uint64)]
 
 
 class Two(Structure):

@@ -1,5 +1,6 @@
 /* What include/cigar.h needs of <stdint.h>: the kit has a compiler and no headers. */
 typedef __UINT8_TYPE__ uint8_t;
+typedef __UINT16_TYPE__ uint16_t;
 typedef __INT32_TYPE__ int32_t;
 typedef __UINT32_TYPE__ uint32_t;
 typedef __INT64_TYPE__ int64_t;

@@ -355,7 +355,7 @@ pub fn alignment_end_from_raw(bam: &[u8]) -> Result<Option<usize>, Refusal> {
 #[inline]
 pub fn read_pos_at_ref_pos_raw(ops: &[u32], alignment_start: usize, ref_pos: usize, return_last_base_if_deleted: bool) -> Result<(Option<usize>, usize), Refusal> {
     let a = unsafe { raw::cigar_read_pos_at_ref_pos_raw(ops.as_ptr(), ops.len(), alignment_start as u64, ref_pos as u64, return_last_base_if_deleted as u8) };
-    unless(a.refusal, (a.found.then_some(a.value as usize), a.examined as usize))
+    unless(a.refusal.into(), (a.found.then_some(a.value as usize), a.examined as usize))
 }
 
 /// The clipped list into the first places of `out`; the ops written, and the reference bases lost at the start.

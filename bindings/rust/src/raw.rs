@@ -26,10 +26,10 @@ pub struct Found {
 
 #[repr(C)]
 pub struct Lookup {
-    pub refusal: u32,
+    pub refusal: u16,
     pub found: bool,
+    pub examined: u32,
     pub value: u64,
-    pub examined: u64,
 }
 
 #[repr(C)]

@@ -1,9 +1,12 @@
 -- What the calls of the static libraries share.
-use Prim.Native.Nat.{ℕ}
+use Prim.Native.Nat.{ℕ, _≤_}
 use mathlib.Core.Path.{_≡_, refl, ap, _∙_}
 use mathlib.Core.Bool.{Bool, true, false}
 use mathlib.Core.List.{List}
-use Rattle.answers.specs.Answers.{Told, flagValue}
+use native.Mathlib.Omega.{arith}
+use Rattle.answers.specs.Answers.{Told, flagValue, numberOf}
+use Rattle.answers.specs.declared.Refusal.{Refusal}
+use Rattle.answers.specs.declared.Refusal.the-variants.{ShortRecord, AreaOverrun, TooManyOps, Overflow, NotACigar, NoRoom, BadCode, TooLong, BadStart, BadLength}
 use Rattle.answers.specs.Settled.{Outcome, Settled}
 use Rattle.border.specs.Border.{isSet, across}
 
@@ -15,3 +18,16 @@ flag-told false = refl
 -- what a call settled is settled across the border: its answer as it is told, and the lent memory as it is.
 pub across-settled : {A B : Type 0} (shape : Told → B) (tell : A → Told) {o : Outcome A} {a : A} {r : B} {left : List ℕ} → r ≡ shape (tell a) → Settled o a left → Settled (across shape tell o) r left
 across-settled shape tell e s = record { answer = e ∙ ap (λ a. shape (tell a)) (s .answer); memory = s .memory }
+
+-- a refusal's number has one byte
+pub small-number : (why : Refusal) → numberOf why ≤ 255
+small-number ShortRecord = omega arith
+small-number AreaOverrun = omega arith
+small-number TooManyOps = omega arith
+small-number Overflow = omega arith
+small-number NotACigar = omega arith
+small-number NoRoom = omega arith
+small-number BadCode = omega arith
+small-number TooLong = omega arith
+small-number BadStart = omega arith
+small-number BadLength = omega arith

@@ -2,7 +2,7 @@
 ghost use mathlib.Core.Path.{_≡_};
 ghost use mathlib.Core.List.{[], _∷_};
 ghost use lib.IntN.{pos};
-ghost use Rattle.answers.specs.Answers.{answered, refused, none, some, tellInt, tellNat, tellCount, tellFlag};
+ghost use Rattle.answers.specs.Answers.{numberOf, answered, refused, none, some, tellInt, tellNat, tellCount, tellFlag};
 ghost use Rattle.border.specs.Border.{intOf, countOf, flagOf, foundOf, twoOf, flagged};
 use answers::Count;
 use answers::Flag;
@@ -39,13 +39,13 @@ pub struct ToldFound {
     pub value: u64,
 }
 
-// What lookup found, and the ops that it examined.
+// What lookup found, and the ops that it examined: in 16 bytes, so that registers hold it.
 #[repr(C)]
 pub struct ToldLookup {
-    pub refusal: u32,
+    pub refusal: u16,
     pub found: bool,
+    pub examined: u32,
     pub value: u64,
-    pub examined: u64,
 }
 
 // Two numbers that are never negative.
@@ -69,6 +69,13 @@ pub fn flag(n: u8) -> bool
     ensures { λ r. ⌜ r ≡ flagged n ⌝ }
 {
     n != 0
+}
+
+// The number of a refusal, beside values that leave it 16 bits.
+pub fn short_number(why: Refusal) -> u16
+    ensures { λ r. ⌜ r ≡ numberOf why ⌝ }
+{
+    answers::number(why) as u16
 }
 
 pub fn told_int(answer: Int) -> ToldInt

@@ -12,20 +12,20 @@ fn told_found(answer: Found) -> ToldLookup
         Found::At(n, examined) => ToldLookup {
             refusal: 0,
             found: true,
-            value: n,
             examined,
+            value: n,
         },
         Found::Nothing(examined) => ToldLookup {
             refusal: 0,
             found: false,
-            value: 0,
             examined,
+            value: 0,
         },
         Found::Refused(why) => ToldLookup {
-            refusal: answers::number(why),
+            refusal: border::short_number(why),
             found: false,
-            value: 0,
             examined: 0,
+            value: 0,
         },
     }
 }

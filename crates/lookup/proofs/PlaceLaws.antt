@@ -102,14 +102,17 @@ unfolding examined
 examined-before xs start at h = rw (lt-ltb at start h) refl
 
 -- "never exceeds the list length"
+pub place-most : (xs : List ℕ) (k : ℕ) → placeOf xs k ≤ length xs
+place-most xs k = least (place-means xs k)
+  where
+    least : {n : ℕ} → Deciding xs k n → n ≤ length xs
+    least (means.op left right o e l u f) = let m = ap length e ∙ length-append left (o ∷ right) in omega arith
+    least (means.none l f) = omega arith
+
 pub examined-most : (xs : List ℕ) (start at : ℕ) → examined xs start at ≤ length xs
 unfolding examined
 examined-most xs start at = go (ltb at start)
   where
-    least : {k n : ℕ} → Deciding xs k n → n ≤ length xs
-    least (means.op left right o e l u f) = let m = ap length e ∙ length-append left (o ∷ right) in omega arith
-    least (means.none l f) = omega arith
-
     go : (b : Bool) → cond b 0 (placeOf xs (at - start)) ≤ length xs
     go true = omega arith
-    go false = least (place-means xs (at - start))
+    go false = place-most xs (at - start)

@@ -10,8 +10,8 @@ use oplist::Ops;
 
 // A query position, counted from 1, or none; and how many ops were examined.
 pub enum Found {
-    At(u64, u64),
-    Nothing(u64),
+    At(u64, u32),
+    Nothing(u32),
     Refused(Refusal),
 }
 
@@ -79,7 +79,7 @@ fn at_least_one(n: u64) -> u64
 }
 
 // What lookup answers at a spot, and the count.
-fn read_over(asked: bool, before: u64, over: Over, count: u64) -> Found
+fn read_over(asked: bool, before: u64, over: Over, count: u32) -> Found
     requires { ⌜ before ≤ 1152921504606846976 ⌝ }
     ensures { λ r. ⌜ r ≡ counted (readOver asked before (overOf over)) count ⌝ }
 {
@@ -114,5 +114,5 @@ pub fn read_pos_at_ref_pos_raw(cigar: &[u32], start: u64, pos: u64, asked: bool)
     }
     let s = look_at(cigar, &[], oplist::lent(cigar), pos - start);
     let over = s.over;
-    read_over(asked, s.before, over, s.place as u64)
+    read_over(asked, s.before, over, s.place as u32)
 }

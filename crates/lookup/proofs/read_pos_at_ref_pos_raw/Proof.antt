@@ -2,12 +2,14 @@
 use Prim.Native.Nat.{ℕ, _-_}
 use mathlib.Core.Path.{ap, sym, _∙_}
 use mathlib.Core.List.{List}
+use native.Mathlib.Omega.{arith}
 use borrow.Author.Tests.{lt-ltb, le-ltb}
 use Rattle.sam.specs.Columns.{Spot}
 use Rattle.lookup.specs.Lookup.{look, lookup, looked, counted, readOver}
 use Rattle.lookup.specs.Examined.{placeOf, examined}
 use Rattle.lookup.specs.Meaning.{InBounds}
 use Rattle.lookup.proofs.LookupLaws.{looked-at}
+use Rattle.lookup.proofs.PlaceLaws.{place-most}
 use borrow.Author.Needs.{needs}
 use Rattle.lookup.proofs.read_pos_at_ref_pos_raw.Statement.{statement}
 use Rattle.lookup.proofs.read_pos_at_ref_pos_raw.Tie as tie
@@ -38,12 +40,22 @@ lent-requires c κs = search needs
 look-at-requires : tie.Need-look-at-requires
 look-at-requires c κs = search needs
 
+-- the place is at most the number of ops
+cast-read-over : tie.Need-cast-read-over
+cast-read-over c =
+    let k = c .before .before .before .before in
+    let a = k .before .before .before .before .before .args in
+    let few = k .before .before .before .if1 .left in
+    let p = c .before .look-at .ensures .1 ∙ ap (λ (l : List ℕ). placeOf l (a .pos - a .start)) (c .before .before .lent .ensures _) in
+    let m = place-most (a .cigar .now) (a .pos - a .start) in
+    omega arith
+
 read-over-requires : tie.Need-read-over-requires
 read-over-requires c κs = search needs
 
 returns-5 : tie.Need-returns-5
 returns-5 c =
-    let s = c .before in
+    let s = c .before .before in
     let k = s .before .before .before in
     let a = k .before .before .before .before .before .args in
     let t : InBounds (a .cigar .now) (a .start) = record { few = k .before .before .before .if1 .left; low = k .before .before .if2 .left; high = k .before .if3 .left } in
@@ -66,5 +78,6 @@ read-pos-at-ref-pos-raw-spec =
     slice-aggregate-look-at
     lent-requires
     look-at-requires
+    cast-read-over
     read-over-requires
     returns-5)

@@ -12,8 +12,8 @@ enum-known-answer-2 c = search needs
 enum-known-answer-3 : tie.Need-enum-known-answer-3
 enum-known-answer-3 c = search needs
 
-number-requires : tie.Need-number-requires
-number-requires c κs = search needs
+short-number-requires : tie.Need-short-number-requires
+short-number-requires c κs = search needs
 
 returns : tie.Need-returns
 returns c = rw (c .before .answer .given .1)
@@ -22,7 +22,7 @@ returns-2 : tie.Need-returns-2
 returns-2 c = rw (c .before .answer2 .given .1)
 
 returns-3 : tie.Need-returns-3
-returns-3 c = rw (c .before .before .answer3 .given .1, c .number .ensures)
+returns-3 c = rw (c .before .before .answer3 .given .1, c .short-number .ensures)
 
 pub told-found-spec : {M : Type 1} → statement M
 told-found-spec =
@@ -31,7 +31,7 @@ told-found-spec =
     enum-known-answer
     enum-known-answer-2
     enum-known-answer-3
-    number-requires
+    short-number-requires
     returns
     returns-2
     returns-3)
