@@ -1,7 +1,7 @@
 // Unclipped ends, start and end.
 ghost use mathlib.Core.Path.{_≡_};
 ghost use Rattle.answers.specs.Answers.{bare1, tellInt, tellPlace0, tellPlace1};
-ghost use Rattle.ends.specs.Ends.{asRust, unclippedOf, unclippedFrom, alignmentStart, alignmentEnd};
+ghost use Rattle.ends_rules.specs.Ends.{asRust, unclippedOf, unclippedFrom, alignmentStart, alignmentEnd};
 ghost use Rattle.border.specs.Border.{intOf, foundOf, flagged};
 use answers::Place1;
 use answers::Pos0;
@@ -22,14 +22,14 @@ fn told_place1(answer: Place1) -> ToldFound
 pub extern "C" fn cigar_unclipped_5prime_from_raw_bam(rec: &[u8]) -> ToldInt
     ensures { λ r. ⌜ r ≡ intOf (tellInt (bare1 (asRust (unclippedOf (now (rec .entry)))))) ⌝ }
 {
-    border::told_int(answers::bare1(ends::unclipped_5prime_from_raw_bam(rec)))
+    border::told_int(answers::bare1(unclipped::unclipped_5prime_from_raw_bam(rec)))
 }
 
 #[no_mangle]
 pub extern "C" fn cigar_unclipped_5prime_raw(rec: &[u8], position: i32, reverse: u8) -> ToldInt
     ensures { λ r. ⌜ r ≡ intOf (tellPlace0 (unclippedFrom (now (rec .entry)) (record { 0 = position }) (flagged reverse))) ⌝ }
 {
-    border::told_int(answers::bare0(ends::unclipped_5prime_raw(
+    border::told_int(answers::bare0(unclipped::unclipped_5prime_raw(
         rec,
         Pos0(position),
         border::flag(reverse),

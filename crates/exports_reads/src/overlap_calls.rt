@@ -4,13 +4,13 @@ ghost use Rattle.answers.specs.Settled.{Settled};
 ghost use Rattle.answers.specs.Answers.{tellCount, tellFlag};
 ghost use Rattle.overhang.specs.Overhang.{basesExtending};
 ghost use Rattle.pairs.specs.Pairs.{oppositePair, frPair, primaryFrPair};
-ghost use Rattle.overlap.specs.Overlap.{pastMateCigar, pastMateRecord, pastMateText, tellOverhang};
+ghost use Rattle.overlap_rules.specs.Overlap.{pastMateCigar, pastMateRecord, pastMateText, tellOverhang};
 ghost use Rattle.border.specs.Border.{countOf, flagOf, twoOf, across, flagged};
 use answers::Pos1;
 use border::ToldCount;
 use border::ToldFlag;
 use border::ToldTwo;
-use overlap::Overhang;
+use overlap_rules::Overhang;
 
 #[no_mangle]
 pub extern "C" fn cigar_is_mapped_opposite_strand_pair_raw(rec: &[u8]) -> ToldFlag
@@ -89,5 +89,5 @@ pub extern "C" fn cigar_num_bases_extending_past_mate_text_raw(
 ) -> ToldTwo
     ensures { λ r. ⌜ Settled (across twoOf tellOverhang (pastMateText (now (rec .entry)) (now (text .entry)) (now (out .entry)))) r (now (out .exit)) ⌝ }
 {
-    told_overhang(overlap::num_bases_extending_past_mate_text_raw(rec, text, out))
+    told_overhang(overlap_text::num_bases_extending_past_mate_text_raw(rec, text, out))
 }

@@ -28,7 +28,7 @@ use Rattle.answers.specs.declared.Count.the-variants as Count
 use Rattle.decimal.specs.Decimal.{decimal}
 use Rattle.print.specs.Text.{textOf, printed}
 use Rattle.lengths.specs.Lengths.{asInt, checkedRefLength}
-use Rattle.ends.specs.Ends.{asRust, unclippedOf}
+use Rattle.ends_rules.specs.Ends.{asRust, unclippedOf}
 use Rattle.bin.specs.Bin.{recordBin}
 use Rattle.put_text.specs.Puts.{Put, signedDecimal}
 use Rattle.put_text.proofs.PutLaws.{put-then, put-as, put-dropped}

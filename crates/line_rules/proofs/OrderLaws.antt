@@ -28,10 +28,10 @@ use Rattle.answers.specs.declared.Count.{Count}
 use Rattle.answers.specs.declared.Count.the-variants as Count
 use Rattle.print.specs.Text.{textOf, anyBad, printed}
 use Rattle.lengths.specs.Lengths.{asInt, checkedRefLength, refLengthOrZero, askedLength, recordQueryLength}
-use Rattle.ends.specs.Sums.{_⊕_}
-use Rattle.ends.specs.Ends.{plusOne, fivePrime, noOps, asUnclipped, unclippedAt, unclippedOf, asRust}
-use Rattle.ends.specs.declared.Unclipped.{Unclipped}
-use Rattle.ends.specs.declared.Unclipped.the-variants as Unclipped
+use Rattle.ends_rules.specs.Sums.{_⊕_}
+use Rattle.ends_rules.specs.Ends.{plusOne, fivePrime, noOps, asUnclipped, unclippedAt, unclippedOf, asRust}
+use Rattle.ends_rules.specs.declared.Unclipped.{Unclipped}
+use Rattle.ends_rules.specs.declared.Unclipped.the-variants as Unclipped
 use Rattle.bin.specs.Bin.{binTo, reg2bin, binUpTo, spanOf, recordBin, binFrom}
 use Rattle.line_rules.specs.Line.{textRoom, textTold, refsTold, fiveTold, binTold, order, firstOf, refusalOf}
 

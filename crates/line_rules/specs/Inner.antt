@@ -14,7 +14,7 @@ use Rattle.answers.specs.declared.Nat.{Nat}
 use Rattle.answers.specs.declared.Nat.the-variants as Nat
 use Rattle.answers.specs.declared.Count.the-variants as Count
 use Rattle.lengths.specs.Lengths.{checkedRefLength}
-use Rattle.ends.specs.Ends.{asRust, unclippedOf}
+use Rattle.ends_rules.specs.Ends.{asRust, unclippedOf}
 use Rattle.bin.specs.Bin.{recordBin}
 use Rattle.decimal.specs.Decimal.{decimal}
 use Rattle.print.specs.Text.{textOf, printed}

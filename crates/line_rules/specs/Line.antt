@@ -15,7 +15,7 @@ use Rattle.answers.specs.Answers.{Told, bare1, tellInt, tellCount, tellNat}
 use Rattle.decimal.specs.Decimal.{decimal}
 use Rattle.print.specs.Text.{textOf, printed}
 use Rattle.lengths.specs.Lengths.{checkedRefLength, recordQueryLength}
-use Rattle.ends.specs.Ends.{asRust, unclippedOf}
+use Rattle.ends_rules.specs.Ends.{asRust, unclippedOf}
 use Rattle.bin.specs.Bin.{recordBin}
 use Rattle.put_text.specs.Puts.{signedDecimal}
 

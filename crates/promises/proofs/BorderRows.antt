@@ -15,8 +15,8 @@ use Rattle.answers.specs.declared.Place1.the-variants as Place1
 use Rattle.answers.specs.declared.Refusal.the-variants.{ShortRecord}
 use Rattle.sam.specs.Record.{posOf}
 use Rattle.lengths.specs.Lengths.{refLengthOrZero, askedLength}
-use Rattle.ends.specs.Sums.{both, _⊕_}
-use Rattle.ends.specs.Ends.{toPlace1, plusOne, alignmentStart, alignmentEnd}
+use Rattle.ends_rules.specs.Sums.{both, _⊕_}
+use Rattle.ends_rules.specs.Ends.{toPlace1, plusOne, alignmentStart, alignmentEnd}
 use Rattle.answers.specs.Answers.{Told}
 use Rattle.border.specs.Border.{intOf, countOf, flagOf, foundOf, twoOf, lengthsOf}
 use Rattle.border.specs.declared.ToldInt.{ToldInt}

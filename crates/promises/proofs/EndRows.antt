@@ -22,11 +22,11 @@ use Rattle.answers.specs.declared.Pos0.{Pos0}
 use Rattle.answers.specs.declared.Place0.the-variants as Place0
 use Rattle.answers.specs.declared.Place1.the-variants as Place1
 use Rattle.answers.specs.declared.Refusal.the-variants.{ShortRecord, TooManyOps, BadStart}
-use Rattle.ends.specs.Sums.{both, _⊕_, _⊖_}
-use Rattle.ends.specs.Tails.{greatestRun}
-use Rattle.ends.specs.Ends.{provided, trailingSum, unclippedStart, unclippedEnd, fivePrime, toPlace0, toPlace1, plusOne, noOps, asUnclipped, unclippedAt, unclippedOf, asRust, unclippedFrom, alignmentStart, alignmentEnd}
-use Rattle.ends.specs.declared.Unclipped.{Unclipped}
-use Rattle.ends.specs.declared.Unclipped.the-variants as Unclipped
+use Rattle.ends_rules.specs.Sums.{both, _⊕_, _⊖_}
+use Rattle.ends_rules.specs.Tails.{greatestRun}
+use Rattle.ends_rules.specs.Ends.{provided, trailingSum, unclippedStart, unclippedEnd, fivePrime, toPlace0, toPlace1, plusOne, noOps, asUnclipped, unclippedAt, unclippedOf, asRust, unclippedFrom, alignmentStart, alignmentEnd}
+use Rattle.ends_rules.specs.declared.Unclipped.{Unclipped}
+use Rattle.ends_rules.specs.declared.Unclipped.the-variants as Unclipped
 use Rattle.lookup.specs.Lookup.{Answer, Nothing, Refused, look, readOver, lookup, counted, looked, tellFound}
 use Rattle.lookup.specs.Examined.{examined}
 use Rattle.promises.specs.Table.{Gives}

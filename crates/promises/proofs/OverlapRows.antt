@@ -17,8 +17,8 @@ use Rattle.answers.specs.declared.Refusal.the-variants.{ShortRecord, TooManyOps
 use Rattle.answers.specs.declared.Count.the-variants as Count
 use Rattle.answers.specs.declared.Flag.{Flag}
 use Rattle.answers.specs.declared.Flag.the-variants as Flag
-use Rattle.ends.specs.Sums.{both}
-use Rattle.ends.specs.Ends.{plusOne}
+use Rattle.ends_rules.specs.Sums.{both}
+use Rattle.ends_rules.specs.Ends.{plusOne}
 use Rattle.oplist.specs.Ops.{mostOps, recordOps}
 use Rattle.text_rules.specs.Text.{textOps}
 use Rattle.text_rules.specs.Valid.{validMapped}
@@ -26,9 +26,9 @@ use Rattle.text_rules.specs.Strict.{strict}
 use Rattle.lengths.specs.Lengths.{refLengthOrZero, askedLength}
 use Rattle.pairs.specs.Pairs.{isOpposite, startOf, lastOf, mateStartsBefore, frBy, isFr, areOpposite, isPrimaryFr, oppositePair, frPair, primaryFrPair}
 use Rattle.overhang.specs.Overhang.{basesExtending}
-use Rattle.overlap.specs.Overlap.{bothPlaces, placedPair, isOver, basesAt, overhangAt, pairOverhang, isFrBy, pastMateCigar, pastMateRecord, listLeft, pairListLeft, pastMateText, tellOverhang}
-use Rattle.overlap.specs.declared.Overhang.{Overhang}
-use Rattle.overlap.specs.declared.Overhang.the-variants as Overhang
+use Rattle.overlap_rules.specs.Overlap.{bothPlaces, placedPair, isOver, basesAt, overhangAt, pairOverhang, isFrBy, pastMateCigar, pastMateRecord, listLeft, pairListLeft, pastMateText, tellOverhang}
+use Rattle.overlap_rules.specs.declared.Overhang.{Overhang}
+use Rattle.overlap_rules.specs.declared.Overhang.the-variants as Overhang
 use Rattle.promises.specs.Table.{_when_, Gives, GivesFilled}
 use Rattle.promises.specs.Rows.{anyOutside, noRoom, isYes, placeRow, recordRows, twoRows, extendingRows, mateCigarRows, mateRecordRows, mateTextRows}
 use Rattle.promises.proofs.RowLaws.{answer, row, row-where, kept-row, kept-where, last-row}

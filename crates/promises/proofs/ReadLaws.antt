@@ -12,13 +12,17 @@ use Rattle.lists.specs.Lists.{sumOf}
 use Rattle.signed.specs.declared.Sum.the-variants as Sum
 use Rattle.sam.specs.Op.{queryLen}
 use Rattle.sam.specs.Columns.{Column, Spot, columns, queries, refs, refOf, Seen}
-use Rattle.sam.specs.Record.{flagsOf, templateLenOf, isReverse, isShort}
+use Rattle.sam.specs.Record.{posOf, flagsOf, templateLenOf, isReverse, isShort}
+use Rattle.answers.specs.declared.Pos1.{Pos1}
+use Rattle.answers.specs.declared.Int.the-variants as Int
+use Rattle.answers.specs.declared.Place1.the-variants as Place1
 use Rattle.oplist.specs.Ops.{recordOps}
 use Rattle.clip_runs.specs.Clips.{leadingClips, trailingClips}
-use Rattle.ends.specs.Ends.{unclippedStart, unclippedEnd}
-use Rattle.ends.specs.Tails.{greatestRun, Reached}
-use Rattle.ends.proofs.Meaning as Ends
-use Rattle.ends.proofs.RunMost as Runs
+use Rattle.lengths.specs.Lengths.{askedLength}
+use Rattle.ends_rules.specs.Ends.{unclippedStart, unclippedEnd, alignmentStart, alignmentEnd}
+use Rattle.ends_rules.specs.Tails.{greatestRun, Reached}
+use Rattle.ends_rules.proofs.Meaning as Ends
+use Rattle.ends_rules.proofs.RunMost as Runs
 use Rattle.lookup.specs.Examined.{examined, Deciding}
 use Rattle.lookup.proofs.PlaceLaws as Places
 use Rattle.pairs.specs.Pairs.{oppositePair, frPair, primaryFrPair}
@@ -28,9 +32,9 @@ use Rattle.overhang.specs.Reach.{basesUpTo, onBase, Unclamped}
 use Rattle.overhang.specs.Overhang.{endOf, softStart, softEnd, basesPast, basesExtending}
 use Rattle.overhang.proofs.Meaning as Counts
 use Rattle.overhang.proofs.Gaps as Gaps
-use Rattle.overlap.specs.Overlap.{pastMateCigar, pastMateRecord, pastMateText}
-use Rattle.overlap.specs.Bound.{Within, WithinText}
-use Rattle.overlap.proofs.Promised as Most
+use Rattle.overlap_rules.specs.Overlap.{pastMateCigar, pastMateRecord, pastMateText}
+use Rattle.overlap_rules.specs.Bound.{Within, WithinText}
+use Rattle.overlap_rules.proofs.Promised as Most
 
 -- ---- ends: a place that was not refused is the plain sum
 
@@ -41,6 +45,14 @@ start-is at xs z e = Ends.start-is at xs z e
 -- "reverse plus reference length plus clips after the last reference op, less 1"; the reference length is the count of reference bases in the columns
 pub end-is : (at : ℤ) (xs : List ℕ) (z : ℤ) → unclippedEnd at xs ≡ Sum.Number z → at +ℤ pos (refs (columns xs)) +ℤ pos (trailingClips xs) -ℤ pos 1 ≡ z
 end-is at xs z e = Ends.end-is at xs z e
+
+-- "0-based record positions and 1-based answers are kept apart": a record's start is the same place as `pos`, counted from 1
+pub first-is : (b : List ℕ) (p : Pos1) → alignmentStart b ≡ Place1.At p → posOf b +ℤ pos 1 ≡ p .0
+first-is b p e = Ends.first-is b p e
+
+-- its end is `pos` and the reference length, which counts the last place from 1
+pub last-is : (b : List ℕ) (p : Pos1) (n : ℤ) → askedLength b ≡ Int.Number n → alignmentEnd b ≡ Place1.At p → posOf b +ℤ n ≡ p .0
+last-is b p n l e = Ends.last-is b p n l e
 
 -- 4 "where Rust with overflow checks stops": its one sum of clips, after any number of ops, is at most the greatest run, and comes to it
 pub run-most : (xs : List ℕ) (i : ℕ) → trailingClips (take i xs) ≤ greatestRun xs

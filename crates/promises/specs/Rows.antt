@@ -19,8 +19,8 @@ use Rattle.oplist.specs.Ops.{mostOps, recordOps}
 use Rattle.text_rules.specs.Text.{textOps}
 use Rattle.text_rules.specs.Valid.{validMapped}
 use Rattle.text_rules.specs.Strict.{strict}
-use Rattle.ends.specs.Tails.{greatestRun}
-use Rattle.ends.specs.Ends.{noOps}
+use Rattle.ends_rules.specs.Tails.{greatestRun}
+use Rattle.ends_rules.specs.Ends.{noOps}
 use Rattle.clip.specs.Answer.{clippedOps}
 use Rattle.answers.specs.declared.Flag.{Flag}
 use Rattle.answers.specs.declared.Flag.the-variants as Flag

@@ -46,7 +46,7 @@ fn row_of(rec: &[u8]) -> Figures
     }
     let query = total.query;
     let mark = length_mark(query, little_endian::u32_at(rec, 16));
-    match answers::bare1(ends::unclipped_5prime_from_raw_bam(rec)) {
+    match answers::bare1(unclipped::unclipped_5prime_from_raw_bam(rec)) {
         Int::Refused(why) => Figures::Refused(why),
         Int::Number(five) => match bin::bin_from_raw_bam(rec) {
             Nat::Refused(why) => Figures::Refused(why),

@@ -73,9 +73,9 @@ use Rattle.ends.proofs.alignment_start_from_raw.Symbol as alignment-start-from-
 use Rattle.ends.proofs.alignment_end_from_raw as alignment-end-from-raw
 use Rattle.ends.proofs.alignment_end_from_raw.Met as alignment-end-from-raw-met
 use Rattle.ends.proofs.alignment_end_from_raw.Symbol as alignment-end-from-raw-symbol
-use Rattle.ends.proofs.unclipped_5prime_from_raw_bam as unclipped-5prime-from-raw-bam
-use Rattle.ends.proofs.unclipped_5prime_from_raw_bam.Met as unclipped-5prime-from-raw-bam-met
-use Rattle.ends.proofs.unclipped_5prime_from_raw_bam.Symbol as unclipped-5prime-from-raw-bam-symbol
+use Rattle.unclipped.proofs.unclipped_5prime_from_raw_bam as unclipped-5prime-from-raw-bam
+use Rattle.unclipped.proofs.unclipped_5prime_from_raw_bam.Met as unclipped-5prime-from-raw-bam-met
+use Rattle.unclipped.proofs.unclipped_5prime_from_raw_bam.Symbol as unclipped-5prime-from-raw-bam-symbol
 use Rattle.view.proofs.Shared.{Answer, none, enum, sint32, part, Promise, promised, Gives, ofView, ofSlice, sharedFn, shared}
 
 module _ {M : Type 1} (𝓤 : URA M) (H : Heap 𝓤) (𝓜 : Model 𝓤 H) (𝓖 : GhostRules 𝓤 H) (𝓡 : Running 𝓤 H 𝓜) where

@@ -4,7 +4,7 @@ ghost use Rattle.answers.specs.Settled.{Settled};
 ghost use Rattle.sam.specs.Record.{refIdOf, posOf, nameLenOf, storedBinOf, opCountOf, flagsOf, seqLenOf, mateRefIdOf, matePosOf, templateLenOf};
 ghost use Rattle.fields.specs.Fields.{intField, natField, posField, partRefusal, cigarPart};
 ghost use Rattle.lengths.specs.Lengths.{refLengthOrZero, recordQueryLength, bothLengths};
-ghost use Rattle.ends.specs.Ends.{unclippedOf, asRust, alignmentStart, alignmentEnd};
+ghost use Rattle.ends_rules.specs.Ends.{unclippedOf, asRust, alignmentStart, alignmentEnd};
 ghost use Rattle.print.specs.Text.{printed};
 ghost use Rattle.clip.specs.Answer.{clippedRecord};
 use answers::Count;
@@ -131,7 +131,7 @@ impl<'a> RawRecordView<'a> {
     pub fn unclipped_5prime_1based(&self) -> Place1
         ensures { λ r. ⌜ r ≡ asRust (unclippedOf (now (now (self .entry) .0))) ⌝ }
     {
-        ends::unclipped_5prime_from_raw_bam(self.0)
+        unclipped::unclipped_5prime_from_raw_bam(self.0)
     }
 
     pub fn cigar_to_string(&self, out: &mut [u8]) -> Count

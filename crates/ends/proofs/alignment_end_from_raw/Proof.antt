@@ -8,8 +8,8 @@ use mir.Syntax.{w32}
 use mir.Val.{toZ, ofZ}
 use Rattle.sam.specs.Record.{posOf}
 use Rattle.answers.specs.declared.Int.the-variants as Int
-use Rattle.ends.specs.Ends.{endAt, alignmentEnd}
-use Rattle.ends.proofs.CaseLaws.{end-none, end-at}
+use Rattle.ends_rules.specs.Ends.{endAt, alignmentEnd}
+use Rattle.ends_rules.proofs.CaseLaws.{end-none, end-at}
 use borrow.Author.Needs.{needs}
 use Rattle.ends.proofs.alignment_end_from_raw.Statement.{statement}
 use Rattle.ends.proofs.alignment_end_from_raw.Tie as tie

@@ -7,8 +7,8 @@ use lib.Signed.{ltZ}
 use mir.Syntax.{w32}
 use mir.Val.{toZ, ofZ}
 use Rattle.sam.specs.Record.{posOf}
-use Rattle.ends.specs.Ends.{oneBased, alignmentStart}
-use Rattle.ends.proofs.CaseLaws.{start-none, start-at}
+use Rattle.ends_rules.specs.Ends.{oneBased, alignmentStart}
+use Rattle.ends_rules.proofs.CaseLaws.{start-none, start-at}
 use borrow.Author.Needs.{needs}
 use Rattle.ends.proofs.alignment_start_from_raw.Statement.{statement}
 use Rattle.ends.proofs.alignment_start_from_raw.Tie as tie

@@ -8,8 +8,8 @@ use mir.Syntax.{w32}
 use mir.Facts.{toZ-ofZ}
 use mir.Val.{toZ, ofZ}
 use Rattle.signed.specs.Whole.{natural}
-use Rattle.ends.specs.Sums.{both}
-use Rattle.ends.specs.Ends.{toPlace1}
+use Rattle.ends_rules.specs.Sums.{both}
+use Rattle.ends_rules.specs.Ends.{toPlace1}
 use borrow.Author.Needs.{needs}
 use Rattle.ends.proofs.end_at.Statement.{statement}
 use Rattle.ends.proofs.end_at.Tie as tie

@@ -1,6 +1,6 @@
 -- What `plus_one` gives, as an answer.
 use mathlib.Core.Path.{ap, _∙_}
-use Rattle.ends.specs.Ends.{toPlace1}
+use Rattle.ends_rules.specs.Ends.{toPlace1}
 use borrow.Author.Needs.{needs}
 use Rattle.ends.proofs.one_based.Statement.{statement}
 use Rattle.ends.proofs.one_based.Tie as tie

@@ -2,8 +2,8 @@
 use mathlib.Core.Path.{_≡_}
 use mir.Syntax.{w32}
 use mir.Val.{toZ, ofZ}
-use Rattle.ends.specs.Sums.{both}
-use Rattle.ends.specs.Ends.{plusOne}
+use Rattle.ends_rules.specs.Sums.{both}
+use Rattle.ends_rules.specs.Ends.{plusOne}
 use borrow.Author.Needs.{needs}
 use Rattle.ends.proofs.plus_one.Statement.{statement}
 use Rattle.ends.proofs.plus_one.Tie as tie

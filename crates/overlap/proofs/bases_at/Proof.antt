@@ -4,8 +4,8 @@ use denote.Ref.{now}
 use mathlib.Core.List.{[]}
 use Rattle.oplist.specs.Ops.{opsOf}
 use Rattle.sam.specs.Record.{isReverse}
-use Rattle.overlap.specs.Overlap.{basesAt}
-use Rattle.overlap.proofs.CallLaws.{bases-are}
+use Rattle.overlap_rules.specs.Overlap.{basesAt}
+use Rattle.overlap_rules.proofs.CallLaws.{bases-are}
 use borrow.Author.Needs.{needs}
 use Rattle.overlap.proofs.bases_at.Statement.{statement}
 use Rattle.overlap.proofs.bases_at.Tie as tie

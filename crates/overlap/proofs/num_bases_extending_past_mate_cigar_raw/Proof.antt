@@ -12,9 +12,9 @@ use Rattle.signed.specs.Whole.{clamp32}
 use Rattle.sam.specs.Op.{refLen}
 use Rattle.text_rules.specs.Valid.{validMapped}
 use Rattle.pairs.specs.Pairs.{isFrWithMate}
-use Rattle.overlap.specs.Overlap.{isFrBy}
-use Rattle.overlap.specs.InnerOverlap.{isNo}
-use Rattle.overlap.proofs.CallLaws.{cigar-short, cigar-many, cigar-apart, cigar-bad, cigar-is}
+use Rattle.overlap_rules.specs.Overlap.{isFrBy}
+use Rattle.overlap_rules.specs.InnerOverlap.{isNo}
+use Rattle.overlap_rules.proofs.CallLaws.{cigar-short, cigar-many, cigar-apart, cigar-bad, cigar-is}
 use borrow.Author.Needs.{needs}
 use Rattle.overlap.proofs.num_bases_extending_past_mate_cigar_raw.Statement.{statement}
 use Rattle.overlap.proofs.num_bases_extending_past_mate_cigar_raw.Tie as tie

@@ -1,7 +1,7 @@
 -- One test after another, and then the overhang by the pair test.
 use denote.Ref.{now}
 use mathlib.Core.List.{[]}
-use Rattle.overlap.proofs.CallLaws.{record-short, mate-short, record-is}
+use Rattle.overlap_rules.proofs.CallLaws.{record-short, mate-short, record-is}
 use borrow.Author.Needs.{needs}
 use Rattle.overlap.proofs.num_bases_extending_past_mate_vs_mate_raw.Statement.{statement}
 use Rattle.overlap.proofs.num_bases_extending_past_mate_vs_mate_raw.Tie as tie

@@ -1,6 +1,6 @@
 -- The test is the definition's.
 use mathlib.Core.Path.{sym, _∙_}
-use Rattle.overlap.proofs.CallLaws.{over, counted}
+use Rattle.overlap_rules.proofs.CallLaws.{over, counted}
 use borrow.Author.Needs.{needs}
 use Rattle.overlap.proofs.overhang_at.Statement.{statement}
 use Rattle.overlap.proofs.overhang_at.Tie as tie

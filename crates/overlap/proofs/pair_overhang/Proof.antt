@@ -3,8 +3,8 @@ use mathlib.Core.Path.{sym, ap, _∙_}
 use denote.Ref.{now}
 use Rattle.answers.specs.declared.Flag.{Flag}
 use Rattle.oplist.specs.Ops.{opsOf}
-use Rattle.overlap.specs.declared.PairPlaces.{PairPlaces}
-use Rattle.overlap.specs.Overlap.{overhangAt, pairOverhang}
+use Rattle.overlap_rules.specs.declared.PairPlaces.{PairPlaces}
+use Rattle.overlap_rules.specs.Overlap.{overhangAt, pairOverhang}
 use borrow.Author.Needs.{needs}
 use Rattle.overlap.proofs.pair_overhang.Statement.{statement}
 use Rattle.overlap.proofs.pair_overhang.Tie as tie

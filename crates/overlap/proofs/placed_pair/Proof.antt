@@ -2,8 +2,8 @@
 use mathlib.Core.Path.{ap, _∙_}
 use borrow.Author.Tests.{not-true, not-false}
 use lib.IntN.{ℤ}
-use Rattle.ends.specs.Ends.{plusOne}
-use Rattle.overlap.proofs.CallLaws.{apart, together}
+use Rattle.ends_rules.specs.Ends.{plusOne}
+use Rattle.overlap_rules.proofs.CallLaws.{apart, together}
 use borrow.Author.Needs.{needs}
 use Rattle.overlap.proofs.placed_pair.Statement.{statement}
 use Rattle.overlap.proofs.placed_pair.Tie as tie

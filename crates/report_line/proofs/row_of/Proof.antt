@@ -16,7 +16,7 @@ use Rattle.oplist.proofs.OpsLaws.{lies, overruns}
 use Rattle.lengths.specs.Lengths.{checkedRefLength}
 use Rattle.answers.specs.Answers.{bare1}
 use Rattle.answers.specs.declared.Int.the-variants as Int
-use Rattle.ends.specs.Ends.{asRust, unclippedOf}
+use Rattle.ends_rules.specs.Ends.{asRust, unclippedOf}
 use Rattle.line_rules.specs.Inner.{rowOf}
 use Rattle.line_rules.proofs.LineLaws.{refs-overrun, refs-over, refs-are, figures-are}
 use borrow.Author.Needs.{needs}

@@ -1,5 +1,5 @@
 -- What the call answers, told; the output as the call leaves it.
-use Rattle.overlap.specs.Overlap.{tellOverhang}
+use Rattle.overlap_rules.specs.Overlap.{tellOverhang}
 use Rattle.border.specs.Border.{twoOf}
 use Rattle.border.proofs.Laws.{across-settled}
 use borrow.Author.Needs.{needs}

@@ -1,0 +1,105 @@
+-- What document 01 promises of the calls: "An overhang never exceeds the read's query length".
+use Prim.Native.Nat.{ℕ, _≤_}
+use mathlib.Core.Bool.{Bool, true, false, cond, not}
+use mathlib.Core.List.{List}
+use native.Mathlib.Omega.{arith}
+use lib.IntN.{ℤ}
+use lib.ListN.{length}
+use lib.Dec.{ltb}
+use Rattle.lists.specs.Lists.{sumOf, splice}
+use Rattle.sam.specs.Op.{queryLen}
+use Rattle.sam.specs.Record.{flagsOf, posOf, matePosOf, isReverse, isShort}
+use Rattle.answers.specs.Settled.{Outcome, keeps}
+use Rattle.answers.specs.declared.Refusal.the-variants.{ShortRecord, TooManyOps, Overflow, NoRoom}
+use Rattle.answers.specs.declared.Count.{Count}
+use Rattle.answers.specs.declared.Count.the-variants as Count
+use Rattle.answers.specs.declared.Flag.{Flag}
+use Rattle.answers.specs.declared.Flag.the-variants as Flag
+use Rattle.oplist.specs.Ops.{mostOps, recordOps}
+use Rattle.text_rules.specs.Text.{textOps}
+use Rattle.text_rules.specs.Valid.{validMapped}
+use Rattle.text_rules.specs.Strict.{strict}
+use Rattle.pairs.specs.Pairs.{isPrimaryFr}
+use Rattle.overhang.specs.Overhang.{overhangOf, basesExtending}
+use Rattle.overhang.proofs.Most.{overhang-most}
+use Rattle.overlap_rules.specs.declared.PairPlaces.{PairPlaces}
+use Rattle.overlap_rules.specs.declared.PairPlaces.the-variants as PairPlaces
+use Rattle.overlap_rules.specs.declared.Overhang.{Overhang}
+use Rattle.overlap_rules.specs.declared.Overhang.the-variants as Overhang
+use Rattle.overlap_rules.specs.Bound.{Within, WithinText}
+use Rattle.overlap_rules.specs.Overlap.{placedPair, isOver, basesAt, overhangAt, pairOverhang, isFrBy, pastMateCigar, pastMateRecord, listLeft, pairListLeft, pastMateText}
+
+bases-most : (p : PairPlaces) (b ys : List ℕ) → basesAt p b ys ≤ sumOf queryLen (recordOps b)
+bases-most PairPlaces.Apart b ys = omega arith
+bases-most (PairPlaces.At p m) b ys = overhang-most (isReverse (flagsOf b)) (p .0) (recordOps b) (m .0) ys
+bases-most PairPlaces.Over b ys = omega arith
+
+at-most : (p : PairPlaces) (b ys : List ℕ) → Within (overhangAt p b ys) (sumOf queryLen (recordOps b))
+unfolding overhangAt
+at-most p b ys = go (isOver p)
+  where
+    go : (t : Bool) → Within (cond t (Count.Refused Overflow) (Count.Number (basesAt p b ys))) (sumOf queryLen (recordOps b))
+    go true = tt
+    go false = bases-most p b ys
+
+pub ops-most : (b : Bool) (p : ℤ) (xs : List ℕ) (m : ℤ) (ys : List ℕ) → Within (basesExtending b p xs m ys) (sumOf queryLen xs)
+unfolding basesExtending
+ops-most b p xs m ys = go (ltb mostOps (length xs)) (ltb mostOps (length ys))
+  where
+    go : (t u : Bool) → Within (cond t (Count.Refused TooManyOps) (cond u (Count.Refused TooManyOps) (Count.Number (overhangOf b p xs m ys)))) (sumOf queryLen xs)
+    go true u = tt
+    go false true = tt
+    go false false = overhang-most b p xs m ys
+
+pair-most : (fr : Flag) (b : List ℕ) (m : ℤ) (ys : List ℕ) → Within (pairOverhang fr b m ys) (sumOf queryLen (recordOps b))
+pair-most (Flag.Is fr) b m ys = at-most (placedPair fr b m) b ys
+pair-most (Flag.Refused r) b m ys = tt
+
+pub cigar-most : (b ys : List ℕ) → Within (pastMateCigar b ys) (sumOf queryLen (recordOps b))
+unfolding pastMateCigar
+cigar-most b ys = go (isShort b) (ltb mostOps (length ys)) (validMapped ys)
+  where
+    go : (t u v : Bool) → Within (cond t (Count.Refused ShortRecord) (cond u (Count.Refused TooManyOps) (cond v (pairOverhang (isFrBy b ys) b (matePosOf b) ys) (Count.Number 0)))) (sumOf queryLen (recordOps b))
+    go true u v = tt
+    go false true v = tt
+    go false false true = pair-most (isFrBy b ys) b (matePosOf b) ys
+    go false false false = omega arith
+
+pub record-most : (b m : List ℕ) → Within (pastMateRecord b m) (sumOf queryLen (recordOps b))
+unfolding pastMateRecord
+record-most b m = go (isShort b) (isShort m)
+  where
+    go : (t u : Bool) → Within (cond t (Count.Refused ShortRecord) (cond u (Count.Refused ShortRecord) (pairOverhang (isPrimaryFr b m) b (posOf m) (recordOps m)))) (sumOf queryLen (recordOps b))
+    go true u = tt
+    go false true = tt
+    go false false = pair-most (isPrimaryFr b m) b (posOf m) (recordOps m)
+
+left-most : (fr : Flag) (b xs d : List ℕ) → WithinText (pairListLeft fr b xs d .answer) (sumOf queryLen (recordOps b))
+unfolding listLeft
+left-most (Flag.Is fr) b xs d = go (isOver (placedPair fr b (matePosOf b))) (ltb (length d) (length xs))
+  where
+    p : PairPlaces
+    p = placedPair fr b (matePosOf b)
+
+    done : Outcome Overhang
+    done = record { answer = Overhang.Bases (basesAt p b xs) (length xs); left = splice d 0 xs }
+
+    go : (w x : Bool) → WithinText (cond {A = Outcome Overhang} w (keeps (Overhang.Refused Overflow) d) (cond {A = Outcome Overhang} x (keeps (Overhang.Refused NoRoom) d) done) .answer) (sumOf queryLen (recordOps b))
+    go true x = tt
+    go false true = tt
+    go false false = bases-most p b xs
+left-most (Flag.Refused r) b xs d = tt
+
+pub text-most : (b s d : List ℕ) → WithinText (pastMateText b s d .answer) (sumOf queryLen (recordOps b))
+unfolding pastMateText
+text-most b s d = go (isShort b) (strict s) (ltb mostOps (length (textOps s)))
+  where
+    left : Outcome Overhang
+    left = pairListLeft (isFrBy b (textOps s)) b (textOps s) d
+
+    go : (t u v : Bool) → WithinText (cond {A = Outcome Overhang} t (keeps (Overhang.Refused ShortRecord) d) (cond {A = Outcome Overhang} (not u) (keeps (Overhang.Bases 0 0) d)
+        (cond {A = Outcome Overhang} v (keeps (Overhang.Refused TooManyOps) d) left)) .answer) (sumOf queryLen (recordOps b))
+    go true u v = tt
+    go false false v = omega arith
+    go false true true = tt
+    go false true false = left-most (isFrBy b (textOps s)) b (textOps s) d

@@ -1,0 +1,82 @@
+// Document 01, module 7: unclipped ends of a record. Positions are counted from 0 in records, and from 1 in answers.
+ghost use mathlib.Core.Path.{_≡_};
+ghost use Rattle.ends_rules.specs.Ends.{toPlace0, asUnclipped, unclippedOf, asRust, unclippedFrom};
+use answers::Place0;
+use answers::Place1;
+use answers::Pos0;
+use answers::Pos1;
+use answers::Refusal;
+use ends_rules::Unclipped;
+use signed::Sum;
+
+// An overflow is refusal 4.
+fn to_place0(s: Sum) -> Place0
+    ensures { λ r. ⌜ r ≡ toPlace0 s ⌝ }
+{
+    match s {
+        Sum::Number(z) => Place0::At(Pos0(z)),
+        Sum::Over => Place0::Refused(Refusal::Overflow),
+    }
+}
+
+fn as_unclipped(s: Sum) -> Unclipped
+    ensures { λ r. ⌜ r ≡ asUnclipped s ⌝ }
+{
+    match s {
+        Sum::Number(z) => Unclipped::At(Pos1(z)),
+        Sum::Over => Unclipped::Refused(Refusal::Overflow),
+    }
+}
+
+// A record's unclipped 5' position in three cases. Refusals 1 and 4.
+fn unclipped_5prime(bam: &[u8]) -> Unclipped
+    ensures { λ r. ⌜ r ≡ unclippedOf (now (bam .entry)) ⌝ }
+{
+    if bam.len() < 32 {
+        return Unclipped::Refused(Refusal::ShortRecord);
+    }
+    let flags = little_endian::u16_at(bam, 14);
+    if fields::is_unmapped(flags) {
+        return Unclipped::Unmapped;
+    }
+    let list = oplist::of_record(bam);
+    if oplist::count(&[], bam, list) == 0 {
+        return Unclipped::NoOps;
+    }
+    let Sum::Number(at) = ends::plus_one(fields::own_place(bam)) else {
+        return Unclipped::Refused(Refusal::Overflow);
+    };
+    if fields::is_reverse(flags) {
+        return as_unclipped(end_sums::end_from(at, end_sums::tail_of(&[], bam, list)));
+    }
+    as_unclipped(end_sums::start_from(at, clip_runs::leading_clips(&[], bam, list, true)))
+}
+
+// A record's unclipped 5' position: 0 where it is unmapped, 2^31 - 1 where it has no ops or they overrun it. Refusals 1 and 4.
+pub fn unclipped_5prime_from_raw_bam(bam: &[u8]) -> Place1
+    ensures { λ r. ⌜ r ≡ asRust (unclippedOf (now (bam .entry))) ⌝ }
+{
+    match unclipped_5prime(bam) {
+        Unclipped::At(p) => Place1::At(p),
+        Unclipped::Unmapped => Place1::At(Pos1(0)),
+        Unclipped::NoOps => Place1::At(Pos1(2147483647)),
+        Unclipped::Refused(why) => Place1::Refused(why),
+    }
+}
+
+// The same from a given position and strand; the given position where the record has no ops or they overrun it. Refusals 1 and 4.
+pub fn unclipped_5prime_raw(bam: &[u8], pos: Pos0, reverse: bool) -> Place0
+    ensures { λ r. ⌜ r ≡ unclippedFrom (now (bam .entry)) pos reverse ⌝ }
+{
+    if bam.len() < 32 {
+        return Place0::Refused(Refusal::ShortRecord);
+    }
+    let list = oplist::of_record(bam);
+    if oplist::count(&[], bam, list) == 0 {
+        return Place0::At(pos);
+    }
+    if reverse {
+        return to_place0(end_sums::end_from(pos.0, end_sums::tail_of(&[], bam, list)));
+    }
+    to_place0(end_sums::start_from(pos.0, clip_runs::leading_clips(&[], bam, list, true)))
+}
