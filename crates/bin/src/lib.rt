@@ -4,7 +4,7 @@ ghost use Prim.Native.Nat.{_<_};
 ghost use lib.IntN.{pos, _+ℤ_};
 ghost use Rattle.answers.specs.Settled.{Settled};
 ghost use Rattle.signed.specs.Equal.{eqℤ};
-ghost use Rattle.bin.specs.Bin.{shr, binOf, low16, reg2bin, spanOf, binFrom, recordBin, setBin};
+ghost use Rattle.bin_rules.specs.Bin.{shr, binOf, low16, reg2bin, spanOf, binFrom, recordBin, setBin};
 ghost use Rattle.answers.specs.declared.Int.the-variants.{Number};
 use answers::Int;
 use answers::Nat;

@@ -2,7 +2,7 @@
 ghost use mathlib.Core.Path.{_≡_};
 ghost use Rattle.answers.specs.Settled.{Settled};
 ghost use Rattle.answers.specs.Answers.{tellNat};
-ghost use Rattle.bin.specs.Bin.{reg2bin, recordBin, setBin};
+ghost use Rattle.bin_rules.specs.Bin.{reg2bin, recordBin, setBin};
 ghost use Rattle.border.specs.Border.{countOf, across};
 use answers::Pos0;
 use border::ToldCount;

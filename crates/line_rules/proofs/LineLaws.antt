@@ -29,7 +29,7 @@ use Rattle.decimal.specs.Decimal.{decimal}
 use Rattle.print.specs.Text.{textOf, printed}
 use Rattle.lengths.specs.Lengths.{asInt, checkedRefLength}
 use Rattle.ends_rules.specs.Ends.{asRust, unclippedOf}
-use Rattle.bin.specs.Bin.{recordBin}
+use Rattle.bin_rules.specs.Bin.{recordBin}
 use Rattle.put_text.specs.Puts.{Put, signedDecimal}
 use Rattle.put_text.proofs.PutLaws.{put-then, put-as, put-dropped}
 use Rattle.line_rules.specs.Line.{textRoom, textTold, refsTold, fiveTold, binTold, refusalOf, shown, orStar, lengthMark, tabbed, refusedFields, lineOf}

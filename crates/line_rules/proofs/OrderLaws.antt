@@ -32,7 +32,7 @@ use Rattle.ends_rules.specs.Sums.{_⊕_}
 use Rattle.ends_rules.specs.Ends.{plusOne, fivePrime, noOps, asUnclipped, unclippedAt, unclippedOf, asRust}
 use Rattle.ends_rules.specs.declared.Unclipped.{Unclipped}
 use Rattle.ends_rules.specs.declared.Unclipped.the-variants as Unclipped
-use Rattle.bin.specs.Bin.{binTo, reg2bin, binUpTo, spanOf, recordBin, binFrom}
+use Rattle.bin_rules.specs.Bin.{binTo, reg2bin, binUpTo, spanOf, recordBin, binFrom}
 use Rattle.line_rules.specs.Line.{textRoom, textTold, refsTold, fiveTold, binTold, order, firstOf, refusalOf}
 
 -- ---- a test over all numbers of a list

@@ -15,7 +15,7 @@ use Rattle.answers.specs.declared.Nat.the-variants as Nat
 use Rattle.answers.specs.declared.Count.the-variants as Count
 use Rattle.lengths.specs.Lengths.{checkedRefLength}
 use Rattle.ends_rules.specs.Ends.{asRust, unclippedOf}
-use Rattle.bin.specs.Bin.{recordBin}
+use Rattle.bin_rules.specs.Bin.{recordBin}
 use Rattle.decimal.specs.Decimal.{decimal}
 use Rattle.print.specs.Text.{textOf, printed}
 use Rattle.put_text.specs.Puts.{Put, signedDecimal}

@@ -16,7 +16,7 @@ use Rattle.decimal.specs.Decimal.{decimal}
 use Rattle.print.specs.Text.{textOf, printed}
 use Rattle.lengths.specs.Lengths.{checkedRefLength, recordQueryLength}
 use Rattle.ends_rules.specs.Ends.{asRust, unclippedOf}
-use Rattle.bin.specs.Bin.{recordBin}
+use Rattle.bin_rules.specs.Bin.{recordBin}
 use Rattle.put_text.specs.Puts.{signedDecimal}
 
 -- ---- what the calls tell of a record

@@ -19,7 +19,7 @@ use Rattle.oplist.specs.Ops.{mostOps, recordOps}
 use Rattle.text_rules.specs.Text.{textOps}
 use Rattle.text_rules.specs.Valid.{validMapped}
 use Rattle.text_rules.specs.Strict.{strict}
-use Rattle.pairs.specs.Pairs.{isPrimaryFr}
+use Rattle.pairs_rules.specs.Pairs.{isPrimaryFr}
 use Rattle.overhang.specs.Overhang.{overhangOf, basesExtending}
 use Rattle.overhang.proofs.Most.{overhang-most}
 use Rattle.overlap_rules.specs.declared.PairPlaces.{PairPlaces}

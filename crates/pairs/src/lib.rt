@@ -6,7 +6,7 @@ ghost use lib.IntN.{pos};
 ghost use lib.ListN.{length};
 ghost use lib.Signed.{leZ};
 ghost use Rattle.sam.specs.Record.{flagsOf, isReverse};
-ghost use Rattle.pairs.specs.Pairs.{bothMapped, isOpposite, startOf, lastOf, mateStartsBefore, frBy, isFr, isFrWithMate, areOpposite, isPrimaryFr, oppositePair, frPair, primaryFrPair};
+ghost use Rattle.pairs_rules.specs.Pairs.{bothMapped, isOpposite, startOf, lastOf, mateStartsBefore, frBy, isFr, isFrWithMate, areOpposite, isPrimaryFr, oppositePair, frPair, primaryFrPair};
 use answers::Flag;
 use answers::Int;
 use answers::Pos0;

@@ -30,7 +30,7 @@ use Rattle.ops.specs.declared.NewOp.the-variants as NewOp
 use Rattle.lengths.specs.Lengths.{asInt, refLength, queryLength, saturatedLength, checkedRefLength, refLengthOrZero, askedLength, recordQueryLength, withQuery, bothLengths, tellLengths}
 use Rattle.lengths.specs.declared.Lengths.{Lengths}
 use Rattle.lengths.specs.declared.Lengths.the-variants as Lengths
-use Rattle.bin.specs.Bin.{binTo, reg2bin, spanOf, binUpTo, recordBin, withBin, setBin, binFrom}
+use Rattle.bin_rules.specs.Bin.{binTo, reg2bin, spanOf, binUpTo, recordBin, withBin, setBin, binFrom}
 use Rattle.promises.specs.Table.{Row, _when_, Gives, GivesKept, GivesFilled}
 use Rattle.promises.specs.Rows.{over, anyOutside, recordRows, opsRows, newRows, listRows, lengthRows, checkedRows, bothRows, regionRows, binRows}
 use Rattle.promises.proofs.RowLaws.{number-alone, answer, row, row-either, row-unless, row-sum, kept-row, last-row}

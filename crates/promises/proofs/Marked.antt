@@ -15,7 +15,7 @@ use Rattle.strict_text.specs.Parsed.{parsed}
 use Rattle.lookup.specs.Lookup.{look, lookup, looked}
 use Rattle.lookup.specs.Examined.{reached, firstAbove, placeOf, examined}
 use Rattle.signed.specs.Equal.{eqℤ}
-use Rattle.bin.specs.Bin.{low16, firstAgreed, binTo, reg2bin}
+use Rattle.bin_rules.specs.Bin.{low16, firstAgreed, binTo, reg2bin}
 use Rattle.promises.specs.Marked.{marked, calls, sayings}
 
 pub p1-to-p10 : calls marked ≡ sayings marked

@@ -12,9 +12,10 @@ use Rattle.lists.specs.Lists.{sumOf}
 use Rattle.signed.specs.declared.Sum.the-variants as Sum
 use Rattle.sam.specs.Op.{queryLen}
 use Rattle.sam.specs.Columns.{Column, Spot, columns, queries, refs, refOf, Seen}
-use Rattle.sam.specs.Record.{posOf, flagsOf, templateLenOf, isReverse, isShort}
+use Rattle.sam.specs.Record.{posOf, flagsOf, matePosOf, templateLenOf, isReverse, isShort}
 use Rattle.answers.specs.declared.Pos1.{Pos1}
 use Rattle.answers.specs.declared.Int.the-variants as Int
+use Rattle.answers.specs.declared.Flag.the-variants as Flag
 use Rattle.answers.specs.declared.Place1.the-variants as Place1
 use Rattle.oplist.specs.Ops.{recordOps}
 use Rattle.clip_runs.specs.Clips.{leadingClips, trailingClips}
@@ -25,9 +26,10 @@ use Rattle.ends_rules.proofs.Meaning as Ends
 use Rattle.ends_rules.proofs.RunMost as Runs
 use Rattle.lookup.specs.Examined.{examined, Deciding}
 use Rattle.lookup.proofs.PlaceLaws as Places
-use Rattle.pairs.specs.Pairs.{oppositePair, frPair, primaryFrPair}
-use Rattle.pairs.specs.Needed.{SamePair, SameReverse}
-use Rattle.pairs.proofs.Needed as Pairs
+use Rattle.pairs_rules.specs.Pairs.{isOpposite, startOf, lastOf, oppositePair, frPair, primaryFrPair}
+use Rattle.pairs_rules.specs.Needed.{SamePair, SameReverse}
+use Rattle.pairs_rules.proofs.Edges as Edges
+use Rattle.pairs_rules.proofs.Needed as Pairs
 use Rattle.overhang.specs.Reach.{basesUpTo, onBase, Unclamped}
 use Rattle.overhang.specs.Overhang.{endOf, softStart, softEnd, basesPast, basesExtending}
 use Rattle.overhang.proofs.Meaning as Counts
@@ -89,6 +91,15 @@ reverse-only a b l s r t = Pairs.reverse-only a b l s r t
 -- a forward one nothing but the template length
 pub forward-only : (a b : List ℕ) → isShort a ≡ isShort b → SamePair a b → isReverse (flagsOf a) ≡ false → templateLenOf a ≡ templateLenOf b → frPair a ≡ frPair b
 forward-only a b l s r t = Pairs.forward-only a b l s r t
+
+-- "if mate start ≤ own end": a mate that starts at a reverse record's last base is enough
+pub fr-at-end : (b : List ℕ) → isShort b ≡ false → (n : ℤ) → isOpposite b ≡ true → isReverse (flagsOf b) ≡ true → askedLength b ≡ Int.Number n
+    → startOf (matePosOf b) ≡ lastOf (posOf b) n → frPair b ≡ Flag.Is true
+fr-at-end b l n o r k e = Edges.fr-at-end b l n o r k e
+
+-- "if template length is at least 1": a forward record that has none, 0 in the SAM specification, is no FR pair
+pub no-template : (b : List ℕ) → isShort b ≡ false → isReverse (flagsOf b) ≡ false → templateLenOf b ≡ pos 0 → frPair b ≡ Flag.Is false
+no-template b l r t = Edges.no-template b l r t
 
 -- which of two records comes first plays no part
 pub symmetric : (a b : List ℕ) → primaryFrPair a b ≡ primaryFrPair b a

@@ -30,8 +30,8 @@ use Rattle.mate_rules.proofs.Agree as Mate
 use Rattle.lookup.specs.Lookup.{Answer, lookup}
 use Rattle.lookup.specs.Meaning.{InBounds, Reads}
 use Rattle.lookup.proofs.LookupLaws as Looked
-use Rattle.bin.specs.Bin.{binOf, low16, reg2bin}
-use Rattle.bin.proofs.Smallest as Bins
+use Rattle.bin_rules.specs.Bin.{binOf, low16, reg2bin}
+use Rattle.bin_rules.proofs.Smallest as Bins
 use Rattle.clip.specs.Clipping.{clip}
 use Rattle.clip.specs.Answer.{clippedOps}
 use Rattle.clip_laws.specs.Drops.{Drops}

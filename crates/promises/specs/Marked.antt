@@ -9,7 +9,7 @@ use Rattle.answers.specs.Settled.{Outcome, keeps}
 use Rattle.clip.specs.Answer.{clipped, tellClipped}
 use Rattle.strict_text.specs.Parsed.{parsed}
 use Rattle.lookup.specs.Lookup.{looked, tellFound}
-use Rattle.bin.specs.Bin.{reg2bin}
+use Rattle.bin_rules.specs.Bin.{reg2bin}
 
 -- one row of the table: what the call comes to, and what document 01 says
 pub record Example : Type 0 where

@@ -13,7 +13,7 @@ use Rattle.sam.specs.Op.{lenOf, refLen}
 use Rattle.sam.specs.Record.{posOf, matePosOf, flagsOf, isUnmapped, isReverse, opsEnd, isShort}
 use Rattle.clip_runs.specs.Clips.{leadingClips, trailingClips}
 use Rattle.lengths.specs.Lengths.{refLengthOrZero}
-use Rattle.bin.specs.Bin.{spanOf}
+use Rattle.bin_rules.specs.Bin.{spanOf}
 use Rattle.print.specs.Text.{anyBad, textOf}
 use Rattle.oplist.specs.Ops.{mostOps, recordOps}
 use Rattle.text_rules.specs.Text.{textOps}
@@ -24,7 +24,7 @@ use Rattle.ends_rules.specs.Ends.{noOps}
 use Rattle.clip.specs.Answer.{clippedOps}
 use Rattle.answers.specs.declared.Flag.{Flag}
 use Rattle.answers.specs.declared.Flag.the-variants as Flag
-use Rattle.pairs.specs.Pairs.{isFrWithMate, isPrimaryFr}
+use Rattle.pairs_rules.specs.Pairs.{isFrWithMate, isPrimaryFr}
 use Rattle.promises.specs.Table.{Row, _when_, only}
 
 -- ---- the ten numbers

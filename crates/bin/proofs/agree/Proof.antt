@@ -1,9 +1,9 @@
 -- Equal bits of the two shifts are equal numbers.
 use mathlib.Core.Path.{_≡_}
 use mir.Facts.{toZ-ofZ}
-use Rattle.bin.specs.Bin.{shr}
+use Rattle.bin_rules.specs.Bin.{shr}
 use Rattle.signed.proofs.EqualLaws.{bits-eq}
-use Rattle.bin.proofs.Shifts.{shr-fits}
+use Rattle.bin_rules.proofs.Shifts.{shr-fits}
 use borrow.Author.Needs.{needs}
 use Rattle.bin.proofs.agree.Statement.{statement}
 use Rattle.bin.proofs.agree.Tie as tie

@@ -3,8 +3,8 @@ use mir.Syntax.{w32}
 use mir.Val.{toZ, ofZ}
 use mir.Facts.{toZ-ofZ}
 use Prim.Native.Nat.{ℕ, _+_, _%_}
-use Rattle.bin.specs.Bin.{shr, low16}
-use Rattle.bin.proofs.Shifts.{low-add}
+use Rattle.bin_rules.specs.Bin.{shr, low16}
+use Rattle.bin_rules.proofs.Shifts.{low-add}
 use borrow.Author.Needs.{needs}
 use Rattle.bin.proofs.bin_at.Statement.{statement}
 use Rattle.bin.proofs.bin_at.Tie as tie

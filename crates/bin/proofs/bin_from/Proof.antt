@@ -5,7 +5,7 @@ use mir.Syntax.{w32}
 use mir.Facts.{toZ-ofZ}
 use mir.Val.{toZ, ofZ}
 use Rattle.signed.specs.Whole.{checked}
-use Rattle.bin.specs.Bin.{binUpTo, binFrom, spanOf}
+use Rattle.bin_rules.specs.Bin.{binUpTo, binFrom, spanOf}
 use borrow.Author.Needs.{needs}
 use Rattle.bin.proofs.bin_from.Statement.{statement}
 use Rattle.bin.proofs.bin_from.Tie as tie

@@ -11,8 +11,8 @@ use mir.Syntax.{w32}
 use mir.Val.{toZ, ofZ}
 use Rattle.sam.specs.Record.{posOf}
 use Rattle.answers.specs.declared.Int.the-variants.{Number}
-use Rattle.bin.specs.Bin.{recordBin, binFrom}
-use Rattle.bin.proofs.Records.{before-first, from-first}
+use Rattle.bin_rules.specs.Bin.{recordBin, binFrom}
+use Rattle.bin_rules.proofs.Records.{before-first, from-first}
 use borrow.Author.Needs.{needs}
 use Rattle.bin.proofs.bin_from_raw_bam.Statement.{statement}
 use Rattle.bin.proofs.bin_from_raw_bam.Tie as tie

@@ -6,8 +6,8 @@ use lib.ListN.{drop}
 use mir.Syntax.{w32}
 use mir.Val.{toZ, ofZ}
 use Rattle.signed.specs.Equal.{eqℤ}
-use Rattle.bin.specs.Bin.{shifts, shr, low16, firstAgreed, binOf}
-use Rattle.bin.proofs.Shifts.{agrees, placed, agree-here, agree-later}
+use Rattle.bin_rules.specs.Bin.{shifts, shr, low16, firstAgreed, binOf}
+use Rattle.bin_rules.proofs.Shifts.{agrees, placed, agree-here, agree-later}
 use borrow.Author.Needs.{needs}
 use Rattle.bin.proofs.bin_of.Statement.{statement}
 use Rattle.bin.proofs.bin_of.Tie as tie

@@ -2,7 +2,7 @@ use native.Mathlib.Omega.{arith}
 use mathlib.Core.Path.{ap, _∙_}
 use mir.Facts.{toZ-ofZ}
 use Prim.Native.Nat.{ℕ, _%_}
-use Rattle.bin.proofs.Shifts.{low-raised}
+use Rattle.bin_rules.proofs.Shifts.{low-raised}
 use borrow.Author.Needs.{needs}
 use Rattle.bin.proofs.low_bits.Statement.{statement}
 use Rattle.bin.proofs.low_bits.Tie as tie

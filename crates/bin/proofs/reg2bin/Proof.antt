@@ -5,7 +5,7 @@ use mir.Facts.{toZ-ofZ}
 use lib.IntN.{pos, _-ℤ_}
 use Rattle.signed.specs.Whole.{checked}
 use Rattle.answers.specs.declared.Nat.the-variants.{Number}
-use Rattle.bin.specs.Bin.{binTo, reg2bin}
+use Rattle.bin_rules.specs.Bin.{binTo, reg2bin}
 use borrow.Author.Needs.{needs}
 use Rattle.bin.proofs.reg2bin.Statement.{statement}
 use Rattle.bin.proofs.reg2bin.Tie as tie

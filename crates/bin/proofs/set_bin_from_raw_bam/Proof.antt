@@ -9,7 +9,7 @@ use Rattle.answers.specs.declared.Refusal.the-variants.{ShortRecord}
 use Rattle.answers.specs.declared.Nat.{Nat}
 use Rattle.answers.specs.declared.Nat.the-variants.{Number, Refused}
 use Rattle.answers.proofs.Unique.{settled}
-use Rattle.bin.specs.Bin.{recordBin, withBin, setBin}
+use Rattle.bin_rules.specs.Bin.{recordBin, withBin, setBin}
 use borrow.Author.Needs.{needs}
 use Rattle.bin.proofs.set_bin_from_raw_bam.Statement.{statement}
 use Rattle.bin.proofs.set_bin_from_raw_bam.Tie as tie

@@ -1,5 +1,5 @@
 use mir.Facts.{toZ-ofZ}
-use Rattle.bin.proofs.Shifts.{shr-fits}
+use Rattle.bin_rules.proofs.Shifts.{shr-fits}
 use borrow.Author.Needs.{needs}
 use Rattle.bin.proofs.shifted.Statement.{statement}
 use Rattle.bin.proofs.shifted.Tie as tie

@@ -11,7 +11,7 @@ use Rattle.lists.specs.Lists.{sumOf}
 use Rattle.signed.specs.Whole.{clamp32}
 use Rattle.sam.specs.Op.{refLen}
 use Rattle.text_rules.specs.Valid.{validMapped}
-use Rattle.pairs.specs.Pairs.{isFrWithMate}
+use Rattle.pairs_rules.specs.Pairs.{isFrWithMate}
 use Rattle.overlap_rules.specs.Overlap.{isFrBy}
 use Rattle.overlap_rules.specs.InnerOverlap.{isNo}
 use Rattle.overlap_rules.proofs.CallLaws.{cigar-short, cigar-many, cigar-apart, cigar-bad, cigar-is}

@@ -1,6 +1,6 @@
 -- The tests are the definition's.
 use mathlib.Core.Path.{sym, _∙_}
-use Rattle.pairs.proofs.PairLaws.{unmapped, mapped}
+use Rattle.pairs_rules.proofs.PairLaws.{unmapped, mapped}
 use borrow.Author.Needs.{needs}
 use Rattle.pairs.proofs.both_mapped.Statement.{statement}
 use Rattle.pairs.proofs.both_mapped.Tie as tie

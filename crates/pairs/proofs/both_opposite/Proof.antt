@@ -7,8 +7,8 @@ use mir.Syntax.{w32}
 use mir.Val.{toZ, ofZ}
 use Rattle.signed.specs.Equal.{eqℤ}
 use Rattle.sam.specs.Record.{refIdOf}
-use Rattle.pairs.specs.Pairs.{bothMapped}
-use Rattle.pairs.proofs.PairLaws.{first-unmapped, second-unmapped, two-apart, two-strands}
+use Rattle.pairs_rules.specs.Pairs.{bothMapped}
+use Rattle.pairs_rules.proofs.PairLaws.{first-unmapped, second-unmapped, two-apart, two-strands}
 use borrow.Author.Needs.{needs}
 use Rattle.pairs.proofs.both_opposite.Statement.{statement}
 use Rattle.pairs.proofs.both_opposite.Tie as tie

@@ -1,5 +1,5 @@
 -- By the first.
-use Rattle.pairs.proofs.PairLaws.{first-true, first-false}
+use Rattle.pairs_rules.proofs.PairLaws.{first-true, first-false}
 use Rattle.pairs.proofs.differ.Statement.{statement}
 use Rattle.pairs.proofs.differ.Tie as tie
 

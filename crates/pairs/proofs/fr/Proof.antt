@@ -7,7 +7,7 @@ use lib.Signed.{leZ}
 use mir.Syntax.{w32}
 use mir.Val.{toZ, ofZ}
 use Rattle.answers.specs.declared.Flag.the-variants as Flag
-use Rattle.pairs.proofs.PairLaws.{reverse-is, not-fr, fr-forward}
+use Rattle.pairs_rules.proofs.PairLaws.{reverse-is, not-fr, fr-forward}
 use borrow.Author.Needs.{needs}
 use Rattle.pairs.proofs.fr.Statement.{statement}
 use Rattle.pairs.proofs.fr.Tie as tie

@@ -4,7 +4,7 @@ use borrow.Author.Tests.{not-true, not-false}
 use denote.Ref.{now}
 use mir.Facts.{toZ-ofZ}
 use Rattle.answers.specs.declared.Flag.the-variants as Flag
-use Rattle.pairs.proofs.PairLaws.{reverse-is, not-fr, fr-forward}
+use Rattle.pairs_rules.proofs.PairLaws.{reverse-is, not-fr, fr-forward}
 use borrow.Author.Needs.{needs}
 use Rattle.pairs.proofs.fr_with_mate.Statement.{statement}
 use Rattle.pairs.proofs.fr_with_mate.Tie as tie

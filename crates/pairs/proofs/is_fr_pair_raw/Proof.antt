@@ -1,6 +1,6 @@
 -- The one test, and then the rule.
 use borrow.Author.Tests.{lt-ltb, le-ltb}
-use Rattle.pairs.specs.Pairs.{frPair}
+use Rattle.pairs_rules.specs.Pairs.{frPair}
 use borrow.Author.Needs.{needs}
 use Rattle.pairs.proofs.is_fr_pair_raw.Statement.{statement}
 use Rattle.pairs.proofs.is_fr_pair_raw.Tie as tie

@@ -2,7 +2,7 @@
 use mathlib.Core.Path.{ap}
 use borrow.Author.Tests.{lt-ltb, le-ltb}
 use Rattle.answers.specs.declared.Flag.the-variants.{Is}
-use Rattle.pairs.specs.Pairs.{oppositePair}
+use Rattle.pairs_rules.specs.Pairs.{oppositePair}
 use borrow.Author.Needs.{needs}
 use Rattle.pairs.proofs.is_mapped_opposite_strand_pair_raw.Statement.{statement}
 use Rattle.pairs.proofs.is_mapped_opposite_strand_pair_raw.Tie as tie

@@ -1,7 +1,7 @@
 -- The two tests, and then the rule.
 use borrow.Author.Tests.{lt-ltb, le-ltb}
 use lib.ListN.{length}
-use Rattle.pairs.specs.Pairs.{primaryFrPair}
+use Rattle.pairs_rules.specs.Pairs.{primaryFrPair}
 use borrow.Author.Needs.{needs}
 use Rattle.pairs.proofs.is_primary_fr_pair_raw.Statement.{statement}
 use Rattle.pairs.proofs.is_primary_fr_pair_raw.Tie as tie

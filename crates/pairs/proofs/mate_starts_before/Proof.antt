@@ -5,7 +5,7 @@ use mir.Syntax.{w32}
 use mir.Val.{toZ, ofZ}
 use Rattle.answers.specs.declared.Flag.the-variants as Flag
 use Rattle.sam.specs.Record.{posOf, matePosOf}
-use Rattle.pairs.specs.Pairs.{startsBeforeEnd, mateStartsBefore}
+use Rattle.pairs_rules.specs.Pairs.{startsBeforeEnd, mateStartsBefore}
 use borrow.Author.Needs.{needs}
 use Rattle.pairs.proofs.mate_starts_before.Statement.{statement}
 use Rattle.pairs.proofs.mate_starts_before.Tie as tie

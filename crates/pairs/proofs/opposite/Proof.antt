@@ -6,7 +6,7 @@ use mir.Syntax.{w32}
 use mir.Val.{toZ, ofZ}
 use Rattle.signed.specs.Equal.{eqℤ}
 use Rattle.sam.specs.Record.{refIdOf, mateRefIdOf}
-use Rattle.pairs.proofs.PairLaws.{not-paired, not-mapped, apart, strands}
+use Rattle.pairs_rules.proofs.PairLaws.{not-paired, not-mapped, apart, strands}
 use borrow.Author.Needs.{needs}
 use Rattle.pairs.proofs.opposite.Statement.{statement}
 use Rattle.pairs.proofs.opposite.Tie as tie

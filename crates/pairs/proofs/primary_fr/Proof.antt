@@ -3,7 +3,7 @@ use mathlib.Core.Path.{sym, _∙_}
 use mathlib.Core.Bool.{true, false}
 use borrow.Author.Tests.{not-true, not-false}
 use denote.Ref.{now}
-use Rattle.pairs.proofs.PairLaws.{reverse-is, second-reverse, no-pair, decided}
+use Rattle.pairs_rules.proofs.PairLaws.{reverse-is, second-reverse, no-pair, decided}
 use borrow.Author.Needs.{needs}
 use Rattle.pairs.proofs.primary_fr.Statement.{statement}
 use Rattle.pairs.proofs.primary_fr.Tie as tie

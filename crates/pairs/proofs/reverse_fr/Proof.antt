@@ -2,7 +2,7 @@
 use mathlib.Core.Path.{sym, _∙_}
 use borrow.Author.Tests.{not-true, not-false}
 use denote.Ref.{now}
-use Rattle.pairs.proofs.PairLaws.{not-fr, fr-reverse}
+use Rattle.pairs_rules.proofs.PairLaws.{not-fr, fr-reverse}
 use borrow.Author.Needs.{needs}
 use Rattle.pairs.proofs.reverse_fr.Statement.{statement}
 use Rattle.pairs.proofs.reverse_fr.Tie as tie

@@ -4,7 +4,7 @@ use mir.Syntax.{w32}
 use mir.Facts.{toZ-ofZ}
 use mir.Val.{toZ, ofZ, SFits}
 use Rattle.signed.specs.Whole.{raised}
-use Rattle.pairs.proofs.PairLaws.{starts-by, starts-past}
+use Rattle.pairs_rules.proofs.PairLaws.{starts-by, starts-past}
 use borrow.Author.Needs.{needs}
 use native.Mathlib.Omega.{arith}
 use Rattle.pairs.proofs.starts_before_end.Statement.{statement}

@@ -15,7 +15,7 @@ use Rattle.signed.proofs.Halves.{up, dn, plus, minus, leℤ, gtℤ, raise-fact}
 use Rattle.sam.specs.Record.{refIdOf, flagsOf, mateRefIdOf, isPaired, isUnmapped, isMateUnmapped, isReverse, isMateReverse}
 use Rattle.answers.specs.declared.Flag.{Flag}
 use Rattle.answers.specs.declared.Flag.the-variants as Flag
-use Rattle.pairs.specs.Pairs.{bothMapped, isOpposite, startOf, lastOf, mateStartsBefore, frBy, isFr, areOpposite, isPrimaryFr}
+use Rattle.pairs_rules.specs.Pairs.{bothMapped, isOpposite, startOf, lastOf, mateStartsBefore, frBy, isFr, areOpposite, isPrimaryFr}
 
 pub first-true : (a b : Bool) → a ≡ true → not b ≡ xor a b
 unfolding xor

@@ -13,7 +13,7 @@ use mir.Facts.{toZ-ofZ}
 use mir.ValLaws.{sfits-le}
 use Rattle.signed.specs.Whole.{raised}
 use Rattle.signed.specs.Equal.{eqℤ}
-use Rattle.bin.specs.Bin.{Shift, shr, low16, firstAgreed}
+use Rattle.bin_rules.specs.Bin.{Shift, shr, low16, firstAgreed}
 
 pub shr-fits : (z : ℤ) (k : ℕ) → SFits w32 z → SFits w32 (shr z k)
 shr-fits z k f = sfits-le (mag-shr z (2 ^ k)) f

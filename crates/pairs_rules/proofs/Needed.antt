@@ -8,8 +8,8 @@ use Rattle.signed.proofs.EqualLaws.{eqℤ-sym}
 use Rattle.sam.specs.Record.{refIdOf, flagsOf, templateLenOf, isReverse, isShort}
 use Rattle.answers.specs.declared.Refusal.the-variants.{ShortRecord}
 use Rattle.answers.specs.declared.Flag.the-variants as Flag
-use Rattle.pairs.specs.Needed.{SamePair, SameReverse}
-use Rattle.pairs.specs.Pairs.{bothMapped, isOpposite, mateStartsBefore, frBy, isFr, areOpposite, isPrimaryFr, oppositePair, frPair, primaryFrPair}
+use Rattle.pairs_rules.specs.Needed.{SamePair, SameReverse}
+use Rattle.pairs_rules.specs.Pairs.{bothMapped, isOpposite, mateStartsBefore, frBy, isFr, areOpposite, isPrimaryFr, oppositePair, frPair, primaryFrPair}
 
 pub opposite-needs : (a b : List ℕ) → SamePair a b → isOpposite a ≡ isOpposite b
 unfolding isOpposite bothMapped

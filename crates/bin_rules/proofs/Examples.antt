@@ -5,7 +5,7 @@ use Rattle.signed.specs.Whole.{checked, sideOf}
 use Rattle.answers.specs.declared.Nat.the-variants.{Number, Refused}
 use Rattle.answers.specs.declared.Refusal.the-variants.{Overflow}
 use Rattle.signed.specs.Equal.{eqℤ}
-use Rattle.bin.specs.Bin.{low16, firstAgreed, binTo, reg2bin}
+use Rattle.bin_rules.specs.Bin.{low16, firstAgreed, binTo, reg2bin}
 
 -- the unmapped bin of the specification, reg2bin(-1, 0)
 pub unmapped : reg2bin (negsuc 0) (pos 0) ≡ Number 4680

@@ -15,7 +15,7 @@ use Rattle.signed.proofs.Halves.{minus, same}
 use Rattle.signed.proofs.Ranges.{checked-in}
 use Rattle.answers.specs.declared.Nat.the-variants.{Number}
 use Rattle.signed.specs.Equal.{eqℤ}
-use Rattle.bin.specs.Bin.{Shift, shifts, low16, firstAgreed, binOf, binTo, reg2bin}
+use Rattle.bin_rules.specs.Bin.{Shift, shifts, low16, firstAgreed, binOf, binTo, reg2bin}
 use Rattle.sam.specs.Bins.{Level, l29, l26, l23, l20, l17, l14, Holds, SmallestBin}
 
 -- the ends agree after division by m exactly where one bin of size m holds the region

@@ -10,7 +10,7 @@ use lib.Signed.{ltZ}
 use Rattle.sam.specs.Record.{posOf}
 use Rattle.answers.specs.declared.Nat.the-variants.{Number}
 use Rattle.lengths.specs.Lengths.{askedLength}
-use Rattle.bin.specs.Bin.{recordBin, binFrom}
+use Rattle.bin_rules.specs.Bin.{recordBin, binFrom}
 
 module _ (b : List ℕ) (h : 32 ≤ length b) where
   pub before-first : ltZ (posOf b) (pos 0) ≡ true → recordBin b ≡ Number 4680
