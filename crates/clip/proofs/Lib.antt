@@ -1,5 +1,1 @@
-pub mod CodeLaws
-pub mod RuleLaws
 pub mod WriteLaws
-pub mod AnswerLaws
-pub mod BitLaws

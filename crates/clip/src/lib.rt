@@ -1,20 +1,14 @@
-// Document 01, module 9: clipping an op list at one end, lent as numbers or in a record. `plan` says what a clip does, and nothing is written before it is made.
-pub mod plan;
+// Document 01, module 9: clipping an op list at one end, lent as numbers or in a record. `clip_plan` says what a clip does, and nothing is written before its plan is made.
 mod write;
 
 ghost use mathlib.Core.Bool.{true, false};
 ghost use Rattle.oplist.specs.Ops.{opsOf};
 ghost use Rattle.answers.specs.Settled.{Settled};
-ghost use Rattle.clip.specs.Answer.{clipped, clippedUpTo, clippedRecord};
+ghost use Rattle.clip_rules.specs.Answer.{clipped, clippedUpTo, clippedRecord};
 use answers::Refusal;
+use clip_rules::Clipped;
+use clip_rules::Planned;
 use oplist::Ops;
-use plan::Planned;
-
-// The ops written and the count, or the refusal.
-pub enum Clipped {
-    Done(u64, u64),
-    Refused(Refusal),
-}
 
 // Clips `amount` bases at the chosen end of a lent list. Refusals 3, 8, 6.
 pub fn clip_cigar_ops_raw(ops: &[u32], amount: u64, from_start: bool, out: &mut [u32]) -> Clipped
@@ -85,7 +79,7 @@ fn clip_ops(
 ) -> Clipped
     ensures { λ r. ⌜ Settled (clippedUpTo limit (opsOf (now (words .entry)) (now (rec .entry)) list) amount start (now (out .entry))) r (now (out .exit)) ⌝ }
 {
-    match plan::plan_clip(words, rec, list, limit, amount, start) {
+    match clip_plan::plan_clip(words, rec, list, limit, amount, start) {
         Planned::Made(p) => {
             let n = p.heads + (oplist::count(words, rec, list) - p.skip);
             if out.len() < n {

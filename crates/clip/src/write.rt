@@ -5,7 +5,7 @@ ghost use Prim.Native.Nat.{_+_, _-_, _≤_};
 ghost use lib.ListN.{length, take, drop};
 ghost use Rattle.lists.specs.Lists.{splice};
 ghost use Rattle.oplist.specs.Ops.{opsOf};
-use crate::plan::Plan;
+use clip_rules::Plan;
 use oplist::Ops;
 
 // Stores the first `heads` of a and b from place `at` on.

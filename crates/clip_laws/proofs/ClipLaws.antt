@@ -12,8 +12,8 @@ use Rattle.lists.proofs.Sums.{sum-cons}
 use Rattle.sam.specs.Op.{lenOf, codeOf}
 use Rattle.ops.specs.Ops.{readLen, isClip}
 use Rattle.clip_runs.specs.Clips.{outerHard}
-use Rattle.clip.specs.Clipping.{Taken, more, taking, Cut, hardOf, softOf, upgraded, cutInto, clip}
-use Rattle.clip.proofs.RuleLaws.{cut-eq, take-nil, goes-enough, clip-none}
+use Rattle.clip_rules.specs.Clipping.{Taken, more, taking, Cut, hardOf, softOf, upgraded, cutInto, clip}
+use Rattle.clip_rules.proofs.RuleLaws.{cut-eq, take-nil, goes-enough, clip-none}
 use Rattle.clip_laws.specs.Demand3.{keptLen, All, isInner, EndsInsertion}
 use Rattle.clip_laws.proofs.TakeLaws.{Way, whole, none, over, cuts, way, take-whole, take-none, take-over, take-cut, two-goes, same-take}
 use Rattle.clip_laws.proofs.ShapeLaws.{Headed, Runs, fair, runs-clipped, kept-split, hard-head, kept-hard, kept-soft}

@@ -14,12 +14,12 @@ use Rattle.lists.proofs.Sums.{sum-cons, sum-append, sum-facing, facing-facing}
 use Rattle.sam.specs.Op.{lenOf, codeOf, refLen}
 use Rattle.ops.specs.Ops.{readLen}
 use Rattle.clip_runs.specs.Clips.{outerHard}
-use Rattle.clip.specs.Clipping.{taking, Cut, hardOf, softOf, clip}
+use Rattle.clip_rules.specs.Clipping.{taking, Cut, hardOf, softOf, clip}
 use Rattle.answers.specs.Settled.{Outcome}
-use Rattle.clip.specs.Answer.{clippedOps, clippedCount, clippedUpTo, clippedRecord, written}
-use Rattle.clip.specs.declared.Clipped.{Clipped}
-use Rattle.clip.specs.declared.Clipped.the-variants.{Done}
-use Rattle.clip.proofs.AnswerLaws.{within, accepted}
+use Rattle.clip_rules.specs.Answer.{clippedOps, clippedCount, clippedUpTo, clippedRecord, written}
+use Rattle.clip_rules.specs.declared.Clipped.{Clipped}
+use Rattle.clip_rules.specs.declared.Clipped.the-variants.{Done}
+use Rattle.clip_rules.proofs.AnswerLaws.{within, accepted}
 use Rattle.clip_laws.specs.Demand3.{isInner, keptLen, Shaped, Takes, most, survives, EndsInsertion, Clipper, Answers, Once, Twice, Demand3, Itself, InRecord}
 use Rattle.clip_laws.proofs.CodeLaws.{hard-len, hard-code}
 use Rattle.clip_laws.proofs.ShapeLaws.{Headed, left-headed, left-length, left-total, soft-length, soft-total, shaped-facing, shaped-inner, tail-clips, shaped-runs}

@@ -16,10 +16,10 @@ use Rattle.sam.proofs.ColumnLaws.{columns-cons, spell-add, spell-none, refs-app
 use Rattle.sam.proofs.LengthLaws.{reference-length}
 use Rattle.ops.specs.Ops.{readLen}
 use Rattle.clip_runs.specs.Clips.{isHard, run, runLen, afterRun, outerHard, nextSoft, inside, leadingClips}
-use Rattle.clip.specs.Clipping.{taking, Cut, hardOf, softOf, upgraded, cutInto, clip}
-use Rattle.clip.specs.Answer.{clippedOps}
-use Rattle.clip.proofs.CodeLaws.{read-le}
-use Rattle.clip.proofs.RuleLaws.{take-nil}
+use Rattle.clip_rules.specs.Clipping.{taking, Cut, hardOf, softOf, upgraded, cutInto, clip}
+use Rattle.clip_rules.specs.Answer.{clippedOps}
+use Rattle.clip_rules.proofs.CodeLaws.{read-le}
+use Rattle.clip_rules.proofs.RuleLaws.{take-nil}
 use Rattle.clip_laws.specs.Drops.{Drops}
 use Rattle.clip_laws.proofs.CodeLaws.{read-all, ref-I, cut-ref, op-len, op-code, soft-len, soft-code, hard-code}
 use Rattle.clip_laws.proofs.TakeLaws.{Way, whole, none, over, cuts, way, take-whole, take-none, take-over, take-cut}

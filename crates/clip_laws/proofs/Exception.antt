@@ -13,8 +13,8 @@ use Rattle.sam.specs.Op.{lenOf, codeOf, opOf, isRef, refLen}
 use Rattle.ops.specs.Ops.{isRead, readLen, isClip}
 use Rattle.clip_runs.specs.Clips.{outerHard, nextSoft, inside, leadingClips}
 use Rattle.oplist.specs.Ops.{mostOps}
-use Rattle.clip.specs.Clipping.{goes, ends, taking, softOf, upgraded, cutInto, clip}
-use Rattle.clip.specs.Answer.{clippedOps}
+use Rattle.clip_rules.specs.Clipping.{goes, ends, taking, softOf, upgraded, cutInto, clip}
+use Rattle.clip_rules.specs.Answer.{clippedOps}
 use Rattle.clip_laws.specs.Demand3.{isInner, Takes, most, survives, EndsInsertion}
 
 -- 5M3I2D6M

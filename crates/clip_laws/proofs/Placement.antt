@@ -16,9 +16,9 @@ use Rattle.sam.specs.Op.{lenOf, codeOf, opOf}
 use Rattle.sam.specs.Placement.{AllHard, WellPlaced}
 use Rattle.ops.specs.Ops.{readLen}
 use Rattle.clip_runs.specs.Clips.{isHard, isSoft, afterRun, outerHard, nextSoft, inside, leadingClips}
-use Rattle.clip.specs.Clipping.{taking, Cut, hardOf, softOf, upgraded, cutInto, clip}
-use Rattle.clip.specs.Answer.{clippedOps}
-use Rattle.clip.proofs.RuleLaws.{take-nil}
+use Rattle.clip_rules.specs.Clipping.{taking, Cut, hardOf, softOf, upgraded, cutInto, clip}
+use Rattle.clip_rules.specs.Answer.{clippedOps}
+use Rattle.clip_rules.proofs.RuleLaws.{take-nil}
 use Rattle.clip_laws.specs.Placement.{KeepsPlaced}
 use Rattle.clip_laws.proofs.CodeLaws.{op-code, hard-code, soft-code}
 use Rattle.clip_laws.proofs.TakeLaws.{Way, whole, none, over, cuts, way, take-whole, take-none, take-over, take-cut}

@@ -14,9 +14,9 @@ use Rattle.answers.specs.Settled.{Outcome, keeps}
 use Rattle.ops.specs.Ops.{isRead, readLen, isClip}
 use Rattle.clip_runs.specs.Clips.{outerHard, nextSoft, inside, leadingClips}
 use Rattle.oplist.specs.Ops.{mostOps}
-use Rattle.clip.specs.Clipping.{goes, ends, taking, softOf, upgraded, cutInto, clip}
-use Rattle.clip.specs.Answer.{clippedOps, clippedUpTo, written}
-use Rattle.clip.specs.declared.Clipped.{Clipped}
+use Rattle.clip_rules.specs.Clipping.{goes, ends, taking, softOf, upgraded, cutInto, clip}
+use Rattle.clip_rules.specs.Answer.{clippedOps, clippedUpTo, written}
+use Rattle.clip_rules.specs.declared.Clipped.{Clipped}
 use Rattle.clip_laws.specs.Demand3.{isInner, Takes, most, Clipper, Demand3, Itself}
 use Rattle.clip_laws.proofs.Demand3.{take-written, same-answers}
 

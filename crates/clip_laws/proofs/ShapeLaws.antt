@@ -14,10 +14,10 @@ use Rattle.lists.proofs.Sums.{sum-cons, sum-facing}
 use Rattle.sam.specs.Op.{lenOf, codeOf, opOf}
 use Rattle.ops.specs.Ops.{isRead, readLen, isClip}
 use Rattle.clip_runs.specs.Clips.{isHard, isSoft, runLen, afterRun, outerHard, nextSoft, inside, leadingClips}
-use Rattle.clip.specs.Clipping.{Taken, goes, taking, hardOf, softOf}
-use Rattle.clip.proofs.CodeLaws.{read-le}
+use Rattle.clip_rules.specs.Clipping.{Taken, goes, taking, hardOf, softOf}
+use Rattle.clip_rules.proofs.CodeLaws.{read-le}
 use Rattle.clip_runs.proofs.RunLaws.{run-in, run-out, rest-in, rest-out, run-sum, run-same}
-use Rattle.clip.proofs.RuleLaws.{take-nil, goes-enough}
+use Rattle.clip_rules.proofs.RuleLaws.{take-nil, goes-enough}
 use Rattle.clip_laws.specs.Demand3.{isInner, keptLen, All, Shaped, survives}
 use Rattle.clip_laws.proofs.CodeLaws.{by-codes, never, read-all, read-is, read-I, cut-read, op-len, op-code, hard-len, hard-code, soft-len, soft-code, kept-H, kept-S, kept-read}
 use Rattle.clip_laws.proofs.TakeLaws.{Way, whole, none, over, cuts, way, take-whole, take-none, take-over, take-cut}

@@ -10,8 +10,8 @@ use Rattle.oplist.specs.Ops.{recordOps}
 use Rattle.ops.specs.Ops.{readLen}
 use Rattle.clip_runs.specs.Clips.{isHard, isSoft, hardLen, outerHard, inside, leadingClips}
 use Rattle.answers.specs.Settled.{Outcome}
-use Rattle.clip.specs.Answer.{written}
-use Rattle.clip.specs.declared.Clipped.{Clipped}
+use Rattle.clip_rules.specs.Answer.{written}
+use Rattle.clip_rules.specs.declared.Clipped.{Clipped}
 
 -- "inner ops (M, I, D, N, P, =, X)"
 unfoldable pub isInner : ℕ → Bool

@@ -3,7 +3,7 @@ use Prim.Native.Nat.{ℕ}
 use mathlib.Core.Bool.{Bool}
 use mathlib.Core.List.{List}
 use Rattle.sam.specs.Placement.{WellPlaced}
-use Rattle.clip.specs.Answer.{clippedOps}
+use Rattle.clip_rules.specs.Answer.{clippedOps}
 
 abbrev pub KeepsPlaced : List ℕ → ℕ → Bool → Type 0
 KeepsPlaced xs amount start = WellPlaced xs → WellPlaced (clippedOps xs amount start)

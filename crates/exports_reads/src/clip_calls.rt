@@ -1,10 +1,10 @@
 // Clipping.
 ghost use mathlib.Core.Path.{_≡_};
 ghost use Rattle.answers.specs.Settled.{Settled};
-ghost use Rattle.clip.specs.Answer.{clipped, clippedRecord, tellClipped};
+ghost use Rattle.clip_rules.specs.Answer.{clipped, clippedRecord, tellClipped};
 ghost use Rattle.border.specs.Border.{twoOf, across, flagged};
 use border::ToldTwo;
-use clip::Clipped;
+use clip_rules::Clipped;
 
 fn told_clipped(answer: Clipped) -> ToldTwo
     ensures { λ r. ⌜ r ≡ twoOf (tellClipped answer) ⌝ }

@@ -10,9 +10,9 @@ use Rattle.sam.specs.Op.{lenOf}
 use Rattle.sam.specs.Record.{isShort}
 use Rattle.oplist.specs.Ops.{mostOps, recordOps}
 use Rattle.answers.specs.declared.Refusal.the-variants.{ShortRecord, TooManyOps, TooLong, NoRoom}
-use Rattle.clip.specs.Answer.{clippedOps, clippedCount, clippedInto, clippedUpTo, clipped, clippedRecord, tellClipped}
-use Rattle.clip.specs.declared.Clipped.{Clipped}
-use Rattle.clip.specs.declared.Clipped.the-variants.{Done, Refused}
+use Rattle.clip_rules.specs.Answer.{clippedOps, clippedCount, clippedInto, clippedUpTo, clipped, clippedRecord, tellClipped}
+use Rattle.clip_rules.specs.declared.Clipped.{Clipped}
+use Rattle.clip_rules.specs.declared.Clipped.the-variants.{Done, Refused}
 use Rattle.promises.specs.Table.{GivesFilled}
 use Rattle.promises.specs.Rows.{tooLong, noRoom, clipRows, clipRecordRows}
 use Rattle.promises.proofs.RowLaws.{kept-row, last-row}

@@ -7,9 +7,9 @@ use lib.ListN.{length}
 use Rattle.lists.specs.Lists.{splice}
 use Rattle.answers.specs.Settled.{Outcome, Settled}
 use Rattle.oplist.specs.Ops.{mostOps}
-use Rattle.clip.specs.Answer.{clipped, clippedRecord}
-use Rattle.clip.specs.declared.Clipped.{Clipped}
-use Rattle.clip.specs.declared.Clipped.the-variants.{Done}
+use Rattle.clip_rules.specs.Answer.{clipped, clippedRecord}
+use Rattle.clip_rules.specs.declared.Clipped.{Clipped}
+use Rattle.clip_rules.specs.declared.Clipped.the-variants.{Done}
 use Rattle.clip_laws.specs.Demand3.{Clipper, Answers, Demand3, Itself, InRecord}
 use Rattle.clip_laws.proofs.Demand3.{list-demand3, record-demand3}
 

@@ -6,8 +6,8 @@ use Rattle.signed.specs.Whole.{checked, sideOf}
 use Rattle.sam.specs.Op.{isRef, isQuery, refLen, queryLen}
 use Rattle.ops.specs.Ops.{isRead, readLen, isClip}
 use Rattle.clip_runs.specs.Clips.{outerHard, nextSoft, inside, leadingClips}
-use Rattle.clip.specs.Clipping.{goes, ends, taking, softOf, upgraded, cutInto, clip}
-use Rattle.clip.specs.Answer.{clippedOps, clippedCount, clippedInto, clippedUpTo}
+use Rattle.clip_rules.specs.Clipping.{goes, ends, taking, softOf, upgraded, cutInto, clip}
+use Rattle.clip_rules.specs.Answer.{clippedOps, clippedCount, clippedInto, clippedUpTo}
 use Rattle.text_rules.specs.Text.{indexOf, letterCode, effectOf, rowFrom, opsFrom}
 use Rattle.text_rules.specs.Valid.{isEmpty, allHard, anyRef, each, validMapped}
 use Rattle.text_rules.specs.Strict.{strict}

@@ -32,8 +32,8 @@ use Rattle.lookup.specs.Meaning.{InBounds, Reads}
 use Rattle.lookup.proofs.LookupLaws as Looked
 use Rattle.bin_rules.specs.Bin.{binOf, low16, reg2bin}
 use Rattle.bin_rules.proofs.Smallest as Bins
-use Rattle.clip.specs.Clipping.{clip}
-use Rattle.clip.specs.Answer.{clippedOps}
+use Rattle.clip_rules.specs.Clipping.{clip}
+use Rattle.clip_rules.specs.Answer.{clippedOps}
 use Rattle.clip_laws.specs.Drops.{Drops}
 use Rattle.clip_laws.proofs.Placement as Placed
 use Rattle.clip_laws.proofs.Drops as Dropped

@@ -6,7 +6,7 @@ use lib.IntN.{ℤ, pos}
 use Rattle.sam.specs.Op.{opOf}
 use Rattle.answers.specs.Answers.{Told, answered, some, none, tellCount, tellNat}
 use Rattle.answers.specs.Settled.{Outcome, keeps}
-use Rattle.clip.specs.Answer.{clipped, tellClipped}
+use Rattle.clip_rules.specs.Answer.{clipped, tellClipped}
 use Rattle.strict_text.specs.Parsed.{parsed}
 use Rattle.lookup.specs.Lookup.{looked, tellFound}
 use Rattle.bin_rules.specs.Bin.{reg2bin}

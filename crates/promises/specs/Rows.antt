@@ -21,7 +21,7 @@ use Rattle.text_rules.specs.Valid.{validMapped}
 use Rattle.text_rules.specs.Strict.{strict}
 use Rattle.ends_rules.specs.Tails.{greatestRun}
 use Rattle.ends_rules.specs.Ends.{noOps}
-use Rattle.clip.specs.Answer.{clippedOps}
+use Rattle.clip_rules.specs.Answer.{clippedOps}
 use Rattle.answers.specs.declared.Flag.{Flag}
 use Rattle.answers.specs.declared.Flag.the-variants as Flag
 use Rattle.pairs_rules.specs.Pairs.{isFrWithMate, isPrimaryFr}

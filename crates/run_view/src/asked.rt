@@ -4,7 +4,7 @@ use answers::Int;
 use answers::Nat;
 use answers::Place0;
 use answers::Place1;
-use clip::Clipped;
+use clip_rules::Clipped;
 use fields::Part;
 use lengths::Lengths;
 use view::RawRecordView;

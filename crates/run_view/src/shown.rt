@@ -5,7 +5,7 @@ use answers::Nat;
 use answers::Place0;
 use answers::Place1;
 use answers::Refusal;
-use clip::Clipped;
+use clip_rules::Clipped;
 use lengths::Lengths;
 
 pub fn text(words: &[u8]) {

@@ -6,13 +6,13 @@ ghost use Rattle.fields.specs.Fields.{intField, natField, posField, partRefusal
 ghost use Rattle.lengths.specs.Lengths.{refLengthOrZero, recordQueryLength, bothLengths};
 ghost use Rattle.ends_rules.specs.Ends.{unclippedOf, asRust, alignmentStart, alignmentEnd};
 ghost use Rattle.print.specs.Text.{printed};
-ghost use Rattle.clip.specs.Answer.{clippedRecord};
+ghost use Rattle.clip_rules.specs.Answer.{clippedRecord};
 use answers::Count;
 use answers::Int;
 use answers::Nat;
 use answers::Place0;
 use answers::Place1;
-use clip::Clipped;
+use clip_rules::Clipped;
 use fields::Part;
 use lengths::Lengths;
 

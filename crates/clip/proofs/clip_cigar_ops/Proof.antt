@@ -1,8 +1,8 @@
 -- Refusal 1 is the test's, and the rest is that of the chosen end, over the record's ops.
 use borrow.Author.Tests.{lt-ltb, le-ltb}
 use Rattle.answers.proofs.Unique.{settled}
-use Rattle.clip.specs.Answer.{clippedRecord}
-use Rattle.clip.proofs.AnswerLaws.{over-own}
+use Rattle.clip_rules.specs.Answer.{clippedRecord}
+use Rattle.clip_rules.proofs.AnswerLaws.{over-own}
 use borrow.Author.Needs.{needs}
 use Rattle.clip.proofs.clip_cigar_ops.Statement.{statement}
 use Rattle.clip.proofs.clip_cigar_ops.Tie as tie

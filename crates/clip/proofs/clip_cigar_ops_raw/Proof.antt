@@ -1,8 +1,8 @@
 -- Refusal 3 is the test's, and the rest is that of the chosen end, over the lent list.
 use borrow.Author.Tests.{lt-ltb}
 use Rattle.answers.proofs.Unique.{settled}
-use Rattle.clip.specs.Answer.{clippedUpTo}
-use Rattle.clip.proofs.AnswerLaws.{over}
+use Rattle.clip_rules.specs.Answer.{clippedUpTo}
+use Rattle.clip_rules.proofs.AnswerLaws.{over}
 use borrow.Author.Needs.{needs}
 use Rattle.clip.proofs.clip_cigar_ops_raw.Statement.{statement}
 use Rattle.clip.proofs.clip_cigar_ops_raw.Tie as tie

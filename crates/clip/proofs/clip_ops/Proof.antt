@@ -7,9 +7,9 @@ use native.Mathlib.Omega.{arith}
 use Prim.Native.Nat.{ℕ}
 use Rattle.answers.proofs.Unique.{settled}
 use Rattle.oplist.specs.Ops.{opsOf}
-use Rattle.clip.specs.declared.plan.Planned.the-variants as Planned
-use Rattle.clip.specs.InnerPlan.{PlannedIs}
-use Rattle.clip.proofs.AnswerLaws.{within, no-room, plan-length, plan-skip, done-start, done-end, unplanned}
+use Rattle.clip_rules.specs.declared.Planned.the-variants as Planned
+use Rattle.clip_rules.specs.InnerPlan.{PlannedIs}
+use Rattle.clip_rules.proofs.AnswerLaws.{within, no-room, plan-length, plan-skip, done-start, done-end, unplanned}
 use borrow.Author.Needs.{needs}
 use Rattle.clip.proofs.clip_ops.Statement.{statement}
 use Rattle.clip.proofs.clip_ops.Tie as tie

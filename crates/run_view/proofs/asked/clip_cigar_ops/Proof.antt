@@ -1,7 +1,7 @@
 -- `Lender`'s law of `RawRecordView::clip_cigar_ops`.
 use mir.Syntax.{w32}
-use Rattle.clip.proofs.Clipped as R
-use Rattle.clip.proofs.Clipped.Laws as R′
+use Rattle.clip_rules.proofs.Clipped as R
+use Rattle.clip_rules.proofs.Clipped.Laws as R′
 use Rattle.view.proofs.RawRecordView.clip_cigar_ops as method
 use Rattle.view.proofs.RawRecordView.clip_cigar_ops.Met as theorem
 use Rattle.view.proofs.RawRecordView.clip_cigar_ops.Symbol as symbol

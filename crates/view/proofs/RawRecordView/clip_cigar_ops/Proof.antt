@@ -1,8 +1,8 @@
 -- The method hands its slice, the amount, the end and the lent list to `clip::clip_cigar_ops`: `Lent`'s law.
 use base.Logic.{id⊢}
 use mir.Syntax.{w32}
-use Rattle.clip.proofs.Clipped as R
-use Rattle.clip.proofs.Clipped.Laws as R′
+use Rattle.clip_rules.proofs.Clipped as R
+use Rattle.clip_rules.proofs.Clipped.Laws as R′
 use Rattle.clip.proofs.clip_cigar_ops as callee
 use Rattle.clip.proofs.clip_cigar_ops.Met as theorem
 use Rattle.clip.proofs.clip_cigar_ops.Symbol as symbol
