@@ -2,7 +2,7 @@
 ghost use mathlib.Core.Path.{_≡_};
 ghost use Rattle.answers.specs.Settled.{Settled};
 ghost use Rattle.answers.specs.Answers.{tellCount, tellFlag};
-ghost use Rattle.overhang.specs.Overhang.{basesExtending};
+ghost use Rattle.overhang_rules.specs.Overhang.{basesExtending};
 ghost use Rattle.pairs_rules.specs.Pairs.{oppositePair, frPair, primaryFrPair};
 ghost use Rattle.overlap_rules.specs.Overlap.{pastMateCigar, pastMateRecord, pastMateText, tellOverhang};
 ghost use Rattle.border.specs.Border.{countOf, flagOf, twoOf, across, flagged};

@@ -31,7 +31,7 @@ use Rattle.strict_text.specs.declared.Measured.{Measured}
 use Rattle.strict_text.specs.declared.Measured.the-variants as Measured
 use Rattle.strict_text.proofs.PassLaws.{ops-bad, ops-some}
 use Rattle.pairs_rules.specs.Pairs.{isFrWithMate, isPrimaryFr}
-use Rattle.overhang.specs.Overhang.{overhangOf}
+use Rattle.overhang_rules.specs.Overhang.{overhangOf}
 use Rattle.overlap_rules.specs.declared.PairPlaces.{PairPlaces}
 use Rattle.overlap_rules.specs.declared.PairPlaces.the-variants as PairPlaces
 use Rattle.overlap_rules.specs.declared.Overhang.{Overhang}

@@ -20,8 +20,8 @@ use Rattle.text_rules.specs.Text.{textOps}
 use Rattle.text_rules.specs.Valid.{validMapped}
 use Rattle.text_rules.specs.Strict.{strict}
 use Rattle.pairs_rules.specs.Pairs.{isPrimaryFr}
-use Rattle.overhang.specs.Overhang.{overhangOf, basesExtending}
-use Rattle.overhang.proofs.Most.{overhang-most}
+use Rattle.overhang_rules.specs.Overhang.{overhangOf, basesExtending}
+use Rattle.overhang_rules.proofs.Most.{overhang-most}
 use Rattle.overlap_rules.specs.declared.PairPlaces.{PairPlaces}
 use Rattle.overlap_rules.specs.declared.PairPlaces.the-variants as PairPlaces
 use Rattle.overlap_rules.specs.declared.Overhang.{Overhang}

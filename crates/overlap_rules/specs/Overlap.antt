@@ -25,7 +25,7 @@ use Rattle.text_rules.specs.Text.{textOps}
 use Rattle.text_rules.specs.Valid.{validMapped}
 use Rattle.text_rules.specs.Strict.{strict}
 use Rattle.pairs_rules.specs.Pairs.{isFrWithMate, isPrimaryFr}
-use Rattle.overhang.specs.Overhang.{overhangOf}
+use Rattle.overhang_rules.specs.Overhang.{overhangOf}
 use Rattle.overlap_rules.specs.declared.PairPlaces.{PairPlaces}
 use Rattle.overlap_rules.specs.declared.PairPlaces.the-variants as PairPlaces
 use Rattle.overlap_rules.specs.declared.Overhang.{Overhang}

@@ -25,7 +25,7 @@ use Rattle.text_rules.specs.Valid.{validMapped}
 use Rattle.text_rules.specs.Strict.{strict}
 use Rattle.lengths.specs.Lengths.{refLengthOrZero, askedLength}
 use Rattle.pairs_rules.specs.Pairs.{isOpposite, startOf, lastOf, mateStartsBefore, frBy, isFr, areOpposite, isPrimaryFr, oppositePair, frPair, primaryFrPair}
-use Rattle.overhang.specs.Overhang.{basesExtending}
+use Rattle.overhang_rules.specs.Overhang.{basesExtending}
 use Rattle.overlap_rules.specs.Overlap.{bothPlaces, placedPair, isOver, basesAt, overhangAt, pairOverhang, isFrBy, pastMateCigar, pastMateRecord, listLeft, pairListLeft, pastMateText, tellOverhang}
 use Rattle.overlap_rules.specs.declared.Overhang.{Overhang}
 use Rattle.overlap_rules.specs.declared.Overhang.the-variants as Overhang

@@ -30,10 +30,10 @@ use Rattle.pairs_rules.specs.Pairs.{isOpposite, startOf, lastOf, oppositePair, 
 use Rattle.pairs_rules.specs.Needed.{SamePair, SameReverse}
 use Rattle.pairs_rules.proofs.Edges as Edges
 use Rattle.pairs_rules.proofs.Needed as Pairs
-use Rattle.overhang.specs.Reach.{basesUpTo, onBase, Unclamped}
-use Rattle.overhang.specs.Overhang.{endOf, softStart, softEnd, basesPast, basesExtending}
-use Rattle.overhang.proofs.Meaning as Counts
-use Rattle.overhang.proofs.Gaps as Gaps
+use Rattle.overhang_rules.specs.Reach.{basesUpTo, onBase, Unclamped}
+use Rattle.overhang_rules.specs.Overhang.{endOf, softStart, softEnd, basesPast, basesExtending}
+use Rattle.overhang_rules.proofs.Meaning as Counts
+use Rattle.overhang_rules.proofs.Gaps as Gaps
 use Rattle.overlap_rules.specs.Overlap.{pastMateCigar, pastMateRecord, pastMateText}
 use Rattle.overlap_rules.specs.Bound.{Within, WithinText}
 use Rattle.overlap_rules.proofs.Promised as Most

@@ -4,7 +4,7 @@ use lib.ListN.{length}
 use borrow.Author.Tests.{lt-ltb, le-ltb}
 use Rattle.oplist.specs.Ops.{mostOps}
 use Rattle.answers.specs.declared.Count.the-variants.{Number}
-use Rattle.overhang.specs.Overhang.{basesExtending}
+use Rattle.overhang_rules.specs.Overhang.{basesExtending}
 use borrow.Author.Needs.{needs}
 use Rattle.overhang.proofs.bases_extending_past_mate_ops.Statement.{statement}
 use Rattle.overhang.proofs.bases_extending_past_mate_ops.Tie as tie

@@ -7,8 +7,8 @@ use mir.Val.{toZ, ofZ, SFits}
 use Rattle.signed.specs.Whole.{raised}
 use Rattle.sam.specs.Op.{refLen}
 use Rattle.oplist.specs.Ops.{opsOf}
-use Rattle.overhang.specs.Reach.{basesUpTo}
-use Rattle.overhang.proofs.ReachLaws.{upToPlace, place-is, up-past, up-done, up-cut, up-turn}
+use Rattle.overhang_rules.specs.Reach.{basesUpTo}
+use Rattle.overhang_rules.proofs.ReachLaws.{upToPlace, place-is, up-past, up-done, up-cut, up-turn}
 use borrow.Author.Needs.{needs}
 use native.Mathlib.Omega.{arith}
 use Rattle.overhang.proofs.bases_up_to.Statement.{statement}

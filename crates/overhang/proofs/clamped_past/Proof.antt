@@ -1,5 +1,5 @@
 -- The strand chooses the side.
-use Rattle.overhang.proofs.OverhangLaws.{differ}
+use Rattle.overhang_rules.proofs.OverhangLaws.{differ}
 use borrow.Author.Needs.{needs}
 use Rattle.overhang.proofs.clamped_past.Statement.{statement}
 use Rattle.overhang.proofs.clamped_past.Tie as tie

@@ -1,6 +1,6 @@
 -- One walk gives both.
 use mathlib.Core.Path.{refl, ap, _∙_}
-use Rattle.overhang.specs.Overhang.{endAt}
+use Rattle.overhang_rules.specs.Overhang.{endAt}
 use borrow.Author.Needs.{needs}
 use Rattle.overhang.proofs.extent_at.Statement.{statement}
 use Rattle.overhang.proofs.extent_at.Tie as tie

@@ -3,7 +3,7 @@ use Prim.Native.Nat.{ℕ}
 use mathlib.Core.Path.{refl, ap, _∙_}
 use mathlib.Core.List.{List, []}
 use Rattle.oplist.proofs.OpsLaws.{whole}
-use Rattle.overhang.specs.Reach.{softClip}
+use Rattle.overhang_rules.specs.Reach.{softClip}
 use borrow.Author.Needs.{needs}
 use Rattle.overhang.proofs.lent_clip.Statement.{statement}
 use Rattle.overhang.proofs.lent_clip.Tie as tie

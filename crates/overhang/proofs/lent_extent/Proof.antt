@@ -5,7 +5,7 @@ use mathlib.Core.List.{List, []}
 use Rattle.lists.specs.Lists.{sumOf}
 use Rattle.sam.specs.Op.{refLen}
 use Rattle.oplist.proofs.OpsLaws.{whole}
-use Rattle.overhang.specs.Overhang.{endOf}
+use Rattle.overhang_rules.specs.Overhang.{endOf}
 use borrow.Author.Needs.{needs}
 use Rattle.overhang.proofs.lent_extent.Statement.{statement}
 use Rattle.overhang.proofs.lent_extent.Tie as tie

@@ -5,10 +5,10 @@ use mathlib.Core.List.{[]}
 use mir.Syntax.{w32}
 use mir.Val.{SFits}
 use Rattle.lists.specs.Lists.{facing}
-use Rattle.overhang.specs.Reach.{upTo}
-use Rattle.overhang.specs.Overhang.{overhangOf}
-use Rattle.overhang.specs.InnerSides.{clipGap}
-use Rattle.overhang.proofs.OverhangLaws.{differ, of-places, of-lists, short, away, free}
+use Rattle.overhang_rules.specs.Reach.{upTo}
+use Rattle.overhang_rules.specs.Overhang.{overhangOf}
+use Rattle.overhang_rules.specs.InnerSides.{clipGap}
+use Rattle.overhang_rules.proofs.OverhangLaws.{differ, of-places, of-lists, short, away, free}
 use borrow.Author.Needs.{needs}
 use Rattle.overhang.proofs.lent_overhang.Statement.{statement}
 use Rattle.overhang.proofs.lent_overhang.Tie as tie

@@ -5,7 +5,7 @@ use mathlib.Core.List.{List, []}
 use Rattle.lists.specs.Lists.{facing}
 use Rattle.oplist.proofs.OpsLaws.{whole}
 use borrow.Author.Needs.{needs}
-use Rattle.overhang.specs.Reach.{upTo}
+use Rattle.overhang_rules.specs.Reach.{upTo}
 use Rattle.overhang.proofs.lent_within.Statement.{statement}
 use Rattle.overhang.proofs.lent_within.Tie as tie
 

@@ -5,10 +5,10 @@ use mir.Syntax.{w32}
 use mir.Val.{SFits}
 use Rattle.lists.specs.Lists.{facing}
 use Rattle.oplist.specs.Ops.{opsOf}
-use Rattle.overhang.specs.Reach.{upTo}
-use Rattle.overhang.specs.Overhang.{overhangOf}
-use Rattle.overhang.specs.InnerSides.{clipGap}
-use Rattle.overhang.proofs.OverhangLaws.{differ, of-places, short, away, shared, free}
+use Rattle.overhang_rules.specs.Reach.{upTo}
+use Rattle.overhang_rules.specs.Overhang.{overhangOf}
+use Rattle.overhang_rules.specs.InnerSides.{clipGap}
+use Rattle.overhang_rules.proofs.OverhangLaws.{differ, of-places, short, away, shared, free}
 use borrow.Author.Needs.{needs}
 use Rattle.overhang.proofs.overhang.Statement.{statement}
 use Rattle.overhang.proofs.overhang.Tie as tie

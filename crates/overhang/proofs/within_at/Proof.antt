@@ -5,8 +5,8 @@ use lib.ListN.{drop}
 use Rattle.lists.specs.Lists.{facing}
 use Rattle.lists.proofs.ListLaws.{length-facing}
 use Rattle.oplist.specs.Ops.{opsOf}
-use Rattle.overhang.specs.Reach.{upTo}
-use Rattle.overhang.proofs.Mirror.{room-done, room-out, room-turn}
+use Rattle.overhang_rules.specs.Reach.{upTo}
+use Rattle.overhang_rules.proofs.Mirror.{room-done, room-out, room-turn}
 use borrow.Author.Needs.{needs}
 use native.Mathlib.Omega.{arith}
 use Rattle.overhang.proofs.within_at.Statement.{statement}
