@@ -26,7 +26,7 @@ use Rattle.answers.specs.declared.Nat.the-variants as Nat
 use Rattle.answers.specs.declared.Count.{Count}
 use Rattle.answers.specs.declared.Count.the-variants as Count
 use Rattle.decimal.specs.Decimal.{decimal}
-use Rattle.print.specs.Text.{textOf, printed}
+use Rattle.print_rules.specs.Text.{textOf, printed}
 use Rattle.lengths.specs.Lengths.{asInt, checkedRefLength}
 use Rattle.ends_rules.specs.Ends.{asRust, unclippedOf}
 use Rattle.bin_rules.specs.Bin.{recordBin}

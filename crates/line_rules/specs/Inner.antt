@@ -17,7 +17,7 @@ use Rattle.lengths.specs.Lengths.{checkedRefLength}
 use Rattle.ends_rules.specs.Ends.{asRust, unclippedOf}
 use Rattle.bin_rules.specs.Bin.{recordBin}
 use Rattle.decimal.specs.Decimal.{decimal}
-use Rattle.print.specs.Text.{textOf, printed}
+use Rattle.print_rules.specs.Text.{textOf, printed}
 use Rattle.put_text.specs.Puts.{Put, signedDecimal}
 use Rattle.line_rules.specs.Line.{textRoom, orStar, lengthMark}
 use Rattle.line_rules.specs.declared.LineRow.{LineRow}

@@ -13,7 +13,7 @@ use Rattle.sam.specs.Record.{seqLenOf}
 use Rattle.oplist.specs.Ops.{recordOps}
 use Rattle.answers.specs.Answers.{Told, bare1, tellInt, tellCount, tellNat}
 use Rattle.decimal.specs.Decimal.{decimal}
-use Rattle.print.specs.Text.{textOf, printed}
+use Rattle.print_rules.specs.Text.{textOf, printed}
 use Rattle.lengths.specs.Lengths.{checkedRefLength, recordQueryLength}
 use Rattle.ends_rules.specs.Ends.{asRust, unclippedOf}
 use Rattle.bin_rules.specs.Bin.{recordBin}

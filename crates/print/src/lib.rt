@@ -5,17 +5,12 @@ ghost use lib.ListN.{length};
 ghost use lib.Seq.{sets};
 ghost use Rattle.answers.specs.Settled.{Settled};
 ghost use Rattle.oplist.specs.Ops.{opsOf};
-ghost use Rattle.print.specs.Text.{opText, textOf, printed};
-ghost use Rattle.print.specs.Inner.{roomOf};
+ghost use Rattle.print_rules.specs.Text.{opText, textOf, printed};
+ghost use Rattle.print_rules.specs.Inner.{roomOf};
 use answers::Count;
 use answers::Refusal;
 use oplist::Ops;
-
-// How many bytes a text takes, or that a code has no letter.
-pub enum Room {
-    Bytes(usize),
-    BadCode,
-}
+use print_rules::Room;
 
 // Puts an op's text into out from index at, and answers the index after it.
 fn put_op(op: u32, out: &mut [u8], at: usize) -> usize

@@ -12,9 +12,9 @@ use Rattle.sam.specs.Op.{lenOf, codeOf, opOf, letters}
 use Rattle.sam.specs.Text.{Digits, value, Spells, Spells.end, Spells.op}
 use Rattle.ops.specs.Ops.{letterOf}
 use Rattle.decimal.specs.Decimal.{decimal}
-use Rattle.print.specs.Text.{opText, textOf, anyBad}
+use Rattle.print_rules.specs.Text.{opText, textOf, anyBad}
 use Rattle.decimal.proofs.Meaning.{decimal-one, decimal-more}
-use Rattle.print.proofs.GrammarLaws.{print-spells}
+use Rattle.print_rules.proofs.GrammarLaws.{print-spells}
 use Rattle.sam.proofs.TextLaws.{is-digit}
 use Rattle.sam.specs.Text.{isDigit}
 use Rattle.text_rules.specs.Text.{textOps}

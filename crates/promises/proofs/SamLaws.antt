@@ -15,8 +15,8 @@ use Rattle.sam.specs.Bins.{SmallestBin}
 use Rattle.sam.proofs.LengthLaws as Length
 use Rattle.ops.specs.Ops.{letterOf}
 use Rattle.answers.specs.declared.Nat.the-variants.{Number}
-use Rattle.print.specs.Text.{anyBad, textOf}
-use Rattle.print.proofs.GrammarLaws as Printed
+use Rattle.print_rules.specs.Text.{anyBad, textOf}
+use Rattle.print_rules.proofs.GrammarLaws as Printed
 use Rattle.text_rules.specs.Text.{textOps}
 use Rattle.text_rules.specs.Valid.{validMapped}
 use Rattle.text_rules.specs.Strict.{strict}

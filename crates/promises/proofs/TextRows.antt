@@ -12,7 +12,7 @@ use Rattle.answers.specs.declared.Refusal.the-variants.{ShortRecord, TooManyOps
 use Rattle.answers.specs.declared.Count.{Count}
 use Rattle.answers.specs.declared.Count.the-variants as Count
 use Rattle.answers.specs.declared.Flag.the-variants as Flag
-use Rattle.print.specs.Text.{anyBad, textOf, printed}
+use Rattle.print_rules.specs.Text.{anyBad, textOf, printed}
 use Rattle.text_rules.specs.Text.{textOps}
 use Rattle.text_rules.specs.Strict.{strict}
 use Rattle.validity.specs.Validity.{validity}

@@ -14,7 +14,7 @@ use Rattle.sam.specs.Record.{posOf, matePosOf, flagsOf, isUnmapped, isReverse, 
 use Rattle.clip_runs.specs.Clips.{leadingClips, trailingClips}
 use Rattle.lengths.specs.Lengths.{refLengthOrZero}
 use Rattle.bin_rules.specs.Bin.{spanOf}
-use Rattle.print.specs.Text.{anyBad, textOf}
+use Rattle.print_rules.specs.Text.{anyBad, textOf}
 use Rattle.oplist.specs.Ops.{mostOps, recordOps}
 use Rattle.text_rules.specs.Text.{textOps}
 use Rattle.text_rules.specs.Valid.{validMapped}

@@ -5,7 +5,7 @@ ghost use Rattle.sam.specs.Record.{refIdOf, posOf, nameLenOf, storedBinOf, opCo
 ghost use Rattle.fields.specs.Fields.{intField, natField, posField, partRefusal, cigarPart};
 ghost use Rattle.lengths.specs.Lengths.{refLengthOrZero, recordQueryLength, bothLengths};
 ghost use Rattle.ends_rules.specs.Ends.{unclippedOf, asRust, alignmentStart, alignmentEnd};
-ghost use Rattle.print.specs.Text.{printed};
+ghost use Rattle.print_rules.specs.Text.{printed};
 ghost use Rattle.clip_rules.specs.Answer.{clippedRecord};
 use answers::Count;
 use answers::Int;

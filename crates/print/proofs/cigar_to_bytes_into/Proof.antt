@@ -1,5 +1,5 @@
 -- The measuring walk decides 7 and 6, and what is written fits.
-use Prim.Native.Nat.{ℕ, _≤_}
+use Prim.Native.Nat.{ℕ}
 use mathlib.Core.Path.{_≡_, sym, ap, _∙_}
 use native.Mathlib.Omega.{arith}
 use borrow.Author.Needs.{needs}
@@ -7,14 +7,14 @@ use mathlib.Core.Bool.{false}
 use mathlib.Core.List.{List, []}
 use lib.ListN.{length}
 use lib.Seq.{sets}
-use borrow.Author.Tests.{lt-ltb, le-ltb}
 use Rattle.lists.proofs.Stores.{sets-splice}
 use Rattle.answers.proofs.Unique.{settled, outcome}
 use Rattle.answers.specs.declared.Count.the-variants as Count
 use Rattle.oplist.specs.Ops.{recordOps}
-use Rattle.print.specs.Text.{textOf, anyBad, printed}
-use Rattle.print.specs.Inner.{roomOf}
-use Rattle.print.proofs.PrintLaws.{room-bad, room-some}
+use Rattle.print_rules.specs.Text.{textOf, anyBad}
+use Rattle.print_rules.specs.Inner.{roomOf}
+use Rattle.print_rules.proofs.PrintLaws.{room-bad, room-some}
+use Rattle.print_rules.proofs.AnswerLaws.{short, bad-code, no-room, fits}
 use Rattle.print.proofs.cigar_to_bytes_into.Statement.{statement}
 use Rattle.print.proofs.cigar_to_bytes_into.Tie as tie
 
@@ -29,8 +29,7 @@ unfolding roomOf
 told c = room-some _ _ _ (sym (room (c .before .before)) ∙ c .n .given .1)
 
 returns : tie.Need-returns
-unfolding printed
-returns c = settled (simp (lt-ltb _ _ (c .if1 .taken)))
+returns c = settled (short _ _ (c .if1 .taken))
 
 of-record-requires : tie.Need-of-record-requires
 of-record-requires c κs = search needs
@@ -48,19 +47,18 @@ enum-told : tie.Need-enum-told
 enum-told c = search needs
 
 returns-2 : tie.Need-returns-2
-unfolding printed roomOf
+unfolding roomOf
 returns-2 c =
     let m = c .before .before in
     let b = m .before .before .before .before .before .before .args .bam .now in
-    settled (rw (le-ltb (length b) 32 (m .before .before .before .if1 .left), room-bad (anyBad (recordOps b)) _ (sym (room m) ∙ c .enum-told .given .1)))
+    settled (bad-code b _ (m .before .before .before .if1 .left) (room-bad (anyBad (recordOps b)) _ (sym (room m) ∙ c .enum-told .given .1)))
 
 returns-3 : tie.Need-returns-3
-unfolding printed
 returns-3 c =
     let m = c .before .before in
     let a = m .before .before .before .before .before .before .before .before .args in
     let t = told m in
-    settled (rw (le-ltb (length (a .bam .now)) 32 (m .before .before .before .before .before .if1 .left), t .0, t .1, lt-ltb (length (a .out .now)) (m .n .given .0 .0) (c .if2 .taken)))
+    settled (no-room (a .bam .now) (a .out .now) (m .before .before .before .before .before .if1 .left) (t .0) (omega (arith, t .1, c .if2 .taken)))
 
 slice-aggregate-put-text : tie.Need-slice-aggregate-put-text
 slice-aggregate-put-text c = search needs
@@ -76,7 +74,6 @@ same-length : tie.Need-same-length
 same-length c = search needs
 
 returns-4 : tie.Need-returns-4
-unfolding printed
 returns-4 c =
     let w = c .before .before in
     let e = w .before .before .before in
@@ -84,9 +81,8 @@ returns-4 c =
     let a = m .before .before .before .before .before .before .before .before .args in
     let ops = recordOps (a .bam .now) in
     let t = told m in
-    let fits : length (textOf ops) ≤ length (a .out .now) = omega (arith, t .1, e .if2 .left) in
-    settled (rw (le-ltb (length (a .bam .now)) 32 (m .before .before .before .before .before .if1 .left), t .0, le-ltb (length (a .out .now)) (length (textOf ops)) fits)
-    (outcome (ap Count.Number (sym (t .1)))
+    settled (fits (a .bam .now) (a .out .now) (m .before .before .before .before .before .if1 .left) (t .0) (omega (arith, t .1, e .if2 .left))
+    ∙ (outcome (ap Count.Number (sym (t .1)))
     (w .put-text .ensures ∙ ap (λ (xs : List ℕ). sets (a .out .now) 0 (textOf xs)) (m .before .before .before .before .of-record .ensures .0 _) ∙ sets-splice (a .out .now) 0 (textOf ops) (omega arith))))
 
 pub cigar-to-bytes-into-spec : {M : Type 1} → statement M

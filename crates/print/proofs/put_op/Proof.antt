@@ -1,7 +1,7 @@
 -- The digits are stored, then the letter behind them.
 use native.Mathlib.Omega.{arith}
 use borrow.Author.Needs.{needs}
-use Rattle.print.proofs.PrintLaws.{opText-length, op-stores}
+use Rattle.print_rules.proofs.PrintLaws.{opText-length, op-stores}
 use Rattle.print.proofs.put_op.Statement.{statement}
 use Rattle.print.proofs.put_op.Tie as tie
 

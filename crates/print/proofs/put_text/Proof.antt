@@ -5,8 +5,8 @@ use native.Mathlib.Omega.{arith}
 use lib.ListN.{length, drop}
 use lib.Seq.{sets}
 use Rattle.oplist.specs.Ops.{opsOf}
-use Rattle.print.specs.Text.{textOf}
-use Rattle.print.proofs.PrintLaws.{length-step, text-turn, text-done}
+use Rattle.print_rules.specs.Text.{textOf}
+use Rattle.print_rules.proofs.PrintLaws.{length-step, text-turn, text-done}
 use Rattle.print.proofs.put_text.Statement.{statement}
 use Rattle.print.proofs.put_text.Tie as tie
 

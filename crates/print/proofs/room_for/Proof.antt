@@ -6,10 +6,10 @@ use mathlib.Core.Bool.{true}
 use lib.ListN.{length, drop}
 use borrow.Author.Tests.{lt-ltb, le-ltb}
 use Rattle.oplist.specs.Ops.{opsOf}
-use Rattle.print.specs.Text.{textOf, anyBad}
-use Rattle.print.specs.Inner.{roomOf}
-use Rattle.print.specs.declared.Room.the-variants as Room
-use Rattle.print.proofs.PrintLaws.{opText-length, length-step, bad-step, text-done, bad-done}
+use Rattle.print_rules.specs.Text.{textOf, anyBad}
+use Rattle.print_rules.specs.Inner.{roomOf}
+use Rattle.print_rules.specs.declared.Room.the-variants as Room
+use Rattle.print_rules.proofs.PrintLaws.{opText-length, length-step, bad-step, text-done, bad-done}
 use Rattle.print.proofs.room_for.Statement.{statement}
 use Rattle.print.proofs.room_for.Tie as tie
 

@@ -6,7 +6,7 @@ use native.Mathlib.Omega.{arith}
 use Rattle.answers.specs.Answers.{numberOf}
 use Rattle.oplist.specs.Ops.{recordOps}
 use Rattle.decimal.specs.Decimal.{decimal}
-use Rattle.print.specs.Text.{textOf}
+use Rattle.print_rules.specs.Text.{textOf}
 use Rattle.line_rules.specs.Line.{tabbed, refusedFields, orStar}
 use Rattle.line_rules.specs.Inner.{TextPut, rowFields}
 use Rattle.line_rules.specs.declared.Text.{Text}

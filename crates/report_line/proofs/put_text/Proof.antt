@@ -4,7 +4,7 @@ use mathlib.Core.Path.{_≡_, refl, ap}
 use mathlib.Core.List.{List, [], _∷_}
 use native.Mathlib.Omega.{arith}
 use lib.ListN.{length}
-use Rattle.print.specs.Text.{textOf}
+use Rattle.print_rules.specs.Text.{textOf}
 use Rattle.oplist.specs.Ops.{recordOps}
 use borrow.Rule.Slice.PartMut.{putMid}
 use Rattle.answers.specs.declared.Count.the-variants as Count

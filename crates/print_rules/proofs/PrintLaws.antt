@@ -12,8 +12,8 @@ use Rattle.sam.specs.Op.{lenOf, codeOf}
 use Rattle.ops.specs.Ops.{letterOf}
 use Rattle.decimal.specs.Inner.{Width, lastDigits}
 use Rattle.decimal.proofs.DigitLaws.{sets-append, length-digits, decimal-digits}
-use Rattle.print.specs.Text.{opText, textOf, anyBad}
-use Rattle.print.specs.declared.Room.the-variants as Room
+use Rattle.print_rules.specs.Text.{opText, textOf, anyBad}
+use Rattle.print_rules.specs.declared.Room.the-variants as Room
 
 pub opText-digits : (op r : ℕ) → Width (lenOf op) r → opText op ≡ lastDigits r (lenOf op) ++ (letterOf (codeOf op) ∷ [])
 unfolding opText

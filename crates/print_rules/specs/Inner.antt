@@ -3,9 +3,9 @@ use Prim.Native.Nat.{ℕ}
 use mathlib.Core.Bool.{cond}
 use mathlib.Core.List.{List}
 use lib.ListN.{length}
-use Rattle.print.specs.Text.{anyBad, textOf}
-use Rattle.print.specs.declared.Room.{Room}
-use Rattle.print.specs.declared.Room.the-variants as Room
+use Rattle.print_rules.specs.Text.{anyBad, textOf}
+use Rattle.print_rules.specs.declared.Room.{Room}
+use Rattle.print_rules.specs.declared.Room.the-variants as Room
 
 unfoldable pub roomOf : List ℕ → Room
 roomOf xs = cond (anyBad xs) Room.BadCode (Room.Bytes (length (textOf xs)))

@@ -1,2 +1,3 @@
 pub mod GrammarLaws
 pub mod PrintLaws
+pub mod AnswerLaws

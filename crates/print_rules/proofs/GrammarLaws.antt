@@ -13,7 +13,7 @@ use Rattle.sam.specs.Text.{Digits, value, Spells, Spells.end, Spells.op, Cigar}
 use Rattle.ops.specs.Ops.{letterOf}
 use Rattle.decimal.specs.Decimal.{decimal}
 use Rattle.decimal.proofs.Meaning.{decimal-means}
-use Rattle.print.specs.Text.{opText, textOf, anyBad}
+use Rattle.print_rules.specs.Text.{opText, textOf, anyBad}
 
 op-spells : (o : ℕ) (s xs : List ℕ) → codeOf o < 9 → Spells s xs → Spells (opText o ++ s) (o ∷ xs)
 unfolding opText letterOf
