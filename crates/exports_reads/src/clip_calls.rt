@@ -1,19 +1,8 @@
 // Clipping.
-ghost use mathlib.Core.Path.{_≡_};
 ghost use Rattle.answers.specs.Settled.{Settled};
 ghost use Rattle.clip_rules.specs.Answer.{clipped, clippedRecord, tellClipped};
 ghost use Rattle.border.specs.Border.{twoOf, across, flagged};
 use border::ToldTwo;
-use clip_rules::Clipped;
-
-fn told_clipped(answer: Clipped) -> ToldTwo
-    ensures { λ r. ⌜ r ≡ twoOf (tellClipped answer) ⌝ }
-{
-    match answer {
-        Clipped::Done(n, count) => border::two(n, count),
-        Clipped::Refused(why) => border::refused_two(why),
-    }
-}
 
 #[no_mangle]
 pub extern "C" fn cigar_clip_cigar_ops_raw(
@@ -24,7 +13,7 @@ pub extern "C" fn cigar_clip_cigar_ops_raw(
 ) -> ToldTwo
     ensures { λ r. ⌜ Settled (across twoOf tellClipped (clipped (now (ops .entry)) amount (flagged start) (now (out .entry)))) r (now (out .exit)) ⌝ }
 {
-    told_clipped(clip::clip_cigar_ops_raw(ops, amount, border::flag(start), out))
+    border_reads::told_clipped(clip::clip_cigar_ops_raw(ops, amount, border::flag(start), out))
 }
 
 #[no_mangle]
@@ -36,5 +25,5 @@ pub extern "C" fn cigar_clip_cigar_ops(
 ) -> ToldTwo
     ensures { λ r. ⌜ Settled (across twoOf tellClipped (clippedRecord (now (rec .entry)) amount (flagged start) (now (out .entry)))) r (now (out .exit)) ⌝ }
 {
-    told_clipped(clip::clip_cigar_ops(rec, amount, border::flag(start), out))
+    border_reads::told_clipped(clip::clip_cigar_ops(rec, amount, border::flag(start), out))
 }

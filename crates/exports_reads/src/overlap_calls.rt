@@ -10,7 +10,6 @@ use answers::Pos1;
 use border::ToldCount;
 use border::ToldFlag;
 use border::ToldTwo;
-use overlap_rules::Overhang;
 
 #[no_mangle]
 pub extern "C" fn cigar_is_mapped_opposite_strand_pair_raw(rec: &[u8]) -> ToldFlag
@@ -72,15 +71,6 @@ pub extern "C" fn cigar_num_bases_extending_past_mate_vs_mate_raw(
     border::told_count(overlap::num_bases_extending_past_mate_vs_mate_raw(rec, mate))
 }
 
-fn told_overhang(answer: Overhang) -> ToldTwo
-    ensures { λ r. ⌜ r ≡ twoOf (tellOverhang answer) ⌝ }
-{
-    match answer {
-        Overhang::Bases(bases, written) => border::two(bases, written),
-        Overhang::Refused(why) => border::refused_two(why),
-    }
-}
-
 #[no_mangle]
 pub extern "C" fn cigar_num_bases_extending_past_mate_text_raw(
     rec: &[u8],
@@ -89,5 +79,5 @@ pub extern "C" fn cigar_num_bases_extending_past_mate_text_raw(
 ) -> ToldTwo
     ensures { λ r. ⌜ Settled (across twoOf tellOverhang (pastMateText (now (rec .entry)) (now (text .entry)) (now (out .entry)))) r (now (out .exit)) ⌝ }
 {
-    told_overhang(overlap_text::num_bases_extending_past_mate_text_raw(rec, text, out))
+    border_reads::told_overhang(overlap_text::num_bases_extending_past_mate_text_raw(rec, text, out))
 }

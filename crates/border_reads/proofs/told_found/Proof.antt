@@ -1,7 +1,7 @@
 -- A number or none, and the count; or the number of a refusal.
 use borrow.Author.Needs.{needs}
-use Rattle.exports_reads.proofs.lookup_calls.told_found.Statement.{statement}
-use Rattle.exports_reads.proofs.lookup_calls.told_found.Tie as tie
+use Rattle.border_reads.proofs.told_found.Statement.{statement}
+use Rattle.border_reads.proofs.told_found.Tie as tie
 
 enum-known-answer : tie.Need-enum-known-answer
 enum-known-answer c = search needs
