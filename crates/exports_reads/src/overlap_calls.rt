@@ -79,5 +79,9 @@ pub extern "C" fn cigar_num_bases_extending_past_mate_text_raw(
 ) -> ToldTwo
     ensures { λ r. ⌜ Settled (across twoOf tellOverhang (pastMateText (now (rec .entry)) (now (text .entry)) (now (out .entry)))) r (now (out .exit)) ⌝ }
 {
-    border_reads::told_overhang(overlap_text::num_bases_extending_past_mate_text_raw(rec, text, out))
+    border_reads::told_overhang(overlap_text::num_bases_extending_past_mate_text_raw(
+        rec,
+        text,
+        out,
+    ))
 }
