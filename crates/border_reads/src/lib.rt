@@ -1,13 +1,13 @@
 // How the answers of clipping, lookup and the overhang by text cross the C border. An inner crate of the static library `exports_reads`.
 ghost use mathlib.Core.Path.{_≡_};
 ghost use Rattle.clip_rules.specs.Answer.{tellClipped};
-ghost use Rattle.lookup.specs.Lookup.{tellFound};
+ghost use Rattle.lookup_rules.specs.Lookup.{tellFound};
 ghost use Rattle.overlap_rules.specs.Overlap.{tellOverhang};
 ghost use Rattle.border.specs.Border.{twoOf, lookupOf};
 use border::ToldLookup;
 use border::ToldTwo;
 use clip_rules::Clipped;
-use lookup::Found;
+use lookup_rules::Found;
 use overlap_rules::Overhang;
 
 // The ops written and the count.

@@ -1,6 +1,6 @@
 // Lookup.
 ghost use mathlib.Core.Path.{_≡_};
-ghost use Rattle.lookup.specs.Lookup.{looked, tellFound};
+ghost use Rattle.lookup_rules.specs.Lookup.{looked, tellFound};
 ghost use Rattle.border.specs.Border.{lookupOf, flagged};
 use border::ToldLookup;
 

@@ -1,4 +1,1 @@
-pub mod Lookup
-pub mod Examined
 pub mod InnerLookup
-pub mod Meaning

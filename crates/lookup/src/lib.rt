@@ -2,18 +2,12 @@
 ghost use mathlib.Core.Path.{_≡_};
 ghost use Prim.Native.Nat.{_≤_, max};
 ghost use Rattle.oplist.specs.Ops.{opsOf};
-ghost use Rattle.lookup.specs.Lookup.{look, looked, counted, readOver};
-ghost use Rattle.lookup.specs.Examined.{placeOf};
+ghost use Rattle.lookup_rules.specs.Lookup.{look, looked, counted, readOver};
+ghost use Rattle.lookup_rules.specs.Examined.{placeOf};
 ghost use Rattle.lookup.specs.InnerLookup.{spotOf, overOf};
 use answers::Refusal;
+use lookup_rules::Found;
 use oplist::Ops;
-
-// A query position, counted from 1, or none; and how many ops were examined.
-pub enum Found {
-    At(u64, u32),
-    Nothing(u32),
-    Refused(Refusal),
-}
 
 // What stands over a reference base: a query base; none, as the read lacks it; or there is no such reference base.
 pub enum Over {

@@ -27,8 +27,8 @@ use Rattle.ends_rules.specs.Tails.{greatestRun}
 use Rattle.ends_rules.specs.Ends.{provided, trailingSum, unclippedStart, unclippedEnd, fivePrime, toPlace0, toPlace1, plusOne, noOps, asUnclipped, unclippedAt, unclippedOf, asRust, unclippedFrom, alignmentStart, alignmentEnd}
 use Rattle.ends_rules.specs.declared.Unclipped.{Unclipped}
 use Rattle.ends_rules.specs.declared.Unclipped.the-variants as Unclipped
-use Rattle.lookup.specs.Lookup.{Answer, Nothing, Refused, look, readOver, lookup, counted, looked, tellFound}
-use Rattle.lookup.specs.Examined.{examined}
+use Rattle.lookup_rules.specs.Lookup.{Answer, Nothing, Refused, look, readOver, lookup, counted, looked, tellFound}
+use Rattle.lookup_rules.specs.Examined.{examined}
 use Rattle.promises.specs.Table.{Gives}
 use Rattle.promises.specs.Rows.{over, endSums, unclippedRows, unclippedFromRows, startRows, endRows, lookupRows}
 use Rattle.promises.proofs.RowLaws.{number-alone, answer, row, row-either, row-unless, row-sum}

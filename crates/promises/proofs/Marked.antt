@@ -12,8 +12,8 @@ use Rattle.text_rules.specs.Text.{indexOf, letterCode, effectOf, rowFrom, opsFr
 use Rattle.text_rules.specs.Valid.{isEmpty, allHard, anyRef, each, validMapped}
 use Rattle.text_rules.specs.Strict.{strict}
 use Rattle.strict_text.specs.Parsed.{parsed}
-use Rattle.lookup.specs.Lookup.{look, lookup, looked}
-use Rattle.lookup.specs.Examined.{reached, firstAbove, placeOf, examined}
+use Rattle.lookup_rules.specs.Lookup.{look, lookup, looked}
+use Rattle.lookup_rules.specs.Examined.{reached, firstAbove, placeOf, examined}
 use Rattle.signed.specs.Equal.{eqℤ}
 use Rattle.bin_rules.specs.Bin.{low16, firstAgreed, binTo, reg2bin}
 use Rattle.promises.specs.Marked.{marked, calls, sayings}

@@ -24,8 +24,8 @@ use Rattle.ends_rules.specs.Ends.{unclippedStart, unclippedEnd, alignmentStart,
 use Rattle.ends_rules.specs.Tails.{greatestRun, Reached}
 use Rattle.ends_rules.proofs.Meaning as Ends
 use Rattle.ends_rules.proofs.RunMost as Runs
-use Rattle.lookup.specs.Examined.{examined, Deciding}
-use Rattle.lookup.proofs.PlaceLaws as Places
+use Rattle.lookup_rules.specs.Examined.{examined, Deciding}
+use Rattle.lookup_rules.proofs.PlaceLaws as Places
 use Rattle.pairs_rules.specs.Pairs.{isOpposite, startOf, lastOf, oppositePair, frPair, primaryFrPair}
 use Rattle.pairs_rules.specs.Needed.{SamePair, SameReverse}
 use Rattle.pairs_rules.proofs.Edges as Edges

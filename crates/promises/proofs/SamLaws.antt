@@ -27,9 +27,9 @@ use Rattle.promises.specs.RoundTrip.{withoutZeros}
 use Rattle.promises.proofs.RoundTrip as Round
 use Rattle.mate_rules.specs.Readers.{Agree}
 use Rattle.mate_rules.proofs.Agree as Mate
-use Rattle.lookup.specs.Lookup.{Answer, lookup}
-use Rattle.lookup.specs.Meaning.{InBounds, Reads}
-use Rattle.lookup.proofs.LookupLaws as Looked
+use Rattle.lookup_rules.specs.Lookup.{Answer, lookup}
+use Rattle.lookup_rules.specs.Meaning.{InBounds, Reads}
+use Rattle.lookup_rules.proofs.LookupLaws as Looked
 use Rattle.bin_rules.specs.Bin.{binOf, low16, reg2bin}
 use Rattle.bin_rules.proofs.Smallest as Bins
 use Rattle.clip_rules.specs.Clipping.{clip}

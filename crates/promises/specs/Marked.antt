@@ -8,7 +8,7 @@ use Rattle.answers.specs.Answers.{Told, answered, some, none, tellCount, tellNa
 use Rattle.answers.specs.Settled.{Outcome, keeps}
 use Rattle.clip_rules.specs.Answer.{clipped, tellClipped}
 use Rattle.strict_text.specs.Parsed.{parsed}
-use Rattle.lookup.specs.Lookup.{looked, tellFound}
+use Rattle.lookup_rules.specs.Lookup.{looked, tellFound}
 use Rattle.bin_rules.specs.Bin.{reg2bin}
 
 -- one row of the table: what the call comes to, and what document 01 says

@@ -1,11 +1,11 @@
 -- What the walk has passed stands before what it sees in the rest: each op holds the reference base, or is passed.
 use Rattle.oplist.specs.Ops.{opsOf}
 use Rattle.sam.specs.Columns.{past}
-use Rattle.lookup.specs.Lookup.{look}
+use Rattle.lookup_rules.specs.Lookup.{look}
 use Rattle.sam.proofs.ColumnLaws.{past-none, spot-eq}
-use Rattle.lookup.specs.Examined.{placeOf}
-use Rattle.lookup.proofs.FindLaws.{look-turn, look-held, look-done}
-use Rattle.lookup.proofs.PlaceLaws.{place-turn, place-held, place-done}
+use Rattle.lookup_rules.specs.Examined.{placeOf}
+use Rattle.lookup_rules.proofs.FindLaws.{look-turn, look-held, look-done}
+use Rattle.lookup_rules.proofs.PlaceLaws.{place-turn, place-held, place-done}
 use lib.ListN.{drop}
 use mathlib.Core.Bool.{true, false}
 use Prim.Native.Nat.{_+_, _*_, _-_, _≤_}

@@ -1,6 +1,6 @@
 -- By cases on what stands over the reference base.
 use Prim.Native.Nat.{ℕ}
-use Rattle.lookup.specs.declared.Found.the-variants.{At}
+use Rattle.lookup_rules.specs.declared.Found.the-variants.{At}
 use mathlib.Core.Path.{refl, ap}
 use borrow.Author.Needs.{needs}
 use Rattle.lookup.proofs.read_over.Statement.{statement}

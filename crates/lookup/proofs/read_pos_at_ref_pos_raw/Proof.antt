@@ -5,11 +5,11 @@ use mathlib.Core.List.{List}
 use native.Mathlib.Omega.{arith}
 use borrow.Author.Tests.{lt-ltb, le-ltb}
 use Rattle.sam.specs.Columns.{Spot}
-use Rattle.lookup.specs.Lookup.{look, lookup, looked, counted, readOver}
-use Rattle.lookup.specs.Examined.{placeOf, examined}
-use Rattle.lookup.specs.Meaning.{InBounds}
-use Rattle.lookup.proofs.LookupLaws.{looked-at}
-use Rattle.lookup.proofs.PlaceLaws.{place-most}
+use Rattle.lookup_rules.specs.Lookup.{look, lookup, looked, counted, readOver}
+use Rattle.lookup_rules.specs.Examined.{placeOf, examined}
+use Rattle.lookup_rules.specs.Meaning.{InBounds}
+use Rattle.lookup_rules.proofs.LookupLaws.{looked-at}
+use Rattle.lookup_rules.proofs.PlaceLaws.{place-most}
 use borrow.Author.Needs.{needs}
 use Rattle.lookup.proofs.read_pos_at_ref_pos_raw.Statement.{statement}
 use Rattle.lookup.proofs.read_pos_at_ref_pos_raw.Tie as tie

@@ -8,7 +8,7 @@ use mathlib.Core.Logic.{_⊎_}
 use lib.ListN.{length}
 use Rattle.sam.specs.Columns.{Column, Both, Reference, queries, refs}
 use Rattle.oplist.specs.Ops.{mostOps}
-use Rattle.lookup.specs.Lookup.{Answer, At, Nothing}
+use Rattle.lookup_rules.specs.Lookup.{Answer, At, Nothing}
 
 -- what the call answers for: at most 65,535 ops, and a start from 1 to 2^31
 pub record InBounds (xs : List ℕ) (start : ℕ) : Type 0 where

@@ -9,7 +9,7 @@ use borrow.Author.Tests.{lt-ltb, le-ltb}
 use Rattle.lists.proofs.Walks.{step, done}
 use Rattle.sam.specs.Columns.{Off, Spot, past}
 use Rattle.sam.specs.Op.{codeOf, isQuery, queryLen, refLen}
-use Rattle.lookup.specs.Lookup.{spotIn, look}
+use Rattle.lookup_rules.specs.Lookup.{spotIn, look}
 use Rattle.sam.proofs.ColumnLaws.{past-past, spot-eq}
 
 module _ (xs : List ℕ) (i o : ℕ) (e : o ≡ getD xs i 0) (h : i < length xs) where

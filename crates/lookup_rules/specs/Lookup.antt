@@ -11,9 +11,9 @@ use Rattle.answers.specs.Answers.{Told, answered, refused, some, none}
 use Rattle.answers.specs.declared.Refusal.{Refusal}
 use Rattle.answers.specs.declared.Refusal.the-variants.{TooManyOps, BadStart}
 use Rattle.oplist.specs.Ops.{mostOps}
-use Rattle.lookup.specs.Examined.{examined}
-use Rattle.lookup.specs.declared.Found.{Found}
-use Rattle.lookup.specs.declared.Found.the-variants as Found
+use Rattle.lookup_rules.specs.Examined.{examined}
+use Rattle.lookup_rules.specs.declared.Found.{Found}
+use Rattle.lookup_rules.specs.declared.Found.the-variants as Found
 
 -- a query position, counted from 1; none; or why not
 pub data Answer : Type 0 where

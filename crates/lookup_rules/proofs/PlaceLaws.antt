@@ -10,8 +10,8 @@ use borrow.Author.Tests.{ltb-true, ltb-false, lt-ltb, le-ltb}
 use Rattle.lists.specs.Lists.{sumOf}
 use Rattle.lists.proofs.Walks.{step, done}
 use Rattle.sam.specs.Op.{refLen}
-use Rattle.lookup.specs.Examined.{reached, firstAbove, placeOf, examined, Deciding}
-use Rattle.lookup.specs.Examined as means
+use Rattle.lookup_rules.specs.Examined.{reached, firstAbove, placeOf, examined, Deciding}
+use Rattle.lookup_rules.specs.Examined as means
 
 -- the first op decides
 first : (o k : ℕ) (xs : List ℕ) → k < refLen o → placeOf (o ∷ xs) k ≡ 1

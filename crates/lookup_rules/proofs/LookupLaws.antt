@@ -9,10 +9,10 @@ use lib.Dec.{ltb}
 use borrow.Author.Tests.{ltb-true, ltb-false, lt-ltb, le-ltb}
 use Rattle.sam.specs.Op.{lenOf, codeOf, isRef, isQuery, queryLen, refLen}
 use Rattle.sam.specs.Columns.{Spot, Column, spell, columns, Seen, base, gap, off, past}
-use Rattle.lookup.specs.Lookup.{Answer, Nothing, spotIn, look, readOver, lookup, counted, looked}
-use Rattle.lookup.specs.Examined.{placeOf, examined}
-use Rattle.lookup.specs.Meaning.{InBounds, Reads}
-use Rattle.lookup.specs.Meaning as means
+use Rattle.lookup_rules.specs.Lookup.{Answer, Nothing, spotIn, look, readOver, lookup, counted, looked}
+use Rattle.lookup_rules.specs.Examined.{placeOf, examined}
+use Rattle.lookup_rules.specs.Meaning.{InBounds, Reads}
+use Rattle.lookup_rules.specs.Meaning as means
 use Rattle.sam.proofs.ColumnLaws.{seen, seen-past, seen-in, seen-both, seen-gap, seen-is, is-seen, queries-spell, refs-spell}
 
 -- within one op
