@@ -63,5 +63,5 @@ unfoldable pub inside : List ℕ → List ℕ
 inside xs = afterRun isSoft (afterRun isHard xs)
 
 -- "clips after the last reference op"; 0 where there is no reference op
-unfoldable pub trailingClips : List ℕ → ℕ
-trailingClips xs = sumOf clipLen (afterLast (λ o. isRef (codeOf o)) xs)
+unfoldable pub clipsAfterReference : List ℕ → ℕ
+clipsAfterReference xs = sumOf clipLen (afterLast (λ o. isRef (codeOf o)) xs)

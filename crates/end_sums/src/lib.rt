@@ -7,7 +7,7 @@ ghost use Rattle.lists.specs.Lists.{sumOf};
 ghost use Rattle.signed.specs.declared.Sum.the-variants.{Number};
 ghost use Rattle.sam.specs.Op.{refLen};
 ghost use Rattle.oplist.specs.Ops.{opsOf};
-ghost use Rattle.clip_runs.specs.Clips.{trailingClips};
+ghost use Rattle.clip_runs.specs.Clips.{clipsAfterReference};
 ghost use Rattle.ends_rules.specs.Sums.{_⊕_, _⊖_, summed};
 ghost use Rattle.ends_rules.specs.Ends.{provided};
 ghost use Rattle.ends_rules.specs.Tails.{greatestRun};
@@ -55,7 +55,7 @@ fn meet(w: Tail, op: u32) -> Tail
 
 // The walk to the end.
 pub fn tail_of(words: &[u32], rec: &[u8], list: Ops) -> Tail
-    ensures { λ r. ⌜ (r .refs ≡ sumOf refLen (opsOf (now (words .entry)) (now (rec .entry)) list)) × (r .clips ≡ trailingClips (opsOf (now (words .entry)) (now (rec .entry)) list)) × (r .most ≡ greatestRun (opsOf (now (words .entry)) (now (rec .entry)) list)) × (r .clips ≤ r .most) ⌝ }
+    ensures { λ r. ⌜ (r .refs ≡ sumOf refLen (opsOf (now (words .entry)) (now (rec .entry)) list)) × (r .clips ≡ clipsAfterReference (opsOf (now (words .entry)) (now (rec .entry)) list)) × (r .most ≡ greatestRun (opsOf (now (words .entry)) (now (rec .entry)) list)) × (r .clips ≤ r .most) ⌝ }
 {
     let n = oplist::count(words, rec, list);
     let mut w = Tail {

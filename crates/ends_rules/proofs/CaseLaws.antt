@@ -13,7 +13,7 @@ use Rattle.sam.specs.Op.{refLen}
 use Rattle.sam.specs.Record.{posOf, flagsOf, isUnmapped, isReverse}
 use Rattle.oplist.specs.Ops.{recordOps}
 use Rattle.lengths.specs.Lengths.{askedLength}
-use Rattle.clip_runs.specs.Clips.{leadingClips, trailingClips}
+use Rattle.clip_runs.specs.Clips.{leadingClips, clipsAfterReference}
 use Rattle.answers.specs.declared.Pos0.{Pos0}
 use Rattle.answers.specs.declared.Place0.the-variants as Place0
 use Rattle.answers.specs.declared.Place1.the-variants.{Nothing}
@@ -73,6 +73,6 @@ module _ (at : ℤ) (xs : List ℕ) where
   unfolding fivePrime unclippedStart
   forward t clips f c = simp (f, c)
 
-  pub backward : (t : Bool) (w : Tail) → t ≡ true → w .refs ≡ sumOf refLen xs → w .clips ≡ trailingClips xs → w .most ≡ greatestRun xs → Number at ⊕ summed (w .refs) ⊕ provided (summed (w .most)) (Number (pos (w .clips))) ⊖ Number (pos 1) ≡ fivePrime t at xs
+  pub backward : (t : Bool) (w : Tail) → t ≡ true → w .refs ≡ sumOf refLen xs → w .clips ≡ clipsAfterReference xs → w .most ≡ greatestRun xs → Number at ⊕ summed (w .refs) ⊕ provided (summed (w .most)) (Number (pos (w .clips))) ⊖ Number (pos 1) ≡ fivePrime t at xs
   unfolding fivePrime unclippedEnd trailingSum
   backward t w f r c m = simp (f, r, c, m)

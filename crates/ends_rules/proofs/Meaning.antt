@@ -21,7 +21,7 @@ use Rattle.answers.specs.declared.Place1.{Place1}
 use Rattle.answers.specs.declared.Place1.the-variants as Place1
 use Rattle.answers.specs.declared.Refusal.the-variants.{ShortRecord}
 use Rattle.lengths.specs.Lengths.{askedLength}
-use Rattle.clip_runs.specs.Clips.{leadingClips, trailingClips}
+use Rattle.clip_runs.specs.Clips.{leadingClips, clipsAfterReference}
 use Rattle.ends_rules.specs.Sums.{both, summed}
 use Rattle.ends_rules.specs.Tails.{greatestRun}
 use Rattle.ends_rules.specs.Ends.{unclippedStart, provided, trailingSum, unclippedEnd, toPlace1, plusOne, alignmentStart, endAt, alignmentEnd}
@@ -68,14 +68,14 @@ module _ (at : ℤ) (xs : List ℕ) (z : ℤ) where
       joined _-ℤ_ (number-is at (p .left) (p .left-is)) (checked-is _ _ (p .right-is)) (p .is)
 
   -- "reverse plus reference length plus clips after the last reference op, less 1"; the reference length is the count of reference bases in the columns
-  pub end-is : unclippedEnd at xs ≡ Number z → at +ℤ pos (refs (columns xs)) +ℤ pos (trailingClips xs) -ℤ pos 1 ≡ z
+  pub end-is : unclippedEnd at xs ≡ Number z → at +ℤ pos (refs (columns xs)) +ℤ pos (clipsAfterReference xs) -ℤ pos 1 ≡ z
   unfolding unclippedEnd trailingSum
   end-is e =
       let p = parts _-ℤ_ _ _ z e in
       let q = parts _+ℤ_ _ _ (p .left) (p .left-is) in
       let s = parts _+ℤ_ _ _ (q .left) (q .left-is) in
       let b : pos (refs (columns xs)) ≡ s .right = ap pos (sym (reference-length xs)) ∙ checked-is _ _ (s .right-is) in
-      let c : pos (trailingClips xs) ≡ q .right = provided-is (summed (greatestRun xs)) _ _ (q .right-is) in
+      let c : pos (clipsAfterReference xs) ≡ q .right = provided-is (summed (greatestRun xs)) _ _ (q .right-is) in
       joined _-ℤ_
       (joined _+ℤ_ (joined _+ℤ_ (number-is at (s .left) (s .left-is)) b (s .is)) c (q .is))
       (number-is (pos 1) (p .right) (p .right-is))

@@ -11,7 +11,7 @@ use Rattle.lists.specs.Lists.{sumOf}
 use Rattle.lists.specs.Runs.{leading, holds, afterLast}
 use Rattle.lists.proofs.Absurd.{false-true}
 use Rattle.lists.proofs.RunLaws.{after-none}
-use Rattle.clip_runs.specs.Clips.{clipLen, trailingClips}
+use Rattle.clip_runs.specs.Clips.{clipLen, clipsAfterReference}
 use Rattle.ends_rules.specs.Tails.{refOp, clipsToNext, greatestRun, Reached}
 use Rattle.ends_rules.proofs.TailLaws.{sum-pick, no-clips, next-ref, run-ref, next-other, run-other}
 
@@ -48,12 +48,12 @@ all-between (o ∷ xs) e = go (refOp o) (all-between xs) e
 -- ---- the clips after the last reference op, one op on
 
 module _ (o : ℕ) (xs : List ℕ) where
-  trail-ref : refOp o ≡ true → (t : Bool) → holds refOp xs ≡ t → trailingClips (o ∷ xs) ≡ cond t (trailingClips xs) (sumOf clipLen xs)
-  unfolding afterLast trailingClips
+  trail-ref : refOp o ≡ true → (t : Bool) → holds refOp xs ≡ t → clipsAfterReference (o ∷ xs) ≡ cond t (clipsAfterReference xs) (sumOf clipLen xs)
+  unfolding afterLast clipsAfterReference
   trail-ref e t q = simp (e, q) (sum-pick clipLen t (afterLast refOp xs) xs)
 
-  trail-other : refOp o ≡ false → trailingClips (o ∷ xs) ≡ trailingClips xs
-  unfolding afterLast trailingClips sumOf
+  trail-other : refOp o ≡ false → clipsAfterReference (o ∷ xs) ≡ clipsAfterReference xs
+  unfolding afterLast clipsAfterReference sumOf
   trail-other e = simp e (go (holds refOp xs) refl)
     where
       go : (t : Bool) → holds refOp xs ≡ t → sumOf clipLen (cond t (afterLast refOp xs) []) ≡ sumOf clipLen (afterLast refOp xs)
@@ -88,17 +88,17 @@ next-all : (xs : List ℕ) → holds refOp xs ≡ false → clipsToNext xs ≡ s
 unfolding clipsToNext
 next-all xs e = ap (sumOf clipLen) (all-between xs e)
 
-run-whole : (xs : List ℕ) → trailingClips xs ≤ greatestRun xs
-unfolding trailingClips afterLast sumOf
+run-whole : (xs : List ℕ) → clipsAfterReference xs ≤ greatestRun xs
+unfolding clipsAfterReference afterLast sumOf
 run-whole [] = omega arith
 run-whole (o ∷ xs) = go (refOp o) refl (holds refOp xs) refl (run-whole xs)
   where
-    go : (t : Bool) → refOp o ≡ t → (u : Bool) → holds refOp xs ≡ u → trailingClips xs ≤ greatestRun xs → trailingClips (o ∷ xs) ≤ greatestRun (o ∷ xs)
+    go : (t : Bool) → refOp o ≡ t → (u : Bool) → holds refOp xs ≡ u → clipsAfterReference xs ≤ greatestRun xs → clipsAfterReference (o ∷ xs) ≤ greatestRun (o ∷ xs)
     go true e true q h = omega (arith, trail-ref o xs e true q, run-ref o xs e)
     go true e false q h = omega (arith, trail-ref o xs e false q, run-ref o xs e, next-all xs q)
     go false e u q h = omega (arith, trail-other o xs e, run-other o xs e)
 
-pub run-most : (xs : List ℕ) (i : ℕ) → trailingClips (take i xs) ≤ greatestRun xs
+pub run-most : (xs : List ℕ) (i : ℕ) → clipsAfterReference (take i xs) ≤ greatestRun xs
 run-most xs i = omega (arith, run-whole (take i xs), run-part xs i)
 
 -- ---- and as much
@@ -108,7 +108,7 @@ unfolding clipsToNext
 next-is xs = refl
 
 pub run-reached : (xs : List ℕ) → Reached xs
-unfolding trailingClips afterLast sumOf greatestRun
+unfolding clipsAfterReference afterLast sumOf greatestRun
 run-reached [] = record { after = 0; is = refl }
 run-reached (o ∷ xs) = go (refOp o) refl (leb (greatestRun xs) (clipsToNext xs)) refl (run-reached xs)
   where
@@ -117,7 +117,7 @@ run-reached (o ∷ xs) = go (refOp o) refl (leb (greatestRun xs) (clipsToNext xs
         let l = leb-true (greatestRun xs) (clipsToNext xs) q in
         record {
           after = suc (length (between xs));
-          is = ap (λ (ys : List ℕ). trailingClips (o ∷ ys)) (take-between xs) ∙ trail-ref o (between xs) e false (no-ref xs) ∙ omega (arith, next-is xs, run-ref o xs e);
+          is = ap (λ (ys : List ℕ). clipsAfterReference (o ∷ ys)) (take-between xs) ∙ trail-ref o (between xs) e false (no-ref xs) ∙ omega (arith, next-is xs, run-ref o xs e);
         }
     go true e false q r = kept (holds refOp (take (r .after) xs)) refl
       where

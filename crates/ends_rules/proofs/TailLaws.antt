@@ -9,7 +9,7 @@ use Rattle.lists.specs.Lists.{sumOf}
 use Rattle.lists.specs.Runs.{leading, holds, afterLast}
 use Rattle.sam.specs.Op.{lenOf, codeOf, refLen}
 use Rattle.ops.specs.Ops.{isClip}
-use Rattle.clip_runs.specs.Clips.{clipLen, trailingClips}
+use Rattle.clip_runs.specs.Clips.{clipLen, clipsAfterReference}
 use Rattle.ends_rules.specs.declared.Tail.{Tail}
 use Rattle.ends_rules.specs.Tails.{refOp, clipsToNext, greatestRun}
 use Rattle.ends_rules.specs.InnerTails.{Met, met}
@@ -33,8 +33,8 @@ module _ (o : ℕ) (xs : List ℕ) where
     unfolding greatestRun
     run-ref = simp e
 
-    clips-ref : (x : ℕ) → cond (holds refOp (o ∷ xs)) (trailingClips (o ∷ xs)) x ≡ cond (holds refOp xs) (trailingClips xs) (sumOf clipLen xs)
-    unfolding holds afterLast trailingClips
+    clips-ref : (x : ℕ) → cond (holds refOp (o ∷ xs)) (clipsAfterReference (o ∷ xs)) x ≡ cond (holds refOp xs) (clipsAfterReference xs) (sumOf clipLen xs)
+    unfolding holds afterLast clipsAfterReference
     clips-ref x = simp e (sum-pick clipLen (holds refOp xs) (afterLast refOp xs) xs)
 
     len-ref : refLen o ≡ lenOf o
@@ -50,8 +50,8 @@ module _ (o : ℕ) (xs : List ℕ) where
     unfolding greatestRun
     run-other = simp e
 
-    clips-other : (x : ℕ) → cond (holds refOp (o ∷ xs)) (trailingClips (o ∷ xs)) x ≡ cond (holds refOp xs) (trailingClips xs) x
-    unfolding holds afterLast trailingClips
+    clips-other : (x : ℕ) → cond (holds refOp (o ∷ xs)) (clipsAfterReference (o ∷ xs)) x ≡ cond (holds refOp xs) (clipsAfterReference xs) x
+    unfolding holds afterLast clipsAfterReference
     clips-other x = simp e (go (holds refOp xs))
       where
         go : (t : Bool) → cond t (sumOf clipLen (cond t (afterLast refOp xs) [])) x ≡ cond t (sumOf clipLen (afterLast refOp xs)) x
@@ -85,7 +85,7 @@ module _ (w : Tail) (o : ℕ) (xs : List ℕ) (h : w .clips ≤ w .most) where
       let l = len-ref o xs e in
       let z : 0 + sumOf clipLen xs ≡ sumOf clipLen xs = omega arith in
       met-eq (omega arith)
-      (ap (cond (holds refOp xs) (trailingClips xs)) z ∙ sym (clips-ref o xs e _))
+      (ap (cond (holds refOp xs) (clipsAfterReference xs)) z ∙ sym (clips-ref o xs e _))
       (go (w .saw))
     where
       go : (t : Bool) → max (w .most) (max (0 + clipsToNext xs) (greatestRun xs)) ≡ max (w .most) (max (cond t (w .clips + clipsToNext (o ∷ xs)) 0) (greatestRun (o ∷ xs)))
@@ -121,22 +121,22 @@ module _ (w : Tail) (o : ℕ) (xs : List ℕ) (h : w .clips ≤ w .most) where
       let k : w .clips + n + sumOf clipLen xs ≡ w .clips + sumOf clipLen (o ∷ xs) = let t = sum-cons o xs clipLen in omega arith in
       let c = next-other o xs e in
       let u = run-other o xs e in
-      met-eq (omega arith) (simp s (ap (cond (holds refOp xs) (trailingClips xs)) k ∙ sym (clips-other o xs e _))) (simp s (omega arith))
+      met-eq (omega arith) (simp s (ap (cond (holds refOp xs) (clipsAfterReference xs)) k ∙ sym (clips-other o xs e _))) (simp s (omega arith))
 
 -- ---- the walk's start and end
 
-pub no-clips : (xs : List ℕ) → holds refOp xs ≡ false → trailingClips xs ≡ 0
-unfolding trailingClips sumOf
+pub no-clips : (xs : List ℕ) → holds refOp xs ≡ false → clipsAfterReference xs ≡ 0
+unfolding clipsAfterReference sumOf
 no-clips xs e = ap (sumOf clipLen) (after-none refOp xs e)
 
 abbrev pub fresh : Tail
 fresh = record { refs = 0; clips = 0; most = 0; saw = false }
 
-pub met-all : (xs : List ℕ) → met fresh xs ≡ record { refs = sumOf refLen xs; clips = trailingClips xs; most = greatestRun xs }
+pub met-all : (xs : List ℕ) → met fresh xs ≡ record { refs = sumOf refLen xs; clips = clipsAfterReference xs; most = greatestRun xs }
 unfolding met
 met-all xs = met-eq (omega arith) (go (holds refOp xs) refl) (omega arith)
   where
-    go : (t : Bool) → holds refOp xs ≡ t → cond t (trailingClips xs) 0 ≡ trailingClips xs
+    go : (t : Bool) → holds refOp xs ≡ t → cond t (clipsAfterReference xs) 0 ≡ clipsAfterReference xs
     go true e = refl
     go false e = sym (no-clips xs e)
 

@@ -14,7 +14,7 @@ use Rattle.signed.specs.declared.Sum.the-variants as Sum
 use Rattle.sam.specs.Op.{refLen}
 use Rattle.sam.specs.Record.{isShort, posOf, flagsOf, isUnmapped, isReverse}
 use Rattle.oplist.specs.Ops.{recordOps}
-use Rattle.clip_runs.specs.Clips.{leadingClips, trailingClips}
+use Rattle.clip_runs.specs.Clips.{leadingClips, clipsAfterReference}
 use Rattle.lengths.specs.Lengths.{askedLength}
 use Rattle.answers.specs.declared.Pos0.{Pos0}
 use Rattle.answers.specs.declared.Int.{Int}
@@ -41,7 +41,7 @@ provided (Sum.Number z) s = s
 provided Sum.Over s = Sum.Over
 
 unfoldable pub trailingSum : List ℕ → Sum
-trailingSum xs = provided (summed (greatestRun xs)) (Sum.Number (pos (trailingClips xs)))
+trailingSum xs = provided (summed (greatestRun xs)) (Sum.Number (pos (clipsAfterReference xs)))
 
 -- "reverse plus reference length plus clips after the last reference op, less 1"
 unfoldable pub unclippedEnd : ℤ → List ℕ → Sum

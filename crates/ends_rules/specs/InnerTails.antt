@@ -5,7 +5,7 @@ use mathlib.Core.List.{List}
 use Rattle.lists.specs.Lists.{sumOf}
 use Rattle.lists.specs.Runs.{holds}
 use Rattle.sam.specs.Op.{refLen}
-use Rattle.clip_runs.specs.Clips.{clipLen, trailingClips}
+use Rattle.clip_runs.specs.Clips.{clipLen, clipsAfterReference}
 use Rattle.ends_rules.specs.Tails.{refOp, clipsToNext, greatestRun}
 use Rattle.ends_rules.specs.declared.Tail.{Tail}
 
@@ -18,6 +18,6 @@ pub record Met : Type 0 where
 unfoldable pub met : Tail → List ℕ → Met
 met w xs = record {
   refs = w .refs + sumOf refLen xs;
-  clips = cond (holds refOp xs) (trailingClips xs) (cond (w .saw) (w .clips + sumOf clipLen xs) (w .clips));
+  clips = cond (holds refOp xs) (clipsAfterReference xs) (cond (w .saw) (w .clips + sumOf clipLen xs) (w .clips));
   most = max (w .most) (max (cond (w .saw) (w .clips + clipsToNext xs) 0) (greatestRun xs));
 }

@@ -9,7 +9,7 @@ use lib.ListN.{take}
 use Rattle.lists.specs.Lists.{sumOf}
 use Rattle.lists.specs.Runs.{leading}
 use Rattle.sam.specs.Op.{codeOf, isRef}
-use Rattle.clip_runs.specs.Clips.{clipLen, trailingClips}
+use Rattle.clip_runs.specs.Clips.{clipLen, clipsAfterReference}
 
 abbrev pub refOp : ℕ → Bool
 refOp o = isRef (codeOf o)
@@ -26,4 +26,4 @@ greatestRun (o ∷ xs) = max (cond (refOp o) (clipsToNext xs) 0) (greatestRun xs
 -- after so many ops the sum of clips is the most that it comes to
 pub record Reached (xs : List ℕ) : Type 0 where
   pub after : ℕ
-  pub is : trailingClips (take after xs) ≡ greatestRun xs
+  pub is : clipsAfterReference (take after xs) ≡ greatestRun xs

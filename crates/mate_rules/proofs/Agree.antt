@@ -11,7 +11,7 @@ use Rattle.lists.proofs.Tables.{below-same}
 use Rattle.sam.specs.Op.{lenOf, codeOf, opOf, letters, isRef, refLen}
 use Rattle.sam.specs.Text.{value, Spells, end, op, isDigit}
 use Rattle.ops.specs.Ops.{isClip}
-use Rattle.clip_runs.specs.Clips.{clipLen, leadingClips, trailingClips}
+use Rattle.clip_runs.specs.Clips.{clipLen, leadingClips, clipsAfterReference}
 use Rattle.mate_rules.specs.Pieces.{refLetters, clipLetters, isRefLetter, isClipLetter, Piece, pieces, counts, total, isRefPiece, isClipPiece, refCount, clipCount, mateLeading, mateReference, mateTrailing}
 use Rattle.mate_rules.specs.Readers.{Short, Agree}
 use Rattle.mate_rules.proofs.Digits.{count-small}
@@ -100,7 +100,7 @@ match-after (more p o {ps} {os} n r c m) = rw (r, match-holds m) (go (holds (λ 
 
 -- THE LAW of the two readers
 pub readers-agree : {s ops : List ℕ} → Spells s ops → Short ops → Agree s ops
-unfolding mateLeading mateReference mateTrailing leadingClips trailingClips refLen clipLen
+unfolding mateLeading mateReference mateTrailing leadingClips clipsAfterReference refLen clipLen
 readers-agree r k =
     let m = spelt r k in record {
       leading = total-sum counts lenOf (λ p o n r c. n) (match-leading m);

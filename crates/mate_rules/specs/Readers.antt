@@ -5,7 +5,7 @@ use mathlib.Core.Path.{_≡_}
 use mathlib.Core.List.{List}
 use Rattle.lists.specs.Lists.{Each, sumOf}
 use Rattle.sam.specs.Op.{lenOf, refLen}
-use Rattle.clip_runs.specs.Clips.{leadingClips, trailingClips}
+use Rattle.clip_runs.specs.Clips.{leadingClips, clipsAfterReference}
 use Rattle.mate_rules.specs.Pieces.{mateLeading, mateReference, mateTrailing}
 
 abbrev pub Short : List ℕ → Type 0
@@ -14,4 +14,4 @@ Short ops = Each (λ o. lenOf o ≤ 268435455) ops
 pub record Agree (s ops : List ℕ) : Type 0 where
   pub leading : mateLeading s ≡ leadingClips ops
   pub reference : mateReference s ≡ sumOf refLen ops
-  pub trailing : mateTrailing s ≡ trailingClips ops
+  pub trailing : mateTrailing s ≡ clipsAfterReference ops

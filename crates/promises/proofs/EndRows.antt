@@ -14,7 +14,7 @@ use Rattle.signed.specs.declared.Sum.the-variants as Sum
 use Rattle.sam.specs.Columns.{Over, Base, Gap, Off}
 use Rattle.sam.specs.Op.{refLen}
 use Rattle.sam.specs.Record.{posOf, flagsOf, isUnmapped, isReverse, isShort}
-use Rattle.clip_runs.specs.Clips.{leadingClips, trailingClips}
+use Rattle.clip_runs.specs.Clips.{leadingClips, clipsAfterReference}
 use Rattle.lengths.specs.Lengths.{refLengthOrZero, askedLength}
 use Rattle.oplist.specs.Ops.{mostOps, recordOps}
 use Rattle.answers.specs.Answers.{Told, bare1, tellInt, tellPlace0, tellPlace1}
@@ -54,7 +54,7 @@ module _ {A : Type 0} (tell : A → Told) (to : Sum → A) (stops : tell (to Sum
       refs = pos (sumOf refLen xs)
 
       clips : ℤ
-      clips = pos (trailingClips xs)
+      clips = pos (clipsAfterReference xs)
 
       most : ℤ
       most = pos (greatestRun xs)

@@ -18,7 +18,7 @@ use Rattle.answers.specs.declared.Int.the-variants as Int
 use Rattle.answers.specs.declared.Flag.the-variants as Flag
 use Rattle.answers.specs.declared.Place1.the-variants as Place1
 use Rattle.oplist.specs.Ops.{recordOps}
-use Rattle.clip_runs.specs.Clips.{leadingClips, trailingClips}
+use Rattle.clip_runs.specs.Clips.{leadingClips, clipsAfterReference}
 use Rattle.lengths.specs.Lengths.{askedLength}
 use Rattle.ends_rules.specs.Ends.{unclippedStart, unclippedEnd, alignmentStart, alignmentEnd}
 use Rattle.ends_rules.specs.Tails.{greatestRun, Reached}
@@ -45,7 +45,7 @@ pub start-is : (at : ℤ) (xs : List ℕ) (z : ℤ) → unclippedStart at xs ≡
 start-is at xs z e = Ends.start-is at xs z e
 
 -- "reverse plus reference length plus clips after the last reference op, less 1"; the reference length is the count of reference bases in the columns
-pub end-is : (at : ℤ) (xs : List ℕ) (z : ℤ) → unclippedEnd at xs ≡ Sum.Number z → at +ℤ pos (refs (columns xs)) +ℤ pos (trailingClips xs) -ℤ pos 1 ≡ z
+pub end-is : (at : ℤ) (xs : List ℕ) (z : ℤ) → unclippedEnd at xs ≡ Sum.Number z → at +ℤ pos (refs (columns xs)) +ℤ pos (clipsAfterReference xs) -ℤ pos 1 ≡ z
 end-is at xs z e = Ends.end-is at xs z e
 
 -- "0-based record positions and 1-based answers are kept apart": a record's start is the same place as `pos`, counted from 1
@@ -57,7 +57,7 @@ pub last-is : (b : List ℕ) (p : Pos1) (n : ℤ) → askedLength b ≡ Int.Numb
 last-is b p n l e = Ends.last-is b p n l e
 
 -- 4 "where Rust with overflow checks stops": its one sum of clips, after any number of ops, is at most the greatest run, and comes to it
-pub run-most : (xs : List ℕ) (i : ℕ) → trailingClips (take i xs) ≤ greatestRun xs
+pub run-most : (xs : List ℕ) (i : ℕ) → clipsAfterReference (take i xs) ≤ greatestRun xs
 run-most xs i = Runs.run-most xs i
 
 pub run-reached : (xs : List ℕ) → Reached xs

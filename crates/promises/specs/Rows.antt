@@ -11,7 +11,7 @@ use Rattle.lists.specs.Lists.{sumOf}
 use Rattle.signed.specs.Whole.{natural, clamp32}
 use Rattle.sam.specs.Op.{lenOf, refLen}
 use Rattle.sam.specs.Record.{posOf, matePosOf, flagsOf, isUnmapped, isReverse, opsEnd, isShort}
-use Rattle.clip_runs.specs.Clips.{leadingClips, trailingClips}
+use Rattle.clip_runs.specs.Clips.{leadingClips, clipsAfterReference}
 use Rattle.lengths.specs.Lengths.{refLengthOrZero}
 use Rattle.bin_rules.specs.Bin.{spanOf}
 use Rattle.print_rules.specs.Text.{anyBad, textOf}
@@ -136,7 +136,7 @@ endSums false at xs =
     clips ∷ (at -ℤ clips) ∷ []
 endSums true at xs =
     let refs = pos (sumOf refLen xs) in
-    let clips = pos (trailingClips xs) in
+    let clips = pos (clipsAfterReference xs) in
     refs ∷ (at +ℤ refs) ∷ pos (greatestRun xs) ∷ (at +ℤ refs +ℤ clips) ∷ (at +ℤ refs +ℤ clips -ℤ pos 1) ∷ []
 
 -- `unclipped_5prime_from_raw_bam`: of a mapped record that has ops, "from `pos` + 1"
