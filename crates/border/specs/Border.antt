@@ -48,9 +48,17 @@ lookupOf t = record { refusal = t .number; found = isSet (valueAt 0 t); value = 
 abbrev pub twoOf : Told → ToldTwo
 twoOf t = record { refusal = t .number; first = natural (valueAt 0 t); second = natural (valueAt 1 t) }
 
--- a signed number, and one that is never negative
+-- a signed number, and five that are never negative
 abbrev pub lengthsOf : Told → ToldLengths
-lengthsOf t = record { refusal = t .number; reference = valueAt 0 t; query = natural (valueAt 1 t) }
+lengthsOf t = record {
+  refusal = t .number;
+  reference = valueAt 0 t;
+  query = natural (valueAt 1 t);
+  «leading_soft» = natural (valueAt 2 t);
+  «leading_hard» = natural (valueAt 3 t);
+  «trailing_soft» = natural (valueAt 4 t);
+  «trailing_hard» = natural (valueAt 5 t);
+}
 
 -- a call with lent memory: its answer in the shape that it has, and the memory as the call leaves it
 abbrev pub across : {A B : Type 0} → (Told → B) → (A → Told) → Outcome A → Outcome B

@@ -56,12 +56,16 @@ pub struct ToldTwo {
     pub second: u64,
 }
 
-// Reference and query length.
+// Reference and query length, and the soft and hard clips at both ends.
 #[repr(C)]
 pub struct ToldLengths {
     pub refusal: u32,
     pub reference: i32,
     pub query: u64,
+    pub leading_soft: u64,
+    pub leading_hard: u64,
+    pub trailing_soft: u64,
+    pub trailing_hard: u64,
 }
 
 // A flag from the other side: anything but 0 is yes.

@@ -1,5 +1,5 @@
 -- Runs, one op on: an op that passes the test is of the run, any other ends it.
-use mathlib.Core.Path.{_≡_, refl, ap, _∙_}
+use mathlib.Core.Path.{_≡_, refl, sym, ap, _∙_}
 use mathlib.Core.Bool.{Bool, true, false, cond, _||_}
 use mathlib.Core.List.{List, [], _∷_}
 use Prim.Native.Nat.{ℕ, _+_}
@@ -77,10 +77,6 @@ module _ (p q : ℕ → Bool) (same : (o : ℕ) → p (codeOf o) ≡ q (codeOf o
 
 -- ---- the masks are the codes
 
-in-clips : (o : ℕ) → inMask 48 (codeOf o) ≡ isClip (codeOf o)
-unfolding isClip
-in-clips o = below-same (inMask 48) isClip 16 (codeOf o) refl (omega arith)
-
 in-hard : (o : ℕ) → inMask 32 (codeOf o) ≡ isHard (codeOf o)
 in-hard o = below-same (inMask 32) isHard 16 (codeOf o) refl (omega arith)
 
@@ -103,6 +99,19 @@ clip-parts o e = go (eqb (codeOf o) 4) refl (eqb (codeOf o) 5) refl (below-same 
     go false p true q h = omega arith
     go false p false q h = false-true h
 
+-- an S, an H, and what is neither
+pub soft-op : (o : ℕ) → codeOf o ≡ 4 → (isClip (codeOf o) ≡ true) × (softLen o ≡ lenOf o) × (hardLen o ≡ 0)
+unfolding isClip lenIf
+soft-op o e = rw e (refl, refl, refl)
+
+pub hard-op : (o : ℕ) → codeOf o ≡ 5 → (isClip (codeOf o) ≡ true) × (softLen o ≡ 0) × (hardLen o ≡ lenOf o)
+unfolding isClip lenIf
+hard-op o e = rw e (refl, refl, refl)
+
+pub other-op : (o : ℕ) → eqb (codeOf o) 4 ≡ false → eqb (codeOf o) 5 ≡ false → isClip (codeOf o) ≡ false
+unfolding isClip
+other-op o s h = sym (below-same (λ c. isSoft c || isHard c) isClip 16 (codeOf o) refl (omega arith)) ∙ simp (s, h)
+
 -- E is its soft and its hard bases
 pub leading-parts : (xs : List ℕ) → leadingSoft xs + leadingHard xs ≡ leadingClips xs
 unfolding leadingSoft leadingHard leadingClips leading sumOf
@@ -121,14 +130,14 @@ outer-total xs = omega (arith, run-sum isHard lenOf xs, run-sum isSoft lenOf (af
 
 -- ---- what the walk found
 
-module _ {xs : List ℕ} {soft hard next : ℕ} (E : RunIs xs 0 (inMask 48) soft hard next) where
+module _ {xs : List ℕ} {soft hard next : ℕ} (E : RunIs xs 0 isClip soft hard next) where
   pub soft-found : soft ≡ leadingSoft xs
   unfolding leadingSoft
-  soft-found = E .soft-is ∙ ap (sumOf softLen) (runs-same (inMask 48) isClip in-clips xs)
+  soft-found = E .soft-is
 
-  hard-found : hard ≡ leadingHard xs
+  pub hard-found : hard ≡ leadingHard xs
   unfolding leadingHard
-  hard-found = E .hard-is ∙ ap (sumOf hardLen) (runs-same (inMask 48) isClip in-clips xs)
+  hard-found = E .hard-is
 
   pub clips-found : soft + hard ≡ leadingClips xs
   clips-found = omega (arith, soft-found, hard-found, leading-parts xs)

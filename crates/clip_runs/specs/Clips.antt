@@ -1,11 +1,11 @@
 -- Document 01: "E is the total of the run of S and H (any order) at the chosen end; h its outermost H run; s the S run next inside" (Clipping), and "forward less the
 -- leading S and H, reverse plus reference length plus clips after the last reference op" (module 7). Each on the list as seen from the chosen end.
 use Prim.Native.Nat.{ℕ}
-use mathlib.Core.Bool.{Bool, cond}
+use mathlib.Core.Bool.{Bool, false, cond, not}
 use mathlib.Core.List.{List}
 use lib.Dec.{eqb}
-use Rattle.lists.specs.Lists.{sumOf}
-use Rattle.lists.specs.Runs.{leading, afterLeading, afterLast}
+use Rattle.lists.specs.Lists.{facing, sumOf}
+use Rattle.lists.specs.Runs.{leading, afterLeading, holds, afterLast}
 use Rattle.sam.specs.Op.{lenOf, codeOf, isRef}
 use Rattle.ops.specs.Ops.{isClip}
 
@@ -49,6 +49,17 @@ leadingSoft xs = sumOf softLen (run isClip xs)
 
 unfoldable pub leadingHard : List ℕ → ℕ
 leadingHard xs = sumOf hardLen (run isClip xs)
+
+-- document 02: "leading and trailing soft and hard totals, each over the whole run of S and H (any order) that clipping calls E at that end .. For a list of clips only,
+-- the leading pair takes all and the trailing pair is 0": whether some op is no clip, and the trailing pair
+unfoldable pub hasInner : List ℕ → Bool
+hasInner xs = holds (λ o. not (isClip (codeOf o))) xs
+
+unfoldable pub trailingSoft : List ℕ → ℕ
+trailingSoft xs = cond (hasInner xs) (leadingSoft (facing false xs)) 0
+
+unfoldable pub trailingHard : List ℕ → ℕ
+trailingHard xs = cond (hasInner xs) (leadingHard (facing false xs)) 0
 
 -- "h its outermost H run;
 unfoldable pub outerHard : List ℕ → ℕ

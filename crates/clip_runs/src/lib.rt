@@ -4,6 +4,7 @@ ghost use Prim.Native.Nat.{_≤_, _<_};
 ghost use lib.ListN.{length};
 ghost use Rattle.lists.specs.Lists.{facing};
 ghost use Rattle.sam.specs.Op.{codeOf};
+ghost use Rattle.ops.specs.Ops.{isClip};
 ghost use Rattle.oplist.specs.Ops.{opsOf};
 ghost use Rattle.clip_runs.specs.Clips.{lenIf, leadingClips, leadingSoft};
 ghost use Rattle.clip_runs.specs.Walked.{inMask, RunIs, OuterIs};
@@ -13,8 +14,6 @@ use oplist::Ops;
 const SOFT: u32 = 16;
 
 const HARD: u32 = 32;
-
-const CLIPS: u32 = 48;
 
 // A run of clips: its soft and hard bases, and the place after it.
 pub struct Run {
@@ -83,11 +82,48 @@ fn run_at(
     }
 }
 
-// E: the S and H that the list begins with, as seen from the chosen end.
+// The run of S and H (any order) that the list begins with, as seen from the chosen end. S, the usual clip, is the way straight through the loop.
+pub fn clip_run(words: &[u32], rec: &[u8], inside: bool, at: usize, m: u32, start: bool) -> Run
+    ensures { λ r. ⌜ RunIs (facing start (opsOf (now (words .entry)) (now (rec .entry)) (record { inside = inside; at = at; n = m }))) 0 isClip (r .soft) (r .hard) (r .next) ⌝ }
+{
+    let list = Ops {
+        inside: inside,
+        at: at,
+        n: m,
+    };
+    let n = oplist::count(words, rec, list);
+    let mut soft: u64 = 0;
+    let mut hard: u64 = 0;
+    let mut i: usize = 0;
+    while i < n {
+        let op = oplist::op_from(words, rec, list, n, start, i);
+        if op % 16 == 5 {
+            hard += ops::length_of(op);
+            i += 1;
+            continue;
+        }
+        if op % 16 != 4 {
+            return Run {
+                soft: soft,
+                hard: hard,
+                next: i,
+            };
+        }
+        soft += ops::length_of(op);
+        i += 1;
+    }
+    Run {
+        soft: soft,
+        hard: hard,
+        next: i,
+    }
+}
+
+// E: its bases.
 pub fn leading_clips(words: &[u32], rec: &[u8], list: Ops, start: bool) -> u64
     ensures { λ r. ⌜ r ≡ leadingClips (facing start (opsOf (now (words .entry)) (now (rec .entry)) list)) ⌝ }
 {
-    let e = run_at(words, rec, list.inside, list.at, list.n, start, 0, CLIPS);
+    let e = clip_run(words, rec, list.inside, list.at, list.n, start);
     e.soft + e.hard
 }
 
@@ -95,7 +131,7 @@ pub fn leading_clips(words: &[u32], rec: &[u8], list: Ops, start: bool) -> u64
 pub fn leading_soft(words: &[u32], rec: &[u8], inside: bool, at: usize, m: u32, start: bool) -> u64
     ensures { λ r. ⌜ r ≡ leadingSoft (facing start (opsOf (now (words .entry)) (now (rec .entry)) (record { inside = inside; at = at; n = m }))) ⌝ }
 {
-    run_at(words, rec, inside, at, m, start, 0, CLIPS).soft
+    clip_run(words, rec, inside, at, m, start).soft
 }
 
 // h and s: the outermost H run, the S run next inside, and the place after both.

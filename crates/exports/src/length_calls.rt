@@ -1,7 +1,7 @@
 // Lengths.
 ghost use mathlib.Core.Path.{_≡_};
 ghost use Rattle.answers.specs.Answers.{tellInt, tellCount};
-ghost use Rattle.lengths.specs.Lengths.{refLength, queryLength, saturatedLength, checkedRefLength, refLengthOrZero, recordQueryLength, bothLengths, tellLengths};
+ghost use Rattle.lengths.specs.Lengths.{refLength, queryLength, saturatedLength, checkedRefLength, refLengthOrZero, recordQueryLength, recordLengths, tellLengths};
 ghost use Rattle.border.specs.Border.{intOf, countOf, lengthsOf};
 use border::ToldCount;
 use border::ToldInt;
@@ -54,22 +54,34 @@ fn told_lengths(answer: Lengths) -> ToldLengths
     ensures { λ r. ⌜ r ≡ lengthsOf (tellLengths answer) ⌝ }
 {
     match answer {
-        Lengths::Both(reference, query) => ToldLengths {
-            refusal: 0,
-            reference,
-            query,
+        Lengths::Are(l) => {
+            let leading = l.leading;
+            let trailing = l.trailing;
+            ToldLengths {
+                refusal: 0,
+                reference: l.reference,
+                query: l.query,
+                leading_soft: leading.soft,
+                leading_hard: leading.hard,
+                trailing_soft: trailing.soft,
+                trailing_hard: trailing.hard,
+            }
         },
         Lengths::Refused(why) => ToldLengths {
             refusal: answers::number(why),
             reference: 0,
             query: 0,
+            leading_soft: 0,
+            leading_hard: 0,
+            trailing_soft: 0,
+            trailing_hard: 0,
         },
     }
 }
 
 #[no_mangle]
 pub extern "C" fn cigar_cigar_lengths(rec: &[u8]) -> ToldLengths
-    ensures { λ r. ⌜ r ≡ lengthsOf (tellLengths (bothLengths (now (rec .entry)))) ⌝ }
+    ensures { λ r. ⌜ r ≡ lengthsOf (tellLengths (recordLengths (now (rec .entry)))) ⌝ }
 {
     told_lengths(lengths::cigar_lengths(rec))
 }

@@ -16,6 +16,7 @@ use Rattle.answers.specs.declared.Int.the-variants as Int
 use Rattle.answers.specs.declared.Count.{Count}
 use Rattle.answers.specs.declared.Count.the-variants as Count
 use Rattle.oplist.specs.Ops.{mostOps, recordOps}
+use Rattle.clip_runs.specs.Clips.{leadingSoft, leadingHard, trailingSoft, trailingHard}
 use Rattle.lengths.specs.declared.Lengths.{Lengths}
 use Rattle.lengths.specs.declared.Lengths.the-variants as Lengths
 
@@ -58,17 +59,23 @@ askedLength b = Int.Number (refLengthOrZero b)
 unfoldable pub recordQueryLength : List ℕ → Count
 recordQueryLength b = cond (isShort b) (Count.Refused ShortRecord) (Count.Number (sumOf queryLen (recordOps b)))
 
--- both of a record: 1, 4
-abbrev pub withQuery : Int → ℕ → Lengths
-withQuery (Int.Number z) q = Lengths.Both z q
-withQuery (Int.Refused r) q = Lengths.Refused r
+-- both of a record, and "leading and trailing soft and hard totals" (document 02): 1, 4
+abbrev pub lengthsWith : Int → List ℕ → Lengths
+lengthsWith (Int.Number z) xs = Lengths.Are (record {
+  reference = z;
+  query = sumOf queryLen xs;
+  leading = record { soft = leadingSoft xs; hard = leadingHard xs };
+  trailing = record { soft = trailingSoft xs; hard = trailingHard xs };
+})
+lengthsWith (Int.Refused r) xs = Lengths.Refused r
 
-unfoldable pub bothLengths : List ℕ → Lengths
+unfoldable pub recordLengths : List ℕ → Lengths
 unfolding asInt
-bothLengths b =
+recordLengths b =
     cond (isShort b) (Lengths.Refused ShortRecord)
-    (withQuery (asInt (sumOf refLen (recordOps b))) (sumOf queryLen (recordOps b)))
+    (lengthsWith (asInt (sumOf refLen (recordOps b))) (recordOps b))
 
 abbrev pub tellLengths : Lengths → Told
-tellLengths (Lengths.Both z q) = answered (z ∷ pos q ∷ [])
+tellLengths (Lengths.Are l) =
+    answered (l .reference ∷ pos (l .query) ∷ pos (l .leading .soft) ∷ pos (l .leading .hard) ∷ pos (l .trailing .soft) ∷ pos (l .trailing .hard) ∷ [])
 tellLengths (Lengths.Refused r) = refused r

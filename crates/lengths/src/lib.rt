@@ -1,12 +1,13 @@
 // Document 01, module 3: lengths of op lists, lent or in a record. One walk, and thin calls over it.
 ghost use mathlib.Core.Path.{_≡_};
-ghost use Prim.Native.Nat.{_≤_};
+ghost use Prim.Native.Nat.{_+_, _≤_};
+ghost use lib.ListN.{length, drop};
 ghost use lib.IntN.{pos};
 ghost use Rattle.lists.specs.Lists.{sumOf};
 ghost use Rattle.signed.specs.Whole.{clamp32};
 ghost use Rattle.sam.specs.Op.{refLen, queryLen};
 ghost use Rattle.oplist.specs.Ops.{opsOf};
-ghost use Rattle.lengths.specs.Lengths.{asInt, refLength, queryLength, saturatedLength, checkedRefLength, refLengthOrZero, askedLength, recordQueryLength, bothLengths};
+ghost use Rattle.lengths.specs.Lengths.{asInt, refLength, queryLength, saturatedLength, checkedRefLength, refLengthOrZero, askedLength, recordQueryLength, recordLengths};
 use answers::Count;
 use answers::Int;
 use answers::Refusal;
@@ -18,22 +19,35 @@ pub struct Totals {
     pub query: u64,
 }
 
-// Both lengths of a record.
+// The soft and hard bases of a run of clips.
+pub struct Clips {
+    pub soft: u64,
+    pub hard: u64,
+}
+
+// A record's reference and query length, and the clips at both ends.
+pub struct RecordLengths {
+    pub reference: i32,
+    pub query: u64,
+    pub leading: Clips,
+    pub trailing: Clips,
+}
+
 pub enum Lengths {
-    Both(i32, u64),
+    Are(RecordLengths),
     Refused(Refusal),
 }
 
-// The walk.
-pub fn sums(words: &[u32], rec: &[u8], list: Ops) -> Totals
-    ensures { λ r. ⌜ (r .refs ≡ sumOf refLen (opsOf (now (words .entry)) (now (rec .entry)) list)) × (r .query ≡ sumOf queryLen (opsOf (now (words .entry)) (now (rec .entry)) list)) ⌝ }
+// The walk, over the ops from place `from` on that stand before place `end`.
+fn sums_between(words: &[u32], rec: &[u8], list: Ops, from: usize, end: usize) -> Totals
+    requires { ⌜ (from ≤ end) × (end ≤ length (opsOf (now words) (now rec) list)) × (end ≤ 4294967295) ⌝ }
+    ensures { λ r. ⌜ (r .refs + sumOf refLen (drop end (opsOf (now (words .entry)) (now (rec .entry)) list)) ≡ sumOf refLen (drop from (opsOf (now (words .entry)) (now (rec .entry)) list))) × (r .query + sumOf queryLen (drop end (opsOf (now (words .entry)) (now (rec .entry)) list)) ≡ sumOf queryLen (drop from (opsOf (now (words .entry)) (now (rec .entry)) list))) ⌝ }
     ensures { λ r. ⌜ (r .refs ≤ 1152921504606846976) × (r .query ≤ 1152921504606846976) ⌝ }
 {
-    let n = oplist::count(words, rec, list);
     let mut refs: u64 = 0;
     let mut query: u64 = 0;
-    let mut i: usize = 0;
-    while i < n {
+    let mut i = from;
+    while i < end {
         let op = oplist::op_at(words, rec, list, i);
         refs += ops::ref_len(op);
         query += ops::query_len(op);
@@ -43,6 +57,14 @@ pub fn sums(words: &[u32], rec: &[u8], list: Ops) -> Totals
         refs: refs,
         query: query,
     }
+}
+
+// The walk over all ops.
+pub fn sums(words: &[u32], rec: &[u8], list: Ops) -> Totals
+    ensures { λ r. ⌜ (r .refs ≡ sumOf refLen (opsOf (now (words .entry)) (now (rec .entry)) list)) × (r .query ≡ sumOf queryLen (opsOf (now (words .entry)) (now (rec .entry)) list)) ⌝ }
+    ensures { λ r. ⌜ (r .refs ≤ 1152921504606846976) × (r .query ≤ 1152921504606846976) ⌝ }
+{
+    sums_between(words, rec, list, 0, oplist::count(words, rec, list))
 }
 
 // n as a signed number, or refusal 4.
@@ -141,16 +163,49 @@ pub fn query_length(bam: &[u8]) -> Count
     Count::Number(total.query)
 }
 
-// Both lengths of a record. Refusals 1 and 4.
+// A record's lengths and the clips at its ends. Refusals 1 and 4. The runs of clips are walked from both ends and the sums between them, so that each op is read
+// once, but for the two that end a run.
 pub fn cigar_lengths(bam: &[u8]) -> Lengths
-    ensures { λ r. ⌜ r ≡ bothLengths (now (bam .entry)) ⌝ }
+    ensures { λ r. ⌜ r ≡ recordLengths (now (bam .entry)) ⌝ }
 {
     if bam.len() < 32 {
         return Lengths::Refused(Refusal::ShortRecord);
     }
-    let total = sums(&[], bam, oplist::of_record(bam));
-    match as_int(total.refs) {
-        Int::Number(refs) => Lengths::Both(refs, total.query),
+    let list = oplist::of_record(bam);
+    let n = oplist::count(&[], bam, list);
+    if n == 0 {
+        return Lengths::Are(RecordLengths {
+            reference: 0,
+            query: 0,
+            leading: Clips { soft: 0, hard: 0 },
+            trailing: Clips { soft: 0, hard: 0 },
+        });
+    }
+    let first = clip_runs::clip_run(&[], bam, list.inside, list.at, list.n, true);
+    let leading = Clips {
+        soft: first.soft,
+        hard: first.hard,
+    };
+    if first.next == n {
+        return Lengths::Are(RecordLengths {
+            reference: 0,
+            query: first.soft,
+            leading,
+            trailing: Clips { soft: 0, hard: 0 },
+        });
+    }
+    let last = clip_runs::clip_run(&[], bam, list.inside, list.at, list.n, false);
+    let inner = sums_between(&[], bam, list, first.next, n - last.next);
+    match as_int(inner.refs) {
+        Int::Number(reference) => Lengths::Are(RecordLengths {
+            reference,
+            query: first.soft + inner.query + last.soft,
+            leading,
+            trailing: Clips {
+                soft: last.soft,
+                hard: last.hard,
+            },
+        }),
         Int::Refused(why) => Lengths::Refused(why),
     }
 }

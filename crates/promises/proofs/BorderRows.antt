@@ -43,7 +43,7 @@ module _ {t : Told} {rows : List Row} (g : Gives t rows) where
   pub two-crosses : Crosses (λ (b : ToldTwo). b .refusal) (λ (n : ℕ). record { refusal = n; first = 0; second = 0 }) (twoOf t) rows
   two-crosses = record { number-is = g .number; alone = λ h. rw (g .alone h, g .number) }
 
-  pub lengths-crosses : Crosses (λ (b : ToldLengths). b .refusal) (λ (n : ℕ). record { refusal = n; reference = pos 0; query = 0 }) (lengthsOf t) rows
+  pub lengths-crosses : Crosses (λ (b : ToldLengths). b .refusal) (λ (n : ℕ). record { refusal = n; reference = pos 0; query = 0; «leading_soft» = 0; «leading_hard» = 0; «trailing_soft» = 0; «trailing_hard» = 0 }) (lengthsOf t) rows
   lengths-crosses = record { number-is = g .number; alone = λ h. rw (g .alone h, g .number) }
 
 -- ---- the positions that start and end find are never negative, so that they cross as they are

@@ -8,7 +8,7 @@ use lib.ListN.{length}
 use lib.Dec.{T, ltb, eqb}
 use lib.Signed.{ltZ}
 use Rattle.lists.specs.Lists.{sumOf}
-use Rattle.sam.specs.Op.{refLen, queryLen}
+use Rattle.sam.specs.Op.{refLen}
 use Rattle.sam.specs.Record.{refIdOf, posOf, nameLenOf, storedBinOf, opCountOf, flagsOf, seqLenOf, mateRefIdOf, matePosOf, templateLenOf, opsStart, opsEnd, isShort}
 use Rattle.oplist.specs.Ops.{mostOps, recordOps}
 use Rattle.answers.specs.Answers.{Told, answered, tellInt, tellNat, tellCount, tellPlace0}
@@ -27,12 +27,12 @@ use Rattle.ops.specs.Ops.{getOps, kindOf, fromOpType, tellKind, newOp, tellOp}
 use Rattle.ops.specs.declared.CigarKind.{CigarKind}
 use Rattle.ops.specs.declared.KindFound.the-variants.{Kind, Nothing}
 use Rattle.ops.specs.declared.NewOp.the-variants as NewOp
-use Rattle.lengths.specs.Lengths.{asInt, refLength, queryLength, saturatedLength, checkedRefLength, refLengthOrZero, askedLength, recordQueryLength, withQuery, bothLengths, tellLengths}
+use Rattle.lengths.specs.Lengths.{asInt, refLength, queryLength, saturatedLength, checkedRefLength, refLengthOrZero, askedLength, recordQueryLength, lengthsWith, recordLengths, tellLengths}
 use Rattle.lengths.specs.declared.Lengths.{Lengths}
 use Rattle.lengths.specs.declared.Lengths.the-variants as Lengths
 use Rattle.bin_rules.specs.Bin.{binTo, reg2bin, spanOf, binUpTo, recordBin, withBin, setBin, binFrom}
 use Rattle.promises.specs.Table.{Row, _when_, Gives, GivesKept, GivesFilled}
-use Rattle.promises.specs.Rows.{over, anyOutside, recordRows, opsRows, newRows, listRows, lengthRows, checkedRows, bothRows, regionRows, binRows}
+use Rattle.promises.specs.Rows.{over, anyOutside, recordRows, opsRows, newRows, listRows, lengthRows, checkedRows, lengthsRows, regionRows, binRows}
 use Rattle.promises.proofs.RowLaws.{number-alone, answer, row, row-either, row-unless, row-sum, kept-row, last-row}
 
 -- ---- fields
@@ -156,11 +156,11 @@ pub query-length : (b : List ℕ) → Gives (tellCount (recordQueryLength b)) (r
 unfolding recordQueryLength
 query-length b = row tellCount (isShort b) (Count.Refused ShortRecord) _ 1 refl (answer refl refl)
 
-pub cigar-lengths : (b : List ℕ) → Gives (tellLengths (bothLengths b)) (bothRows b)
-unfolding bothLengths
+pub cigar-lengths : (b : List ℕ) → Gives (tellLengths (recordLengths b)) (lengthsRows b)
+unfolding recordLengths
 cigar-lengths b =
     row tellLengths (isShort b) (Lengths.Refused ShortRecord) _ 1 refl
-    (total-rows tellLengths (λ x. withQuery x (sumOf queryLen (recordOps b))) (sumOf refLen (recordOps b)) refl refl)
+    (total-rows tellLengths (λ x. lengthsWith x (recordOps b)) (sumOf refLen (recordOps b)) refl refl)
 
 -- ---- bins
 

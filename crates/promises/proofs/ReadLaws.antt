@@ -1,4 +1,4 @@
--- What documents 01 and 02 promise of ends, lookup, pair tests and overhangs beside the answers. Each line is a theorem of the crate that it is cited from, over the definitions that the contracts use.
+-- What documents 01 and 02 promise of lengths, ends, lookup, pair tests and overhangs beside the answers. Each line is a theorem of the crate that it is cited from, over the definitions that the contracts use.
 use Prim.Native.Nat.{ℕ, _+_, _-_, _≤_, _<_}
 use mathlib.Core.Path.{_≡_}
 use mathlib.Core.Bool.{Bool, true, false}
@@ -8,7 +8,7 @@ use lib.ListN.{length, take}
 use lib.Signed.{ltZ, leZ}
 use mir.Syntax.{w32}
 use mir.Val.{SFits}
-use Rattle.lists.specs.Lists.{sumOf}
+use Rattle.lists.specs.Lists.{facing, sumOf}
 use Rattle.signed.specs.declared.Sum.the-variants as Sum
 use Rattle.sam.specs.Op.{queryLen}
 use Rattle.sam.specs.Columns.{Column, Spot, columns, queries, refs, refOf, Seen}
@@ -18,7 +18,9 @@ use Rattle.answers.specs.declared.Int.the-variants as Int
 use Rattle.answers.specs.declared.Flag.the-variants as Flag
 use Rattle.answers.specs.declared.Place1.the-variants as Place1
 use Rattle.oplist.specs.Ops.{recordOps}
-use Rattle.clip_runs.specs.Clips.{leadingClips, clipsAfterReference}
+use Rattle.clip_runs.specs.Clips.{softLen, hardLen, leadingClips, leadingSoft, leadingHard, hasInner, trailingSoft, trailingHard, clipsAfterReference}
+use Rattle.clip_runs.proofs.RunLaws as Clips
+use Rattle.clip_runs.proofs.EndLaws as EndClips
 use Rattle.lengths.specs.Lengths.{askedLength}
 use Rattle.ends_rules.specs.Ends.{unclippedStart, unclippedEnd, alignmentStart, alignmentEnd}
 use Rattle.ends_rules.specs.Tails.{greatestRun, Reached}
@@ -37,6 +39,19 @@ use Rattle.overhang_rules.proofs.Gaps as Gaps
 use Rattle.overlap_rules.specs.Overlap.{pastMateCigar, pastMateRecord, pastMateText}
 use Rattle.overlap_rules.specs.Bound.{Within, WithinText}
 use Rattle.overlap_rules.proofs.Promised as Most
+
+-- ---- lengths: the clips at both ends
+
+-- "each over the whole run of S and H (any order) that clipping calls E at that end"
+pub leading-pair : (xs : List ℕ) → leadingSoft xs + leadingHard xs ≡ leadingClips xs
+leading-pair xs = Clips.leading-parts xs
+
+pub trailing-pair : (xs : List ℕ) → hasInner xs ≡ true → trailingSoft xs + trailingHard xs ≡ leadingClips (facing false xs)
+trailing-pair xs e = EndClips.trailing-parts xs e
+
+-- "For a list of clips only, the leading pair takes all and the trailing pair is 0"
+pub clips-only : (xs : List ℕ) → hasInner xs ≡ false → (leadingSoft xs ≡ sumOf softLen xs) × (leadingHard xs ≡ sumOf hardLen xs) × (trailingSoft xs ≡ 0) × (trailingHard xs ≡ 0)
+clips-only xs e = (EndClips.all-soft xs e, EndClips.all-hard xs e, EndClips.none-soft xs e, EndClips.none-hard xs e)
 
 -- ---- ends: a place that was not refused is the plain sum
 

@@ -103,8 +103,8 @@ abbrev pub checkedRows : List ℕ → List Row
 checkedRows b = short b ∷ overrun b ∷ over (pos (sumOf refLen (recordOps b)) ∷ []) ∷ []
 
 -- `cigar_lengths`
-abbrev pub bothRows : List ℕ → List Row
-bothRows b = short b ∷ over (pos (sumOf refLen (recordOps b)) ∷ []) ∷ []
+abbrev pub lengthsRows : List ℕ → List Row
+lengthsRows b = short b ∷ over (pos (sumOf refLen (recordOps b)) ∷ []) ∷ []
 
 -- `reg2bin`
 abbrev pub regionRows : ℤ → List Row

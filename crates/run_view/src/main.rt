@@ -62,7 +62,7 @@ fn sums(bam: &[u8]) {
     shown::integer(asked::reference_length(bam));
     shown::text(b", query ");
     shown::count(asked::query_length(bam));
-    shown::text(b", both ");
+    shown::text(b", lengths ");
     shown::lengths(asked::cigar_lengths(bam));
     shown::text(b"; start ");
     shown::place1(asked::alignment_start_1based(bam));

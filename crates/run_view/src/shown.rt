@@ -6,6 +6,7 @@ use answers::Place0;
 use answers::Place1;
 use answers::Refusal;
 use clip_rules::Clipped;
+use lengths::Clips;
 use lengths::Lengths;
 
 pub fn text(words: &[u8]) {
@@ -56,12 +57,21 @@ pub fn count(answer: Count) {
     }
 }
 
+fn clips(run: Clips) {
+    text(b" ");
+    natural(run.soft);
+    text(b" ");
+    natural(run.hard);
+}
+
 pub fn lengths(answer: Lengths) {
     match answer {
-        Lengths::Both(refs, query) => {
-            integer(refs);
+        Lengths::Are(l) => {
+            integer(l.reference);
             text(b" ");
-            natural(query);
+            natural(l.query);
+            clips(l.leading);
+            clips(l.trailing);
         }
         Lengths::Refused(why) => refused(why),
     }

@@ -3,7 +3,7 @@ ghost use mathlib.Core.Path.{_≡_};
 ghost use Rattle.answers.specs.Settled.{Settled};
 ghost use Rattle.sam.specs.Record.{refIdOf, posOf, nameLenOf, storedBinOf, opCountOf, flagsOf, seqLenOf, mateRefIdOf, matePosOf, templateLenOf};
 ghost use Rattle.fields.specs.Fields.{intField, natField, posField, partRefusal, cigarPart};
-ghost use Rattle.lengths.specs.Lengths.{refLengthOrZero, recordQueryLength, bothLengths};
+ghost use Rattle.lengths.specs.Lengths.{refLengthOrZero, recordQueryLength, recordLengths};
 ghost use Rattle.ends_rules.specs.Ends.{unclippedOf, asRust, alignmentStart, alignmentEnd};
 ghost use Rattle.print_rules.specs.Text.{printed};
 ghost use Rattle.clip_rules.specs.Answer.{clippedRecord};
@@ -111,7 +111,7 @@ impl<'a> RawRecordView<'a> {
     }
 
     pub fn cigar_lengths(&self) -> Lengths
-        ensures { λ r. ⌜ r ≡ bothLengths (now (now (self .entry) .0)) ⌝ }
+        ensures { λ r. ⌜ r ≡ recordLengths (now (now (self .entry) .0)) ⌝ }
     {
         lengths::cigar_lengths(self.0)
     }

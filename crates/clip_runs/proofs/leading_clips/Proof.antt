@@ -4,14 +4,14 @@ use borrow.Author.Needs.{needs}
 use Rattle.clip_runs.proofs.leading_clips.Statement.{statement}
 use Rattle.clip_runs.proofs.leading_clips.Tie as tie
 
-run-at-requires : tie.Need-run-at-requires
-run-at-requires c κs = search needs
+clip-run-requires : tie.Need-clip-run-requires
+clip-run-requires c κs = search needs
 
 add-result : tie.Need-add-result
 add-result c = search needs
 
 returns : tie.Need-returns
-returns c = clips-found (c .before .run-at .ensures)
+returns c = clips-found (c .before .clip-run .ensures)
 
 pub leading-clips-spec : {M : Type 1} → statement M
-leading-clips-spec = tie.close (tie.spec run-at-requires add-result returns)
+leading-clips-spec = tie.close (tie.spec clip-run-requires add-result returns)

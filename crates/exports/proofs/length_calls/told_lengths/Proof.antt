@@ -1,4 +1,4 @@
--- Two numbers, or the number of a refusal.
+-- Six numbers, or the number of a refusal.
 use mathlib.Core.Path.{_≡_}
 use mir.Syntax.{w32}
 use mir.Val.{toZ, ofZ}
@@ -17,8 +17,8 @@ number-requires c κs = search needs
 
 returns : tie.Need-returns
 returns c =
-    let k = c .before in
-    let z = k .answer .given .0 .0 in
+    let k = c .before .before .before .before in
+    let z = k .answer .given .0 .0 .reference in
     let e : toZ w32 (ofZ w32 z) ≡ z = search needs in
     rw (k .answer .given .1, e)
 
