@@ -41,8 +41,8 @@ struct cigar_found { uint32_t refusal; bool found; uint64_t value; };
 struct cigar_lookup { uint16_t refusal; bool found; uint32_t examined; uint64_t value; };
 /* Two numbers that are never negative; each call says which */
 struct cigar_two { uint32_t refusal; uint64_t first; uint64_t second; };
-/* Reference and query length */
-struct cigar_lengths { uint32_t refusal; int32_t reference; uint64_t query; };
+/* Reference and query length, and the soft and hard bases of the run of clips at each end */
+struct cigar_lengths { uint32_t refusal; int32_t reference; uint64_t query; uint64_t leading_soft; uint64_t leading_hard; uint64_t trailing_soft; uint64_t trailing_hard; };
 
 /* ======== libexports.a ======== */
 
@@ -111,7 +111,7 @@ int32_t cigar_reference_length_from_raw_bam(const uint8_t *rec, size_t rec_len);
 struct cigar_int cigar_reference_length_from_raw_bam_checked(const uint8_t *rec, size_t rec_len);
 /* The query length of a record. Refusal 1 */
 struct cigar_count cigar_query_length(const uint8_t *rec, size_t rec_len);
-/* Both lengths of a record. Refusals 1, 4 */
+/* Both lengths of a record, and the run of S and H (any order) at each end: its soft and its hard bases. Of clips only, all are leading. Refusals 1, 4 */
 struct cigar_lengths cigar_cigar_lengths(const uint8_t *rec, size_t rec_len);
 
 /* ---- bins */

@@ -72,7 +72,7 @@ static uint8_t bytes_room[MOST + GUARD];
     CALL(reference_length_from_raw_bam, "R", "s", BYTES(0)) \
     CALL(reference_length_from_raw_bam_checked, "R", "s", BYTES(0)) \
     CALL(query_length, "R", "u", BYTES(0)) \
-    CALL(cigar_lengths, "R", "su", BYTES(0)) \
+    CALL(cigar_lengths, "R", "suuuuu", BYTES(0)) \
     CALL(cigar_to_bytes_into, "Rb", "u", BYTES(0), BYTES(1)) \
     CALL(parse_cigar_string_ops, "Ro", "u", BYTES(0), OPS(1)) \
     CALL(is_valid_mapped_cigar, "L", "u", OPS(0)) \
@@ -102,7 +102,7 @@ CALLS
 #undef CALL
 
 /* What a call answered: its number, and its values as they are told, two of a value that may be none. */
-enum { VALUES = 3 };
+enum { VALUES = 6 };
 struct answer {
     uint32_t refusal;
     uint64_t values[VALUES];
@@ -114,7 +114,10 @@ static struct answer of_flag(struct cigar_flag a) { return (struct answer){a.ref
 static struct answer of_found(struct cigar_found a) { return (struct answer){a.refusal, {a.found, a.value}}; }
 static struct answer of_lookup(struct cigar_lookup a) { return (struct answer){a.refusal, {a.found, a.value, a.examined}}; }
 static struct answer of_two(struct cigar_two a) { return (struct answer){a.refusal, {a.first, a.second}}; }
-static struct answer of_lengths(struct cigar_lengths a) { return (struct answer){a.refusal, {(uint64_t)(int64_t)a.reference, a.query}}; }
+static struct answer of_lengths(struct cigar_lengths a)
+{
+    return (struct answer){a.refusal, {(uint64_t)(int64_t)a.reference, a.query, a.leading_soft, a.leading_hard, a.trailing_soft, a.trailing_hard}};
+}
 static struct answer of_bool(bool a) { return (struct answer){0, {a, 0}}; }
 static struct answer of_u32(uint32_t a) { return (struct answer){0, {a, 0}}; }
 static struct answer of_i32(int32_t a) { return (struct answer){0, {(uint64_t)(int64_t)a, 0}}; }

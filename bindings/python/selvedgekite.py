@@ -66,7 +66,8 @@ class Two(Structure):
 
 
 class Lengths(Structure):
-    _fields_ = [('refusal', c_uint32), ('reference', c_int32), ('query', c_uint64)]
+    _fields_ = [('refusal', c_uint32), ('reference', c_int32), ('query', c_uint64), ('leading_soft', c_uint64), ('leading_hard', c_uint64), ('trailing_soft', c_uint64),
+                ('trailing_hard', c_uint64)]
 
 
 BYTES = [c_char_p, c_size_t]
@@ -344,9 +345,9 @@ def query_length(bam):
 
 
 def cigar_lengths(bam):
-    """Reference and query length of a record."""
-    both = _sure(C.cigar_cigar_lengths(*_record(bam)))
-    return both.reference, both.query
+    """Reference and query length of a record, then the soft and hard bases of the clips that it begins with, and of those that it ends with (0 where it has clips only)."""
+    found = _sure(C.cigar_cigar_lengths(*_record(bam)))
+    return found.reference, found.query, found.leading_soft, found.leading_hard, found.trailing_soft, found.trailing_hard
 
 
 # ---- bins

@@ -183,8 +183,9 @@ fn reference_length_from_raw_bam_checked(words: &mut Words) -> Option<Reply> {
     })
 }
 
-fn lengths(view: (i32, usize)) -> Said {
-    Said::Values(vec![view.0.into(), count(view.1)])
+/// The Rust's two lengths, and the clips that it has no call for.
+fn lengths((view, clips): ((i32, usize), Vec<i64>)) -> Said {
+    Said::Values([vec![view.0.into(), count(view.1)], clips].concat())
 }
 
 fn cigar_to_bytes_into(words: &mut Words) -> Option<Reply> {
@@ -410,7 +411,7 @@ pub const CALLS: [(&str, Call); 51] = [
     ("reference_length_from_raw_bam", reference_length_from_raw_bam),
     ("reference_length_from_raw_bam_checked", reference_length_from_raw_bam_checked),
     ("query_length", |w| of_record(w, never, |r| RawRecordView::new(r).query_length(), |n| one(count(n)))),
-    ("cigar_lengths", |w| of_record(w, rules::lengths_overflow, |r| RawRecordView::new(r).cigar_lengths(), lengths)),
+    ("cigar_lengths", |w| of_record(w, rules::lengths_overflow, |r| (RawRecordView::new(r).cigar_lengths(), rules::end_clips(r)), lengths)),
     ("cigar_to_bytes_into", cigar_to_bytes_into),
     ("parse_cigar_string_ops", parse_cigar_string_ops),
     ("is_valid_mapped_cigar", is_valid_mapped_cigar),

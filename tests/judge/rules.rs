@@ -237,6 +237,21 @@ pub fn bin_overflows(record: &[u8]) -> Option<u8> {
     overflows(fields.pos(), &[fields.reference_length().max(1)]).filter(|_| fields.pos() >= 0)
 }
 
+/// The bases of the S and of the H among some ops.
+fn soft_and_hard(ops: &[u32]) -> [i64; 2] {
+    [4, 5].map(|kind| ops.iter().filter(|&&op| code(op) == kind).map(|&op| i64::from(op / 16)).sum())
+}
+
+/// The clips at a record's ends (document 02, item 6): leading soft and hard, trailing soft and hard. A run of S and H reaches as far as the first or last op that is
+/// neither; where there is none, all is leading.
+pub fn end_clips(record: &[u8]) -> Vec<i64> {
+    let list = Record(record).ops().unwrap_or_default();
+    let inner = |&op: &u32| ![4, 5].contains(&code(op));
+    let first = list.iter().position(inner).unwrap_or(list.len());
+    let last = list.iter().rposition(inner).map_or(list.len(), |at| at + 1);
+    [soft_and_hard(&list[..first]), soft_and_hard(&list[last..])].concat()
+}
+
 /// 4 of the two lengths of a record.
 pub fn lengths_overflow(record: &[u8]) -> Option<u8> {
     overflows(reference_total(&Record(record).ops().unwrap_or_default()), &[0])

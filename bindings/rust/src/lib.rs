@@ -296,11 +296,38 @@ pub fn reference_length_from_raw_bam(bam: &[u8]) -> i32 {
     unsafe { raw::cigar_reference_length_from_raw_bam(bam.as_ptr(), bam.len()) }
 }
 
-/// Reference and query length.
+/// What a record's ops sum up to. Of clips only, all are leading.
+#[derive(Clone, Copy, Debug, PartialEq, Eq)]
+pub struct RecordLengths {
+    /// The reference length.
+    pub reference: i32,
+    /// The query length.
+    pub query: usize,
+    /// The soft clipped bases of the run of S and H that the ops begin with.
+    pub leading_soft: usize,
+    /// The hard clipped bases of that run.
+    pub leading_hard: usize,
+    /// The soft clipped bases of the run of S and H that the ops end with.
+    pub trailing_soft: usize,
+    /// The hard clipped bases of that run.
+    pub trailing_hard: usize,
+}
+
+/// Reference and query length, and the clips at both ends.
 #[inline]
-pub fn cigar_lengths(bam: &[u8]) -> Result<(i32, usize), Refusal> {
-    let both = unsafe { raw::cigar_cigar_lengths(bam.as_ptr(), bam.len()) };
-    unless(both.refusal, (both.reference, both.query as usize))
+pub fn cigar_lengths(bam: &[u8]) -> Result<RecordLengths, Refusal> {
+    let found = unsafe { raw::cigar_cigar_lengths(bam.as_ptr(), bam.len()) };
+    // Each number as it was written: two at once, as the compiler would read them, would wait for the writes.
+    let number = |at: &u64| unsafe { core::ptr::read_volatile(at) } as usize;
+    let lengths = RecordLengths {
+        reference: found.reference,
+        query: number(&found.query),
+        leading_soft: number(&found.leading_soft),
+        leading_hard: number(&found.leading_hard),
+        trailing_soft: number(&found.trailing_soft),
+        trailing_hard: number(&found.trailing_hard),
+    };
+    unless(found.refusal, lengths)
 }
 
 /// The record's CIGAR as text into the first places of `out`; how many bytes.

@@ -44,6 +44,10 @@ pub struct Lengths {
     pub refusal: u32,
     pub reference: i32,
     pub query: u64,
+    pub leading_soft: u64,
+    pub leading_hard: u64,
+    pub trailing_soft: u64,
+    pub trailing_hard: u64,
 }
 
 extern "C" {
