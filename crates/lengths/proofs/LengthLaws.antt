@@ -4,7 +4,7 @@ use mathlib.Core.Bool.{false}
 use mathlib.Core.List.{List, [], _∷_}
 use Prim.Native.Nat.{ℕ, _+_, _-_, _<_}
 use native.Mathlib.Omega.{arith}
-use lib.IntN.{ℤ, pos}
+use lib.IntN.{ℤ}
 use lib.ListN.{length, drop}
 use Rattle.lists.specs.Lists.{facing, sumOf}
 use Rattle.sam.specs.Op.{refLen, queryLen}
@@ -18,6 +18,7 @@ use Rattle.clip_runs.proofs.RunLaws.{soft-found, hard-found}
 use Rattle.clip_runs.proofs.EndLaws.{none-soft, none-hard, some-soft, some-hard, run-refs, run-query, clips-refs, clips-query, clips-only, some-inner, parted}
 use Rattle.lengths.specs.declared.Lengths.{Lengths}
 use Rattle.lengths.specs.declared.Lengths.the-variants as Lengths
+use Rattle.lengths.specs.InnerLengths.{ofClips}
 use Rattle.lengths.specs.Lengths.{asInt, lengthsWith}
 
 -- the answer of six numbers
@@ -29,13 +30,13 @@ abbrev pub lengthsAre : List ℕ → Lengths
 lengthsAre xs = lengthsWith (asInt (sumOf refLen xs)) xs
 
 -- of no op
-pub no-ops : (xs : List ℕ) → length xs ≡ 0 → six (pos 0) 0 0 0 0 0 ≡ lengthsAre xs
+pub no-ops : (xs : List ℕ) → length xs ≡ 0 → ofClips 0 0 ≡ lengthsAre xs
 unfolding asInt sumOf leading leadingSoft leadingHard holds hasInner trailingSoft trailingHard
 no-ops [] e = refl
 no-ops (o ∷ xs) e = absurd (omega arith)
 
 module _ {xs : List ℕ} {soft hard next : ℕ} (L : RunIs xs 0 isClip soft hard next) where
-  pub only-clips : next ≡ length xs → six (pos 0) soft soft hard 0 0 ≡ lengthsAre xs
+  pub only-clips : next ≡ length xs → ofClips soft hard ≡ lengthsAre xs
   unfolding asInt
   only-clips e =
       let i = clips-only L e in

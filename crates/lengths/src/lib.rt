@@ -8,6 +8,7 @@ ghost use Rattle.signed.specs.Whole.{clamp32};
 ghost use Rattle.sam.specs.Op.{refLen, queryLen};
 ghost use Rattle.oplist.specs.Ops.{opsOf};
 ghost use Rattle.lengths.specs.Lengths.{asInt, refLength, queryLength, saturatedLength, checkedRefLength, refLengthOrZero, askedLength, recordQueryLength, recordLengths};
+ghost use Rattle.lengths.specs.InnerLengths.{ofClips};
 use answers::Count;
 use answers::Int;
 use answers::Refusal;
@@ -163,6 +164,21 @@ pub fn query_length(bam: &[u8]) -> Count
     Count::Number(total.query)
 }
 
+// The lengths of a record that has no op but clips.
+fn of_clips(soft: u64, hard: u64) -> Lengths
+    ensures { λ r. ⌜ r ≡ ofClips soft hard ⌝ }
+{
+    Lengths::Are(RecordLengths {
+        reference: 0,
+        query: soft,
+        leading: Clips {
+            soft: soft,
+            hard: hard,
+        },
+        trailing: Clips { soft: 0, hard: 0 },
+    })
+}
+
 // A record's lengths and the clips at its ends. Refusals 1 and 4. The runs of clips are walked from both ends and the sums between them, so that each op is read
 // once, but for the two that end a run.
 pub fn cigar_lengths(bam: &[u8]) -> Lengths
@@ -174,25 +190,11 @@ pub fn cigar_lengths(bam: &[u8]) -> Lengths
     let list = oplist::of_record(bam);
     let n = oplist::count(&[], bam, list);
     if n == 0 {
-        return Lengths::Are(RecordLengths {
-            reference: 0,
-            query: 0,
-            leading: Clips { soft: 0, hard: 0 },
-            trailing: Clips { soft: 0, hard: 0 },
-        });
+        return of_clips(0, 0);
     }
     let first = clip_runs::clip_run(&[], bam, list.inside, list.at, list.n, true);
-    let leading = Clips {
-        soft: first.soft,
-        hard: first.hard,
-    };
     if first.next == n {
-        return Lengths::Are(RecordLengths {
-            reference: 0,
-            query: first.soft,
-            leading,
-            trailing: Clips { soft: 0, hard: 0 },
-        });
+        return of_clips(first.soft, first.hard);
     }
     let last = clip_runs::clip_run(&[], bam, list.inside, list.at, list.n, false);
     let inner = sums_between(&[], bam, list, first.next, n - last.next);
@@ -200,7 +202,10 @@ pub fn cigar_lengths(bam: &[u8]) -> Lengths
         Int::Number(reference) => Lengths::Are(RecordLengths {
             reference,
             query: first.soft + inner.query + last.soft,
-            leading,
+            leading: Clips {
+                soft: first.soft,
+                hard: first.hard,
+            },
             trailing: Clips {
                 soft: last.soft,
                 hard: last.hard,

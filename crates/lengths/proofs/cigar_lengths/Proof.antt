@@ -29,12 +29,16 @@ slice-aggregate-count c = search needs
 count-requires : tie.Need-count-requires
 count-requires c κs = search needs
 
+of-clips-requires : tie.Need-of-clips-requires
+of-clips-requires c κs = search needs
+
 returns-2 : tie.Need-returns-2
 unfolding recordLengths
 returns-2 c =
-    let o = c .before .before .before in
+    let k = c .before .before in
+    let o = k .before .before in
     simp (le-ltb _ _ (o .before .if1 .left))
-    (no-ops _ (sym (c .before .count .ensures .0) ∙ c .if2 .taken) ∙ ap lengthsAre (o .of-record .ensures .0 _))
+    (c .of-clips .ensures ∙ no-ops _ (sym (k .count .ensures .0) ∙ c .before .if2 .taken) ∙ ap lengthsAre (o .of-record .ensures .0 _))
 
 slice-aggregate-clip-run : tie.Need-slice-aggregate-clip-run
 slice-aggregate-clip-run c = search needs
@@ -42,14 +46,17 @@ slice-aggregate-clip-run c = search needs
 clip-run-requires : tie.Need-clip-run-requires
 clip-run-requires c κs = search needs
 
+of-clips-requires-2 : tie.Need-of-clips-requires-2
+of-clips-requires-2 c κs = search needs
+
 returns-3 : tie.Need-returns-3
 unfolding recordLengths
 returns-3 c =
-    let f = c .before .before in
+    let f = c .before .before .before in
     let o = f .before .before .before .before .before in
     let n = f .before .before .before .count .ensures .0 in
     simp (le-ltb _ _ (o .before .if1 .left))
-    (only-clips (f .clip-run .ensures) (omega arith) ∙ ap lengthsAre (o .of-record .ensures .0 _))
+    (c .of-clips2 .ensures ∙ only-clips (f .clip-run .ensures) (omega arith) ∙ ap lengthsAre (o .of-record .ensures .0 _))
 
 slice-aggregate-clip-run-2 : tie.Need-slice-aggregate-clip-run-2
 slice-aggregate-clip-run-2 c = search needs
@@ -84,11 +91,11 @@ as-int-requires c κs = search needs
 enum-known-reference : tie.Need-enum-known-reference
 enum-known-reference c = search needs
 
-add-t32 : tie.Need-add-t32
-add-t32 c = search needs
+add-t26 : tie.Need-add-t26
+add-t26 c = search needs
 
-add-t33 : tie.Need-add-t33
-add-t33 c = search needs
+add-t27 : tie.Need-add-t27
+add-t27 c = search needs
 
 enum-known-why : tie.Need-enum-known-why
 enum-known-why c = search needs
@@ -129,9 +136,11 @@ cigar-lengths-spec =
     of-record-requires
     slice-aggregate-count
     count-requires
+    of-clips-requires
     returns-2
     slice-aggregate-clip-run
     clip-run-requires
+    of-clips-requires-2
     returns-3
     slice-aggregate-clip-run-2
     clip-run-requires-2
@@ -140,8 +149,8 @@ cigar-lengths-spec =
     sums-between-requires
     as-int-requires
     enum-known-reference
-    add-t32
-    add-t33
+    add-t26
+    add-t27
     enum-known-why
     returns-4
     returns-5)
