@@ -94,7 +94,7 @@ fn bin_from(beg: Pos0, n: i32) -> Nat
     }
 }
 
-// A record's bin. Refusals 1 and 4.
+// A record's bin. Refusals 1, 2 and 4.
 pub fn bin_from_raw_bam(bam: &[u8]) -> Nat
     ensures { λ r. ⌜ r ≡ recordBin (now (bam .entry)) ⌝ }
 {
@@ -105,13 +105,13 @@ pub fn bin_from_raw_bam(bam: &[u8]) -> Nat
     if start.0 < 0 {
         return Nat::Number(UNMAPPED_BIN);
     }
-    match lengths::asked_length(bam) {
+    match lengths::reference_length_from_raw_bam(bam) {
         Int::Number(n) => bin_from(start, n),
         Int::Refused(why) => Nat::Refused(why),
     }
 }
 
-// Writes a record's bin to its bytes 10 and 11, and answers it. Refusals 1 and 4.
+// Writes a record's bin to its bytes 10 and 11, and answers it. Refusals 1, 2 and 4.
 pub fn set_bin_from_raw_bam(bam: &mut [u8]) -> Nat
     ensures { λ r. ⌜ Settled (setBin (now (bam .entry))) r (now (bam .exit)) ⌝ }
 {

@@ -13,7 +13,7 @@ use Rattle.signed.specs.declared.Sum.the-variants as Sum
 use Rattle.sam.specs.Record.{posOf, isShort}
 use Rattle.answers.specs.declared.Int.{Int}
 use Rattle.answers.specs.declared.Int.the-variants as Int
-use Rattle.lengths.specs.Lengths.{askedLength}
+use Rattle.lengths.specs.Lengths.{checkedRefLength}
 use Rattle.answers.specs.Settled.{Outcome, keeps}
 use Rattle.answers.specs.declared.Refusal.the-variants.{Overflow, ShortRecord}
 use Rattle.answers.specs.declared.Nat.{Nat}
@@ -76,13 +76,13 @@ unfolding binUpTo
 binFrom beg (Int.Number n) = binUpTo beg (checked (beg +ℤ spanOf n))
 binFrom beg (Int.Refused r) = Refused r
 
--- a record's bin: 1; "a record with `pos` below 0 has 4680"; 4
+-- a record's bin: 1; "a record with `pos` below 0 has 4680", and document 02, item 7: "because that test comes first"; 2 and 4 of its length, 4 of the end
 unfoldable pub recordBin : List ℕ → Nat
 unfolding binFrom
 recordBin b =
     cond (isShort b) (Refused ShortRecord)
     (cond (ltZ (posOf b) (pos 0)) (Number 4680)
-    (binFrom (posOf b) (askedLength b)))
+    (binFrom (posOf b) (checkedRefLength b)))
 
 -- "`set_bin_from_raw_bam` writes bytes 10 and 11 only", the low byte first
 abbrev pub withBin : List ℕ → Nat → Outcome Nat

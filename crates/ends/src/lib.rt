@@ -57,7 +57,7 @@ fn end_at(pos: Pos0, n: i32) -> Place1
     to_place1(signed::checked_add(pos.0, n))
 }
 
-// A record's last place; none where `pos` is negative or no reference is covered. Refusals 1 and 4.
+// A record's last place; none where `pos` is negative or no reference is covered. Refusals 1, 2 and 4.
 pub fn alignment_end_from_raw(bam: &[u8]) -> Place1
     ensures { λ r. ⌜ r ≡ alignmentEnd (now (bam .entry)) ⌝ }
 {
@@ -68,7 +68,7 @@ pub fn alignment_end_from_raw(bam: &[u8]) -> Place1
     if pos.0 < 0 {
         return Place1::Nothing;
     }
-    match lengths::asked_length(bam) {
+    match lengths::reference_length_from_raw_bam(bam) {
         Int::Number(n) => end_at(pos, n),
         Int::Refused(why) => Place1::Refused(why),
     }

@@ -12,11 +12,13 @@ use Rattle.signed.specs.declared.Sum.the-variants.{Number}
 use Rattle.sam.specs.Op.{refLen}
 use Rattle.sam.specs.Record.{posOf, flagsOf, isUnmapped, isReverse}
 use Rattle.oplist.specs.Ops.{recordOps}
-use Rattle.lengths.specs.Lengths.{askedLength}
+use Rattle.lengths.specs.Lengths.{checkedRefLength}
 use Rattle.clip_runs.specs.Clips.{leadingClips, clipsAfterReference}
 use Rattle.answers.specs.declared.Pos0.{Pos0}
 use Rattle.answers.specs.declared.Place0.the-variants as Place0
-use Rattle.answers.specs.declared.Place1.the-variants.{Nothing}
+use Rattle.answers.specs.declared.Place1.the-variants.{Nothing, Refused}
+use Rattle.answers.specs.declared.Int.the-variants as Int
+use Rattle.answers.specs.declared.Refusal.{Refusal}
 use Rattle.ends_rules.specs.declared.Unclipped.the-variants.{Unmapped, NoOps}
 use Rattle.ends_rules.specs.declared.Tail.{Tail}
 use Rattle.ends_rules.specs.Sums.{_⊕_, _⊖_, summed}
@@ -36,9 +38,13 @@ module _ (b : List ℕ) (h : 32 ≤ length b) where
   unfolding alignmentEnd
   end-none t = simp (le-ltb (length b) 32 h, t)
 
-  pub end-at : ltZ (posOf b) (pos 0) ≡ false → endAt (posOf b) (askedLength b) ≡ alignmentEnd b
+  pub end-at : ltZ (posOf b) (pos 0) ≡ false → endAt (posOf b) (checkedRefLength b) ≡ alignmentEnd b
   unfolding alignmentEnd
   end-at t = simp (le-ltb (length b) 32 h, t)
+
+  -- a record whose length is refused has no end
+  pub no-end : (r : Refusal) → ltZ (posOf b) (pos 0) ≡ false → checkedRefLength b ≡ Int.Refused r → alignmentEnd b ≡ Refused r
+  no-end r t e = sym (end-at t) ∙ rw e
 
   pub is-unmapped : isUnmapped (flagsOf b) ≡ true → Unmapped ≡ unclippedOf b
   unfolding unclippedOf

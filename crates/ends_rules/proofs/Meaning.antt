@@ -20,7 +20,7 @@ use Rattle.answers.specs.declared.Int.the-variants as Int
 use Rattle.answers.specs.declared.Place1.{Place1}
 use Rattle.answers.specs.declared.Place1.the-variants as Place1
 use Rattle.answers.specs.declared.Refusal.the-variants.{ShortRecord}
-use Rattle.lengths.specs.Lengths.{askedLength}
+use Rattle.lengths.specs.Lengths.{checkedRefLength}
 use Rattle.clip_runs.specs.Clips.{leadingClips, clipsAfterReference}
 use Rattle.ends_rules.specs.Sums.{both, summed}
 use Rattle.ends_rules.specs.Tails.{greatestRun}
@@ -123,7 +123,7 @@ module _ (b : List ℕ) (p : Pos1) where
           let q = parts _+ℤ_ (Number (posOf b)) (Number n) (p .0) (place-is _ p h) in
           joined _+ℤ_ (number-is (posOf b) (q .left) (q .left-is)) (number-is n (q .right) (q .right-is)) (q .is)
 
-  pub last-is : (n : ℤ) → askedLength b ≡ Int.Number n → alignmentEnd b ≡ Place1.At p → posOf b +ℤ n ≡ p .0
+  pub last-is : (n : ℤ) → checkedRefLength b ≡ Int.Number n → alignmentEnd b ≡ Place1.At p → posOf b +ℤ n ≡ p .0
   unfolding alignmentEnd
   last-is n l e = go (isShort b) (ltZ (posOf b) (pos 0)) (rw l at e)
     where

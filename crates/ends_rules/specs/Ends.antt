@@ -15,7 +15,7 @@ use Rattle.sam.specs.Op.{refLen}
 use Rattle.sam.specs.Record.{isShort, posOf, flagsOf, isUnmapped, isReverse}
 use Rattle.oplist.specs.Ops.{recordOps}
 use Rattle.clip_runs.specs.Clips.{leadingClips, clipsAfterReference}
-use Rattle.lengths.specs.Lengths.{askedLength}
+use Rattle.lengths.specs.Lengths.{checkedRefLength}
 use Rattle.answers.specs.declared.Pos0.{Pos0}
 use Rattle.answers.specs.declared.Int.{Int}
 use Rattle.answers.specs.declared.Int.the-variants as Int
@@ -116,9 +116,9 @@ abbrev pub endAt : ℤ → Int → Place1
 endAt p (Int.Number n) = cond (eqb (natural n) 0) Place1.Nothing (toPlace1 (Sum.Number p ⊕ Sum.Number n))
 endAt p (Int.Refused r) = Place1.Refused r
 
--- 1, 4
+-- 1; none where `pos` is below 0; 2 and 4 of the length, 4 of the end
 unfoldable pub alignmentEnd : List ℕ → Place1
 alignmentEnd b =
     cond (isShort b) (Place1.Refused ShortRecord)
     (cond (ltZ (posOf b) (pos 0)) Place1.Nothing
-    (endAt (posOf b) (askedLength b)))
+    (endAt (posOf b) (checkedRefLength b)))

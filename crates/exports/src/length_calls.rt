@@ -1,7 +1,7 @@
 // Lengths.
 ghost use mathlib.Core.Path.{_≡_};
 ghost use Rattle.answers.specs.Answers.{tellInt, tellCount};
-ghost use Rattle.lengths.specs.Lengths.{refLength, queryLength, saturatedLength, checkedRefLength, refLengthOrZero, recordQueryLength, recordLengths, tellLengths};
+ghost use Rattle.lengths.specs.Lengths.{refLength, queryLength, saturatedLength, checkedRefLength, recordQueryLength, recordLengths, tellLengths};
 ghost use Rattle.border.specs.Border.{intOf, countOf, lengthsOf};
 use border::ToldCount;
 use border::ToldInt;
@@ -30,6 +30,13 @@ pub extern "C" fn cigar_saturating_reference_length(ops: &[u32]) -> ToldInt
 }
 
 #[no_mangle]
+pub extern "C" fn cigar_reference_length_from_raw_bam(rec: &[u8]) -> ToldInt
+    ensures { λ r. ⌜ r ≡ intOf (tellInt (checkedRefLength (now (rec .entry)))) ⌝ }
+{
+    border::told_int(lengths::reference_length_from_raw_bam(rec))
+}
+
+#[no_mangle]
 pub extern "C" fn cigar_reference_length_from_raw_bam_checked(rec: &[u8]) -> ToldInt
     ensures { λ r. ⌜ r ≡ intOf (tellInt (checkedRefLength (now (rec .entry)))) ⌝ }
 {
@@ -41,13 +48,6 @@ pub extern "C" fn cigar_query_length(rec: &[u8]) -> ToldCount
     ensures { λ r. ⌜ r ≡ countOf (tellCount (recordQueryLength (now (rec .entry)))) ⌝ }
 {
     border::told_count(lengths::query_length(rec))
-}
-
-#[no_mangle]
-pub extern "C" fn cigar_reference_length_from_raw_bam(rec: &[u8]) -> i32
-    ensures { λ r. ⌜ r ≡ refLengthOrZero (now (rec .entry)) ⌝ }
-{
-    lengths::reference_length_from_raw_bam(rec)
 }
 
 fn told_lengths(answer: Lengths) -> ToldLengths

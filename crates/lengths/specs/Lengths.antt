@@ -4,7 +4,7 @@ use mathlib.Core.Bool.{cond}
 use mathlib.Core.List.{List, [], _∷_}
 use lib.ListN.{length}
 use lib.Dec.{ltb}
-use lib.IntN.{ℤ, pos}
+use lib.IntN.{pos}
 use Rattle.lists.specs.Lists.{sumOf}
 use Rattle.signed.specs.Whole.{clamp32}
 use Rattle.sam.specs.Op.{refLen, queryLen}
@@ -35,25 +35,12 @@ queryLength xs = cond (ltb mostOps (length xs)) (Count.Refused TooManyOps) (Coun
 unfoldable pub saturatedLength : List ℕ → Int
 saturatedLength xs = cond (ltb mostOps (length xs)) (Int.Refused TooManyOps) (Int.Number (clamp32 (pos (sumOf refLen xs))))
 
--- of a record, checked: 1, 2, 4
+-- of a record: 1, 2, 4; document 02, item 7: "The default becomes the checked form's refusal"
 unfoldable pub checkedRefLength : List ℕ → Int
 checkedRefLength b =
     cond (isShort b) (Int.Refused ShortRecord)
     (cond (ltb (length b) (opsEnd b)) (Int.Refused AreaOverrun)
     (asInt (sumOf refLen (recordOps b))))
-
--- "`reference_length_from_raw_bam` answers 0 for 1, 2 and 4"
-abbrev pub orZero : Int → ℤ
-orZero (Int.Number z) = z
-orZero (Int.Refused r) = pos 0
-
-unfoldable pub refLengthOrZero : List ℕ → ℤ
-unfolding checkedRefLength
-refLengthOrZero b = orZero (checkedRefLength b)
-
--- a record's length as ends, bins and pair tests ask for it; they pass a refusal on, of which document 01 has none here
-unfoldable pub askedLength : List ℕ → Int
-askedLength b = Int.Number (refLengthOrZero b)
 
 -- of a record: 1
 unfoldable pub recordQueryLength : List ℕ → Count

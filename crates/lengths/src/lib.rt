@@ -7,7 +7,7 @@ ghost use Rattle.lists.specs.Lists.{sumOf};
 ghost use Rattle.signed.specs.Whole.{clamp32};
 ghost use Rattle.sam.specs.Op.{refLen, queryLen};
 ghost use Rattle.oplist.specs.Ops.{opsOf};
-ghost use Rattle.lengths.specs.Lengths.{asInt, refLength, queryLength, saturatedLength, checkedRefLength, refLengthOrZero, askedLength, recordQueryLength, recordLengths};
+ghost use Rattle.lengths.specs.Lengths.{asInt, refLength, queryLength, saturatedLength, checkedRefLength, recordQueryLength, recordLengths};
 ghost use Rattle.lengths.specs.InnerLengths.{ofClips};
 use answers::Count;
 use answers::Int;
@@ -136,21 +136,11 @@ pub fn reference_length_from_raw_bam_checked(bam: &[u8]) -> Int
     as_int(total.refs)
 }
 
-// A record's reference length, 0 where the checked form refuses.
-pub fn reference_length_from_raw_bam(bam: &[u8]) -> i32
-    ensures { λ r. ⌜ r ≡ refLengthOrZero (now (bam .entry)) ⌝ }
+// The same. Ends, bins and pair tests ask this one, as in the Rust, and pass a refusal on.
+pub fn reference_length_from_raw_bam(bam: &[u8]) -> Int
+    ensures { λ r. ⌜ r ≡ checkedRefLength (now (bam .entry)) ⌝ }
 {
-    match reference_length_from_raw_bam_checked(bam) {
-        Int::Number(n) => n,
-        Int::Refused(_) => 0,
-    }
-}
-
-// A record's reference length as ends, bins and pair tests ask for it: they pass a refusal on, and here alone it is made 0.
-pub fn asked_length(bam: &[u8]) -> Int
-    ensures { λ r. ⌜ r ≡ askedLength (now (bam .entry)) ⌝ }
-{
-    Int::Number(reference_length_from_raw_bam(bam))
+    reference_length_from_raw_bam_checked(bam)
 }
 
 // A record's query length. Refusal 1.

@@ -1,4 +1,4 @@
--- The calls, asked one after the other, give the first of 1, 7, 6, 2, 4: each can only give some of these, and all choices of them are computed.
+-- The calls, asked one after the other, give the first of 1, 7, 6, 2, 4: each can only give some of these, the bin beside 4 what the length gives, and all choices of them are computed.
 use Prim.Native.Nat.{ℕ, _≤_}
 use mathlib.Core.Path.{_≡_, refl, sym, ap, _∙_}
 use mathlib.Core.Bool.{Bool, true, false, cond, _&&_}
@@ -8,7 +8,7 @@ use lib.Dec.{ltb, eqb}
 use lib.ListN.{length, length-replicate}
 use lib.Signed.{ltZ}
 use lib.IntN.{ℤ, pos, _+ℤ_, _-ℤ_}
-use borrow.Author.Tests.{le-ltb, ltb-false, eqb-true}
+use borrow.Author.Tests.{le-ltb, ltb-false, eq-eqb, eqb-true}
 use Rattle.lists.proofs.Absurd.{never}
 use Rattle.lists.specs.Lists.{splice, sumOf}
 use Rattle.lists.specs.Runs.{holds}
@@ -22,12 +22,13 @@ use Rattle.answers.specs.Answers.{bare1, tellCount, tellInt, tellNat}
 use Rattle.answers.specs.Settled.{Outcome, keeps}
 use Rattle.answers.specs.declared.Refusal.{Refusal}
 use Rattle.answers.specs.declared.Refusal.the-variants.{ShortRecord, AreaOverrun, Overflow, NoRoom, BadCode}
+use Rattle.answers.specs.declared.Int.{Int}
 use Rattle.answers.specs.declared.Int.the-variants as Int
 use Rattle.answers.specs.declared.Nat.the-variants as Nat
 use Rattle.answers.specs.declared.Count.{Count}
 use Rattle.answers.specs.declared.Count.the-variants as Count
 use Rattle.print_rules.specs.Text.{textOf, anyBad, printed}
-use Rattle.lengths.specs.Lengths.{asInt, checkedRefLength, refLengthOrZero, askedLength, recordQueryLength}
+use Rattle.lengths.specs.Lengths.{asInt, checkedRefLength, recordQueryLength}
 use Rattle.ends_rules.specs.Sums.{_⊕_}
 use Rattle.ends_rules.specs.Ends.{plusOne, fivePrime, noOps, asUnclipped, unclippedAt, unclippedOf, asRust}
 use Rattle.ends_rules.specs.declared.Unclipped.{Unclipped}
@@ -61,15 +62,15 @@ firstGiven p i u n = cond (eqb p 0) (cond (eqb i 0) (cond (eqb u 0) n u) i) p
 abbrev agrees : ℕ → ℕ → ℕ → ℕ → Bool
 agrees p i u n = eqb (firstOf order (p ∷ i ∷ 0 ∷ u ∷ n ∷ [])) (firstGiven p i u n)
 
-ordered : (p i u n : ℕ) → Among p (0 ∷ 7 ∷ 6 ∷ []) → Among i (0 ∷ 2 ∷ 4 ∷ []) → Among u (0 ∷ 4 ∷ []) → Among n (0 ∷ 4 ∷ []) → firstOf order (p ∷ i ∷ 0 ∷ u ∷ n ∷ []) ≡ firstGiven p i u n
+ordered : (p i u n : ℕ) → Among p (0 ∷ 7 ∷ 6 ∷ []) → Among i (0 ∷ 2 ∷ 4 ∷ []) → Among u (0 ∷ 4 ∷ []) → Among n (0 ∷ 4 ∷ i ∷ []) → firstOf order (p ∷ i ∷ 0 ∷ u ∷ n ∷ []) ≡ firstGiven p i u n
 unfolding firstOf holds
 ordered p i u n hp hi hu hn =
     let some4 : List ℕ = 0 ∷ 4 ∷ [] in
     let some24 : List ℕ = 0 ∷ 2 ∷ 4 ∷ [] in
-    let a = every-at (λ p. every (λ i. every (λ u. every (λ n. agrees p i u n) some4) some4) some24) p (0 ∷ 7 ∷ 6 ∷ []) refl hp in
-    let b = every-at (λ i. every (λ u. every (λ n. agrees p i u n) some4) some4) i some24 a hi in
-    let c = every-at (λ u. every (λ n. agrees p i u n) some4) u some4 b hu in
-    eqb-true _ _ (every-at (λ n. agrees p i u n) n some4 c hn)
+    let a = every-at (λ p. every (λ i. every (λ u. every (λ n. agrees p i u n) (0 ∷ 4 ∷ i ∷ [])) some4) some24) p (0 ∷ 7 ∷ 6 ∷ []) refl hp in
+    let b = every-at (λ i. every (λ u. every (λ n. agrees p i u n) (0 ∷ 4 ∷ i ∷ [])) some4) i some24 a hi in
+    let c = every-at (λ u. every (λ n. agrees p i u n) (0 ∷ 4 ∷ i ∷ [])) u some4 b hu in
+    eqb-true _ _ (every-at (λ n. agrees p i u n) n (0 ∷ 4 ∷ i ∷ []) c hn)
 
 -- ---- the printing
 
@@ -170,23 +171,39 @@ five-among b h = rw (le-ltb (length b) 32 h) (go (isUnmapped (flagsOf b)) (noOps
     go false true = refl
     go false false = five-at (Sum.Number (posOf b) ⊕ Sum.Number (pos 1)) (isReverse (flagsOf b)) (recordOps b)
 
-bin-to : (z : ℤ) (s : Sum) → Among (tellNat (binTo z s) .number) (0 ∷ 4 ∷ [])
-unfolding holds binTo
-bin-to z (Sum.Number l) = refl
-bin-to z Sum.Over = refl
+-- nothing, 4, or what the length gives
+module _ (k : ℕ) where
+  last-among : Among k (0 ∷ 4 ∷ k ∷ [])
+  unfolding holds
+  last-among = rw (eq-eqb k k refl) (go (eqb k 0) (eqb k 4))
+    where
+      go : (t u : Bool) → cond t true (cond u true true) ≡ true
+      go true u = refl
+      go false true = refl
+      go false false = refl
 
-bin-up-to : (z : ℤ) (s : Sum) → Among (tellNat (binUpTo z s) .number) (0 ∷ 4 ∷ [])
-unfolding holds binUpTo reg2bin
-bin-up-to z (Sum.Number e) = bin-to z (checked (e -ℤ pos 1))
-bin-up-to z Sum.Over = refl
+  bin-to : (z : ℤ) (s : Sum) → Among (tellNat (binTo z s) .number) (0 ∷ 4 ∷ k ∷ [])
+  unfolding holds binTo
+  bin-to z (Sum.Number l) = refl
+  bin-to z Sum.Over = refl
 
-bin-among : (b : List ℕ) → 32 ≤ length b → Among (binTold b .number) (0 ∷ 4 ∷ [])
-unfolding holds recordBin binFrom askedLength
-bin-among b h = rw (le-ltb (length b) 32 h) (go (ltZ (posOf b) (pos 0)) (checked (posOf b +ℤ spanOf (refLengthOrZero b))))
+  bin-up-to : (z : ℤ) (s : Sum) → Among (tellNat (binUpTo z s) .number) (0 ∷ 4 ∷ k ∷ [])
+  unfolding holds binUpTo reg2bin
+  bin-up-to z (Sum.Number e) = bin-to z (checked (e -ℤ pos 1))
+  bin-up-to z Sum.Over = refl
+
+bin-from : (z : ℤ) (n : Int) → Among (tellNat (binFrom z n) .number) (0 ∷ 4 ∷ tellInt n .number ∷ [])
+unfolding binFrom
+bin-from z (Int.Number n) = bin-up-to 0 z (checked (z +ℤ spanOf n))
+bin-from z (Int.Refused r) = last-among (tellInt (Int.Refused r) .number)
+
+bin-among : (b : List ℕ) → 32 ≤ length b → Among (binTold b .number) (0 ∷ 4 ∷ refsTold b .number ∷ [])
+unfolding holds recordBin
+bin-among b h = rw (le-ltb (length b) 32 h) (go (ltZ (posOf b) (pos 0)) (checkedRefLength b))
   where
-    go : (t : Bool) (s : Sum) → Among (tellNat (cond t (Nat.Number 4680) (binUpTo (posOf b) s)) .number) (0 ∷ 4 ∷ [])
-    go true s = refl
-    go false s = bin-up-to (posOf b) s
+    go : (t : Bool) (n : Int) → Among (tellNat (cond t (Nat.Number 4680) (binFrom (posOf b) n)) .number) (0 ∷ 4 ∷ tellInt n .number ∷ [])
+    go true n = refl
+    go false n = bin-from (posOf b) n
 
 -- ---- the refusal of a record
 

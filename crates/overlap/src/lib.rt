@@ -101,7 +101,7 @@ fn is_no(fr: Flag) -> bool
     }
 }
 
-// The query bases past the mate, whose ops are given. Refusals 1, 3 and 4.
+// The query bases past the mate, whose ops are given. Refusals 1, 3, 2 and 4.
 pub fn num_bases_extending_past_mate_cigar_raw(bam: &[u8], mate_ops: &[u32]) -> Count
     ensures { λ r. ⌜ r ≡ pastMateCigar (now (bam .entry)) (now («mate_ops» .entry)) ⌝ }
 {
@@ -123,7 +123,7 @@ pub fn num_bases_extending_past_mate_cigar_raw(bam: &[u8], mate_ops: &[u32]) -> 
     pair_overhang(fr, bam, fields::mate_place(bam), mate_ops, &[], list)
 }
 
-// The query bases past the mate, whose record is given. Refusals 1 and 4.
+// The query bases past the mate, whose record is given. Refusals 1, 2 and 4.
 pub fn num_bases_extending_past_mate_vs_mate_raw(rec: &[u8], mate: &[u8]) -> Count
     ensures { λ r. ⌜ r ≡ pastMateRecord (now (rec .entry)) (now (mate .entry)) ⌝ }
 {

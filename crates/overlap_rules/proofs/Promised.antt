@@ -1,5 +1,6 @@
--- What document 01 promises of the calls: "An overhang never exceeds the read's query length".
+-- What is promised of the calls. Document 01: "An overhang never exceeds the read's query length". Document 02, item 7: overhang calls "pass the refusal on wherever they ask for this length".
 use Prim.Native.Nat.{ℕ, _≤_}
+use mathlib.Core.Path.{_≡_}
 use mathlib.Core.Bool.{Bool, true, false, cond, not}
 use mathlib.Core.List.{List}
 use native.Mathlib.Omega.{arith}
@@ -10,6 +11,7 @@ use Rattle.lists.specs.Lists.{sumOf, splice}
 use Rattle.sam.specs.Op.{queryLen}
 use Rattle.sam.specs.Record.{flagsOf, posOf, matePosOf, isReverse, isShort}
 use Rattle.answers.specs.Settled.{Outcome, keeps}
+use Rattle.answers.specs.declared.Refusal.{Refusal}
 use Rattle.answers.specs.declared.Refusal.the-variants.{ShortRecord, TooManyOps, Overflow, NoRoom}
 use Rattle.answers.specs.declared.Count.{Count}
 use Rattle.answers.specs.declared.Count.the-variants as Count
@@ -28,6 +30,29 @@ use Rattle.overlap_rules.specs.declared.Overhang.{Overhang}
 use Rattle.overlap_rules.specs.declared.Overhang.the-variants as Overhang
 use Rattle.overlap_rules.specs.Bound.{Within, WithinText}
 use Rattle.overlap_rules.specs.Overlap.{placedPair, isOver, basesAt, overhangAt, pairOverhang, isFrBy, pastMateCigar, pastMateRecord, listLeft, pairListLeft, pastMateText}
+
+-- ---- the pair test's refusal, which is a length's, is the call's: before 4 of a place, and before 6
+
+pub cigar-no-length : (b ys : List ℕ) (r : Refusal) → isShort b ≡ false → ltb mostOps (length ys) ≡ false → validMapped ys ≡ true → isFrBy b ys ≡ Flag.Refused r → pastMateCigar b ys ≡ Count.Refused r
+unfolding pastMateCigar
+cigar-no-length b ys r s m v e = rw (s, m, v) (passed (isFrBy b ys) e)
+  where
+    passed : (fr : Flag) → fr ≡ Flag.Refused r → pairOverhang fr b (matePosOf b) ys ≡ Count.Refused r
+    passed fr f = rw f
+
+pub record-no-length : (b m : List ℕ) (r : Refusal) → isShort b ≡ false → isShort m ≡ false → isPrimaryFr b m ≡ Flag.Refused r → pastMateRecord b m ≡ Count.Refused r
+unfolding pastMateRecord
+record-no-length b m r s t e = rw (s, t, e)
+
+pub text-no-length : (b s d : List ℕ) (r : Refusal) → isShort b ≡ false → strict s ≡ true → ltb mostOps (length (textOps s)) ≡ false → isFrBy b (textOps s) ≡ Flag.Refused r
+    → pastMateText b s d ≡ keeps (Overhang.Refused r) d
+unfolding pastMateText
+text-no-length b s d r l t m e = rw (l, t, m) (passed (isFrBy b (textOps s)) e)
+  where
+    passed : (fr : Flag) → fr ≡ Flag.Refused r → pairListLeft fr b (textOps s) d ≡ keeps (Overhang.Refused r) d
+    passed fr f = rw f
+
+-- ---- the most that an overhang is
 
 bases-most : (p : PairPlaces) (b ys : List ℕ) → basesAt p b ys ≤ sumOf queryLen (recordOps b)
 bases-most PairPlaces.Apart b ys = omega arith

@@ -56,7 +56,7 @@ basesAt PairPlaces.Over b ys = 0
 unfoldable pub overhangAt : PairPlaces → List ℕ → List ℕ → Count
 overhangAt p b ys = cond (isOver p) (Count.Refused Overflow) (Count.Number (basesAt p b ys))
 
--- the same by the pair test, whose refusal is passed on
+-- the same by the pair test, whose refusal, a length's, is passed on before the places are looked at
 abbrev pub pairOverhang : Flag → List ℕ → ℤ → List ℕ → Count
 pairOverhang (Flag.Is fr) b m ys = overhangAt (placedPair fr b m) b ys
 pairOverhang (Flag.Refused r) b m ys = Count.Refused r
@@ -65,14 +65,14 @@ pairOverhang (Flag.Refused r) b m ys = Count.Refused r
 abbrev pub isFrBy : List ℕ → List ℕ → Flag
 isFrBy b ys = isFrWithMate b (clamp32 (pos (sumOf refLen ys)))
 
--- mate ops: 1, 3; 0 for a list that is no valid mapped CIGAR; 4
+-- mate ops: 1, 3; 0 for a list that is no valid mapped CIGAR; 2, 4
 unfoldable pub pastMateCigar : List ℕ → List ℕ → Count
 pastMateCigar b ys =
     cond (isShort b) (Count.Refused ShortRecord)
     (cond (ltb mostOps (length ys)) (Count.Refused TooManyOps)
     (cond (validMapped ys) (pairOverhang (isFrBy b ys) b (matePosOf b) ys) (Count.Number 0)))
 
--- the mate's record: 1, 4
+-- the mate's record: 1, 2, 4
 unfoldable pub pastMateRecord : List ℕ → List ℕ → Count
 pastMateRecord b m =
     cond (isShort b) (Count.Refused ShortRecord)
@@ -86,7 +86,7 @@ listLeft p b xs d =
     (cond (ltb (length d) (length xs)) (keeps (Overhang.Refused NoRoom) d)
     (record { answer = Overhang.Bases (basesAt p b xs) (length xs); left = splice d 0 xs }))
 
--- the same by the pair test
+-- the same by the pair test: 2, 4
 abbrev pub pairListLeft : Flag → List ℕ → List ℕ → List ℕ → Outcome Overhang
 pairListLeft (Flag.Is fr) b xs d = listLeft (placedPair fr b (matePosOf b)) b xs d
 pairListLeft (Flag.Refused r) b xs d = keeps (Overhang.Refused r) d

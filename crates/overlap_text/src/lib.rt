@@ -35,7 +35,7 @@ fn list_left(fr: bool, bam: &[u8], text: &[u8], n: u64, out: &mut [u32]) -> Over
 }
 
 // The query bases past the mate, whose ops are given as text; the ops go to the first places of out. A text that the strict reader refuses by 5 counts 0 and
-// writes nothing. Refusals 1, 3, 4 and 6.
+// writes nothing. Refusals 1, 3, 2, 4 and 6.
 pub fn num_bases_extending_past_mate_text_raw(bam: &[u8], text: &[u8], out: &mut [u32]) -> Overhang
     ensures { λ r. ⌜ Settled (pastMateText (now (bam .entry)) (now (text .entry)) (now (out .entry))) r (now (out .exit)) ⌝ }
 {

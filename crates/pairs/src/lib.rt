@@ -69,7 +69,7 @@ fn mate_starts_before(bam: &[u8]) -> Flag
 {
     let mate = fields::mate_place(bam);
     let own = fields::own_place(bam);
-    match lengths::asked_length(bam) {
+    match lengths::reference_length_from_raw_bam(bam) {
         Int::Number(n) => Flag::Is(starts_before_end(mate, own, n)),
         Int::Refused(why) => Flag::Refused(why),
     }
@@ -166,7 +166,7 @@ pub fn is_mapped_opposite_strand_pair_raw(bam: &[u8]) -> Flag
     Flag::Is(opposite(bam))
 }
 
-// FR by the record alone. Refusal 1.
+// FR by the record alone. Refusals 1, 2 and 4.
 pub fn is_fr_pair_raw(bam: &[u8]) -> Flag
     ensures { λ r. ⌜ r ≡ frPair (now (bam .entry)) ⌝ }
 {
@@ -176,7 +176,7 @@ pub fn is_fr_pair_raw(bam: &[u8]) -> Flag
     fr(bam)
 }
 
-// FR by both records. Refusal 1.
+// FR by both records. Refusals 1, 2 and 4.
 pub fn is_primary_fr_pair_raw(a: &[u8], b: &[u8]) -> Flag
     ensures { λ r. ⌜ r ≡ primaryFrPair (now (a .entry)) (now (b .entry)) ⌝ }
 {

@@ -8,18 +8,19 @@ use lib.IntN.{ℤ, pos}
 use lib.Signed.{leZ}
 use Rattle.signed.proofs.Halves.{leℤ}
 use Rattle.sam.specs.Record.{posOf, flagsOf, matePosOf, templateLenOf, isReverse, isShort}
+use Rattle.answers.specs.declared.Refusal.{Refusal}
 use Rattle.answers.specs.declared.Int.the-variants as Int
 use Rattle.answers.specs.declared.Flag.{Flag}
 use Rattle.answers.specs.declared.Flag.the-variants as Flag
-use Rattle.lengths.specs.Lengths.{askedLength}
-use Rattle.pairs_rules.specs.Pairs.{isOpposite, startOf, lastOf, startsBeforeEnd, mateStartsBefore, frBy, frPair}
+use Rattle.lengths.specs.Lengths.{checkedRefLength}
+use Rattle.pairs_rules.specs.Pairs.{isOpposite, startOf, lastOf, startsBeforeEnd, mateStartsBefore, frBy, areOpposite, isPrimaryFr, frPair, primaryFrPair}
 
 starts-at-end : (s p n : ℤ) → startOf s ≡ lastOf p n → startsBeforeEnd s p (Int.Number n) ≡ Flag.Is true
 starts-at-end s p n e = simp e (ap Flag.Is (leℤ (lastOf p n) (lastOf p n) (omega arith)))
 
 module _ (b : List ℕ) (l : isShort b ≡ false) where
   -- "if mate start ≤ own end": a mate that starts at a reverse record's last base
-  pub fr-at-end : (n : ℤ) → isOpposite b ≡ true → isReverse (flagsOf b) ≡ true → askedLength b ≡ Int.Number n → startOf (matePosOf b) ≡ lastOf (posOf b) n
+  pub fr-at-end : (n : ℤ) → isOpposite b ≡ true → isReverse (flagsOf b) ≡ true → checkedRefLength b ≡ Int.Number n → startOf (matePosOf b) ≡ lastOf (posOf b) n
       → frPair b ≡ Flag.Is true
   unfolding frPair frBy mateStartsBefore
   fr-at-end n o r k e = simp (l, o, r, k) (starts-at-end (matePosOf b) (posOf b) n e)
@@ -32,3 +33,18 @@ module _ (b : List ℕ) (l : isShort b ≡ false) where
       go : (o : Bool) → cond o (Flag.Is (leZ (pos 1) (pos 0))) (Flag.Is false) ≡ Flag.Is false
       go true = refl
       go false = refl
+
+  -- "a pair whose flags already fail still answers no", also where the record is damaged
+  pub flags-first : isOpposite b ≡ false → frPair b ≡ Flag.Is false
+  unfolding frPair frBy
+  flags-first o = simp (l, o)
+
+  -- a reverse record whose length is refused passes no pair test
+  pub no-length : (r : Refusal) → isOpposite b ≡ true → isReverse (flagsOf b) ≡ true → checkedRefLength b ≡ Int.Refused r → frPair b ≡ Flag.Refused r
+  unfolding frPair frBy mateStartsBefore
+  no-length r o t e = simp (l, o, t, e)
+
+-- the same of two records
+pub both-flags-first : (a b : List ℕ) → isShort a ≡ false → isShort b ≡ false → areOpposite a b ≡ false → primaryFrPair a b ≡ Flag.Is false
+unfolding primaryFrPair isPrimaryFr
+both-flags-first a b l m o = simp (l, m, o)

@@ -3,7 +3,7 @@ use Prim.Native.Nat.{ℕ}
 use mathlib.Core.Path.{_≡_}
 use mathlib.Core.List.{List}
 use Rattle.sam.specs.Record.{refIdOf, posOf, flagsOf, mateRefIdOf, matePosOf, isPaired, isUnmapped, isMateUnmapped, isReverse, isMateReverse}
-use Rattle.lengths.specs.Lengths.{askedLength}
+use Rattle.lengths.specs.Lengths.{checkedRefLength}
 
 -- "paired, both mapped, same reference, strands differ"
 pub record SamePair (a b : List ℕ) : Type 0 where
@@ -19,4 +19,4 @@ pub record SamePair (a b : List ℕ) : Type 0 where
 pub record SameReverse (a b : List ℕ) : Type 0 where
   pub mate-place : matePosOf a ≡ matePosOf b
   pub place : posOf a ≡ posOf b
-  pub span : askedLength a ≡ askedLength b
+  pub span : checkedRefLength a ≡ checkedRefLength b

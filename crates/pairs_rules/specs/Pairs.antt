@@ -1,5 +1,6 @@
 -- Document 01, module 10: "`is_mapped_opposite_strand_pair_raw`: paired, both mapped, same reference, strands differ. Such a pair is FR: for a reverse record,
 -- if mate start ≤ own end; for a forward one, if template length is at least 1, or with mate ops, if own start ≤ mate end." Sums here are the Rust's of 64 bits, which don't overflow.
+-- Document 02, item 7: the pair tests "pass the refusal on wherever they ask for this length"; "a pair whose flags already fail still answers no".
 use Prim.Native.Nat.{ℕ}
 use mathlib.Core.Bool.{Bool, false, cond, not, xor, _&&_}
 use mathlib.Core.List.{List}
@@ -12,7 +13,7 @@ use Rattle.answers.specs.declared.Int.{Int}
 use Rattle.answers.specs.declared.Int.the-variants as Int
 use Rattle.answers.specs.declared.Flag.{Flag}
 use Rattle.answers.specs.declared.Flag.the-variants as Flag
-use Rattle.lengths.specs.Lengths.{askedLength}
+use Rattle.lengths.specs.Lengths.{checkedRefLength}
 
 -- "both mapped", by a record's flag
 unfoldable pub bothMapped : ℕ → Bool
@@ -31,14 +32,14 @@ startOf p = p +ℤ pos 1
 abbrev pub lastOf : ℤ → ℤ → ℤ
 lastOf p n = startOf p +ℤ n -ℤ pos 1
 
--- the same of a length that was asked for; its refusal is passed on
+-- the order of the two, by a length that was asked for; its refusal is passed on
 abbrev pub startsBeforeEnd : ℤ → ℤ → Int → Flag
 startsBeforeEnd s p (Int.Number n) = Flag.Is (leZ (startOf s) (lastOf p n))
 startsBeforeEnd s p (Int.Refused r) = Flag.Refused r
 
 -- "for a reverse record, if mate start ≤ own end"
 unfoldable pub mateStartsBefore : List ℕ → Flag
-mateStartsBefore b = startsBeforeEnd (matePosOf b) (posOf b) (askedLength b)
+mateStartsBefore b = startsBeforeEnd (matePosOf b) (posOf b) (checkedRefLength b)
 
 -- "Such a pair is FR", by the test of a forward record
 unfoldable pub frBy : Bool → List ℕ → Flag
@@ -62,7 +63,7 @@ areOpposite a b =
 unfoldable pub isPrimaryFr : List ℕ → List ℕ → Flag
 isPrimaryFr a b = cond (areOpposite a b) (isFr (cond (isReverse (flagsOf a)) a b)) (Flag.Is false)
 
--- ---- the calls: 1
+-- ---- the calls: 1; then, where a reverse record is asked for its length, 2 and 4
 
 unfoldable pub oppositePair : List ℕ → Flag
 oppositePair b = cond (isShort b) (Flag.Refused ShortRecord) (Flag.Is (isOpposite b))

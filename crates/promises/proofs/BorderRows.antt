@@ -12,11 +12,14 @@ use Rattle.signed.specs.declared.Side.the-variants.{Below, Within, Above}
 use Rattle.signed.specs.declared.Sum.the-variants as Sum
 use Rattle.answers.specs.declared.Pos1.{Pos1}
 use Rattle.answers.specs.declared.Place1.the-variants as Place1
+use Rattle.answers.specs.declared.Int.{Int}
+use Rattle.answers.specs.declared.Int.the-variants as Int
+use Rattle.answers.specs.declared.Refusal.{Refusal}
 use Rattle.answers.specs.declared.Refusal.the-variants.{ShortRecord}
 use Rattle.sam.specs.Record.{posOf}
-use Rattle.lengths.specs.Lengths.{refLengthOrZero, askedLength}
+use Rattle.lengths.specs.Lengths.{checkedRefLength}
 use Rattle.ends_rules.specs.Sums.{both, _⊕_}
-use Rattle.ends_rules.specs.Ends.{toPlace1, plusOne, alignmentStart, alignmentEnd}
+use Rattle.ends_rules.specs.Ends.{toPlace1, plusOne, alignmentStart, endAt, alignmentEnd}
 use Rattle.answers.specs.Answers.{Told}
 use Rattle.border.specs.Border.{intOf, countOf, flagOf, foundOf, twoOf, lengthsOf}
 use Rattle.border.specs.declared.ToldInt.{ToldInt}
@@ -75,11 +78,16 @@ start-is-natural b p = go (ltb (length b) 32) (posOf b)
     go false (pos n) e = found-is-natural (ltb n 0) false n 1 p e
 
 pub end-is-natural : (b : List ℕ) (p : Pos1) → alignmentEnd b ≡ Place1.At p → pos (natural (p .0)) ≡ p .0
-unfolding alignmentEnd askedLength
-end-is-natural b p = go (ltb (length b) 32) (posOf b) (refLengthOrZero b)
+unfolding alignmentEnd
+end-is-natural b p = go (ltb (length b) 32) (posOf b) (checkedRefLength b)
   where
-    go : (t : Bool) (z y : ℤ) → cond t (Place1.Refused ShortRecord) (cond (ltZ z (pos 0)) Place1.Nothing (cond (eqb (natural y) 0) Place1.Nothing (toPlace1 (Sum.Number z ⊕ Sum.Number y)))) ≡ Place1.At p → pos (natural (p .0)) ≡ p .0
+    passed : (t : Bool) (r : Refusal) → cond t Place1.Nothing (Place1.Refused r) ≡ Place1.At p → pos (natural (p .0)) ≡ p .0
+    passed true r e = cc
+    passed false r e = cc
+
+    go : (t : Bool) (z : ℤ) (y : Int) → cond t (Place1.Refused ShortRecord) (cond (ltZ z (pos 0)) Place1.Nothing (endAt z y)) ≡ Place1.At p → pos (natural (p .0)) ≡ p .0
     go true z y e = cc
     go false (negsuc n) y e = cc
-    go false (pos n) (negsuc m) e = found-is-natural (ltb n 0) true n 0 p e
-    go false (pos n) (pos m) e = found-is-natural (ltb n 0) (eqb m 0) n m p e
+    go false (pos n) (Int.Number (negsuc m)) e = found-is-natural (ltb n 0) true n 0 p e
+    go false (pos n) (Int.Number (pos m)) e = found-is-natural (ltb n 0) (eqb m 0) n m p e
+    go false (pos n) (Int.Refused r) e = passed (ltb n 0) r e

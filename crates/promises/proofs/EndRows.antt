@@ -1,37 +1,37 @@
 -- The refusal table of the ends and of lookup: each test of a definition is a row, and each checked sum one of those that row 4 names.
 use Prim.Native.Nat.{ℕ, _-_}
 use mathlib.Core.Path.{_≡_, refl}
-use mathlib.Core.Bool.{Bool, true, false, cond}
+use mathlib.Core.Bool.{Bool, true, false, cond, not}
 use mathlib.Core.List.{List, [], _∷_}
 use lib.IntN.{ℤ, pos, _+ℤ_, _-ℤ_}
 use lib.ListN.{length}
 use lib.Dec.{ltb, eqb}
 use lib.Signed.{ltZ}
 use Rattle.lists.specs.Lists.{sumOf}
-use Rattle.signed.specs.Whole.{natural}
 use Rattle.signed.specs.declared.Sum.{Sum}
 use Rattle.signed.specs.declared.Sum.the-variants as Sum
 use Rattle.sam.specs.Columns.{Over, Base, Gap, Off}
 use Rattle.sam.specs.Op.{refLen}
 use Rattle.sam.specs.Record.{posOf, flagsOf, isUnmapped, isReverse, isShort}
 use Rattle.clip_runs.specs.Clips.{leadingClips, clipsAfterReference}
-use Rattle.lengths.specs.Lengths.{refLengthOrZero, askedLength}
 use Rattle.oplist.specs.Ops.{mostOps, recordOps}
 use Rattle.answers.specs.Answers.{Told, bare1, tellInt, tellPlace0, tellPlace1}
 use Rattle.answers.specs.declared.Pos0.{Pos0}
+use Rattle.answers.specs.declared.Int.the-variants as Int
 use Rattle.answers.specs.declared.Place0.the-variants as Place0
 use Rattle.answers.specs.declared.Place1.the-variants as Place1
 use Rattle.answers.specs.declared.Refusal.the-variants.{ShortRecord, TooManyOps, BadStart}
 use Rattle.ends_rules.specs.Sums.{both, _⊕_, _⊖_}
 use Rattle.ends_rules.specs.Tails.{greatestRun}
-use Rattle.ends_rules.specs.Ends.{provided, trailingSum, unclippedStart, unclippedEnd, fivePrime, toPlace0, toPlace1, plusOne, noOps, asUnclipped, unclippedAt, unclippedOf, asRust, unclippedFrom, alignmentStart, alignmentEnd}
+use Rattle.ends_rules.specs.Ends.{provided, trailingSum, unclippedStart, unclippedEnd, fivePrime, toPlace0, toPlace1, plusOne, noOps, asUnclipped, unclippedAt, unclippedOf, asRust, unclippedFrom, alignmentStart, endAt, alignmentEnd}
 use Rattle.ends_rules.specs.declared.Unclipped.{Unclipped}
 use Rattle.ends_rules.specs.declared.Unclipped.the-variants as Unclipped
 use Rattle.lookup_rules.specs.Lookup.{Answer, Nothing, Refused, look, readOver, lookup, counted, looked, tellFound}
 use Rattle.lookup_rules.specs.Examined.{examined}
-use Rattle.promises.specs.Table.{Gives}
-use Rattle.promises.specs.Rows.{over, endSums, unclippedRows, unclippedFromRows, startRows, endRows, lookupRows}
-use Rattle.promises.proofs.RowLaws.{number-alone, answer, row, row-either, row-unless, row-sum}
+use Rattle.promises.specs.Table.{only, Gives}
+use Rattle.promises.specs.Rows.{over, refsOf, endSums, unclippedRows, unclippedFromRows, startRows, endRows, lookupRows}
+use Rattle.promises.proofs.RowLaws.{number-alone, answer, row, row-past, row-either, row-unless, row-sum}
+use Rattle.promises.proofs.LengthRows.{passes-on, length-rows}
 
 module _ {A : Type 0} (tell : A → Told) (to : Sum → A) (stops : tell (to Sum.Over) ≡ number-alone 4) (goes : (z : ℤ) → tell (to (Sum.Number z)) .number ≡ 0) where
   -- the sums of an unclipped end
@@ -104,12 +104,18 @@ alignment-start-from-raw b =
     (row-sum tellPlace1 toPlace1 (posOf b +ℤ pos 1) [] refl (answer refl refl)))
 
 pub alignment-end-from-raw : (b : List ℕ) → Gives (tellPlace1 (alignmentEnd b)) (endRows b)
-unfolding alignmentEnd askedLength both
+unfolding alignmentEnd both
 alignment-end-from-raw b =
-    row tellPlace1 (isShort b) (Place1.Refused ShortRecord) _ 1 refl
-    (row-unless tellPlace1 (ltZ (posOf b) (pos 0)) Place1.Nothing _ refl
-    (row-unless tellPlace1 (eqb (natural (refLengthOrZero b)) 0) Place1.Nothing _ refl
-    (row-sum tellPlace1 toPlace1 (posOf b +ℤ refLengthOrZero b) [] refl (answer refl refl))))
+    row-past tellPlace1 (isShort b) (Place1.Refused ShortRecord) _ 1 refl (λ l.
+    row-unless tellPlace1 (ltZ (posOf b) (pos 0)) Place1.Nothing _ refl
+    (length-rows _ (passes-on Int.Refused tellPlace1 (endAt (posOf b)) (λ r. refl)) b l (λ n. only (not none) (over (end ∷ []) ∷ []))
+    (row-unless tellPlace1 none Place1.Nothing _ refl (row-sum tellPlace1 toPlace1 end [] refl (answer refl refl)))))
+  where
+    none : Bool
+    none = eqb (sumOf refLen (recordOps b)) 0
+
+    end : ℤ
+    end = posOf b +ℤ refsOf b
 
 pub read-pos-at-ref-pos-raw : (xs : List ℕ) (start at : ℕ) (asked : Bool) → Gives (tellFound (looked xs start at asked)) (lookupRows xs start)
 unfolding looked lookup

@@ -27,13 +27,14 @@ use Rattle.ops.specs.Ops.{getOps, kindOf, fromOpType, tellKind, newOp, tellOp}
 use Rattle.ops.specs.declared.CigarKind.{CigarKind}
 use Rattle.ops.specs.declared.KindFound.the-variants.{Kind, Nothing}
 use Rattle.ops.specs.declared.NewOp.the-variants as NewOp
-use Rattle.lengths.specs.Lengths.{asInt, refLength, queryLength, saturatedLength, checkedRefLength, refLengthOrZero, askedLength, recordQueryLength, lengthsWith, recordLengths, tellLengths}
+use Rattle.lengths.specs.Lengths.{asInt, refLength, queryLength, saturatedLength, checkedRefLength, recordQueryLength, lengthsWith, recordLengths, tellLengths}
 use Rattle.lengths.specs.declared.Lengths.{Lengths}
 use Rattle.lengths.specs.declared.Lengths.the-variants as Lengths
 use Rattle.bin_rules.specs.Bin.{binTo, reg2bin, spanOf, binUpTo, recordBin, withBin, setBin, binFrom}
 use Rattle.promises.specs.Table.{Row, _when_, Gives, GivesKept, GivesFilled}
-use Rattle.promises.specs.Rows.{over, anyOutside, recordRows, opsRows, newRows, listRows, lengthRows, checkedRows, lengthsRows, regionRows, binRows}
-use Rattle.promises.proofs.RowLaws.{number-alone, answer, row, row-either, row-unless, row-sum, kept-row, last-row}
+use Rattle.promises.specs.Rows.{over, anyOutside, refsOf, recordRows, opsRows, newRows, listRows, lengthRows, checkedRows, lengthsRows, regionRows, binRows}
+use Rattle.promises.proofs.RowLaws.{number-alone, answer, row, row-past, row-either, row-unless, row-sum, kept-row, last-row}
+use Rattle.promises.proofs.LengthRows.{passes-on, length-rows}
 
 -- ---- fields
 
@@ -91,7 +92,7 @@ unfolding cigarPart
 no-part b t = rw (t) refl
 
 -- ---- calls whose answer is a plain number or flag, and `from_op_type`, refuse nothing: `consumes_ref`, `consumes_query`, `consumes_read`, `as_char`, `op_kind`, `op_len`,
--- `op_consumes_query`, `op_consumes_ref`, `reference_length_from_raw_bam`, `mate_unclipped_5prime`, `mate_unclipped_5prime_1based`
+-- `op_consumes_query`, `op_consumes_ref`, `mate_unclipped_5prime`, `mate_unclipped_5prime_1based`
 
 pub plain : (zs : List ℤ) → Gives (answered zs) []
 plain zs = answer refl refl
@@ -152,6 +153,10 @@ reference-length-from-raw-bam-checked b =
     row tellInt (isShort b) (Int.Refused ShortRecord) _ 1 refl
     (row tellInt (ltb (length b) (opsEnd b)) (Int.Refused AreaOverrun) _ 2 refl (total-rows tellInt (λ x. x) (sumOf refLen (recordOps b)) refl refl))
 
+-- "The default becomes the checked form's refusal"
+pub reference-length-from-raw-bam : (b : List ℕ) → Gives (tellInt (checkedRefLength b)) (checkedRows b)
+reference-length-from-raw-bam = reference-length-from-raw-bam-checked
+
 pub query-length : (b : List ℕ) → Gives (tellCount (recordQueryLength b)) (recordRows b)
 unfolding recordQueryLength
 query-length b = row tellCount (isShort b) (Count.Refused ShortRecord) _ 1 refl (answer refl refl)
@@ -172,14 +177,15 @@ pub reg2bin-rows : (beg end : ℤ) → Gives (tellNat (reg2bin beg end)) (region
 reg2bin-rows beg end = region beg end
 
 pub bin-from-raw-bam : (b : List ℕ) → Gives (tellNat (recordBin b)) (binRows b)
-unfolding recordBin binFrom askedLength binUpTo
+unfolding recordBin binFrom binUpTo
 bin-from-raw-bam b =
-    row tellNat (isShort b) (Nat.Refused ShortRecord) _ 1 refl
-    (row-unless tellNat (ltZ (posOf b) (pos 0)) (Nat.Number 4680) _ refl
-    (row-sum tellNat (binUpTo (posOf b)) end ((end -ℤ pos 1) ∷ []) refl (region (posOf b) end)))
+    row-past tellNat (isShort b) (Nat.Refused ShortRecord) _ 1 refl (λ l.
+    row-unless tellNat (ltZ (posOf b) (pos 0)) (Nat.Number 4680) _ refl
+    (length-rows _ (passes-on Int.Refused tellNat (binFrom (posOf b)) (λ r. refl)) b l (λ n. over (end ∷ (end -ℤ pos 1) ∷ []) ∷ [])
+    (row-sum tellNat (binUpTo (posOf b)) end ((end -ℤ pos 1) ∷ []) refl (region (posOf b) end))))
   where
     end : ℤ
-    end = posOf b +ℤ spanOf (refLengthOrZero b)
+    end = posOf b +ℤ spanOf (refsOf b)
 
 -- a refusal writes nothing
 with-bin : (b : List ℕ) (a : Nat) (rows : List Row) → Gives (tellNat a) rows → GivesKept tellNat (withBin b a) b rows

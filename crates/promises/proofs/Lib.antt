@@ -1,4 +1,5 @@
 pub mod RowLaws
+pub mod LengthRows
 pub mod LeafRows
 pub mod TextRows
 pub mod EndRows
@@ -10,4 +11,5 @@ pub mod Demand3
 pub mod RoundTrip
 pub mod SamLaws
 pub mod ReadLaws
+pub mod AsBefore
 pub mod Marked

@@ -1,19 +1,19 @@
--- The refusal table of the pair tests and the overhang calls: each test of a definition is a row, in the same order; 4 is the two places of an FR pair.
+-- The refusal table of the pair tests and the overhang calls: each test of a definition is a row, in the same order; 2 and 4 are the reverse record's length's, and then 4 the two places' of an FR pair.
 use Prim.Native.Nat.{ℕ}
-use mathlib.Core.Path.{_≡_, refl, ap, subst}
+use mathlib.Core.Path.{_≡_, refl, subst}
 use mathlib.Core.Bool.{Bool, true, false, cond, _||_, _&&_}
-use mathlib.Core.List.{List, [], _∷_}
+use mathlib.Core.List.{List, [], _∷_, _++_}
 use lib.IntN.{ℤ, pos, negsuc, _+ℤ_}
 use lib.ListN.{length}
-use lib.Dec.{ltb}
-use lib.Signed.{ltZ, leZ}
-use Rattle.lists.proofs.Absurd.{never}
+use lib.Dec.{ltb, eqb}
+use lib.Signed.{ltZ}
 use Rattle.signed.specs.Whole.{checked, sideOf, sumAt}
 use Rattle.signed.specs.declared.Side.the-variants.{Below, Within, Above}
 use Rattle.signed.specs.declared.Sum.{Sum}
-use Rattle.sam.specs.Record.{flagsOf, posOf, matePosOf, isReverse, isShort}
-use Rattle.answers.specs.Answers.{tellFlag, tellCount}
-use Rattle.answers.specs.declared.Refusal.the-variants.{ShortRecord, TooManyOps, Overflow, NoRoom}
+use Rattle.sam.specs.Record.{posOf, matePosOf, isShort}
+use Rattle.answers.specs.Answers.{numberOf, tellFlag, tellCount}
+use Rattle.answers.specs.declared.Refusal.{Refusal}
+use Rattle.answers.specs.declared.Refusal.the-variants.{ShortRecord, AreaOverrun, TooManyOps, Overflow, NotACigar, NoRoom, BadCode, TooLong, BadStart, BadLength}
 use Rattle.answers.specs.declared.Count.the-variants as Count
 use Rattle.answers.specs.declared.Flag.{Flag}
 use Rattle.answers.specs.declared.Flag.the-variants as Flag
@@ -23,55 +23,37 @@ use Rattle.oplist.specs.Ops.{mostOps, recordOps}
 use Rattle.text_rules.specs.Text.{textOps}
 use Rattle.text_rules.specs.Valid.{validMapped}
 use Rattle.text_rules.specs.Strict.{strict}
-use Rattle.lengths.specs.Lengths.{refLengthOrZero, askedLength}
-use Rattle.pairs_rules.specs.Pairs.{isOpposite, startOf, lastOf, mateStartsBefore, frBy, isFr, areOpposite, isPrimaryFr, oppositePair, frPair, primaryFrPair}
+use Rattle.pairs_rules.specs.Pairs.{oppositePair, frPair, primaryFrPair}
 use Rattle.overhang_rules.specs.Overhang.{basesExtending}
 use Rattle.overlap_rules.specs.Overlap.{bothPlaces, placedPair, isOver, basesAt, overhangAt, pairOverhang, isFrBy, pastMateCigar, pastMateRecord, listLeft, pairListLeft, pastMateText, tellOverhang}
-use Rattle.overlap_rules.specs.declared.Overhang.{Overhang}
 use Rattle.overlap_rules.specs.declared.Overhang.the-variants as Overhang
-use Rattle.promises.specs.Table.{_when_, Gives, GivesFilled}
-use Rattle.promises.specs.Rows.{anyOutside, noRoom, isYes, placeRow, recordRows, twoRows, extendingRows, mateCigarRows, mateRecordRows, mateTextRows}
-use Rattle.promises.proofs.RowLaws.{answer, row, row-where, kept-row, kept-where, last-row}
+use Rattle.promises.specs.Table.{Row, _when_, Gives, GivesFilled}
+use Rattle.promises.specs.Rows.{anyOutside, noRoom, isYes, placeRow, recordRows, pairRows, frRows, twoRows, extendingRows, mateCigarRows, mateRecordRows, mateTextRows}
+use Rattle.promises.proofs.RowLaws.{answer, like, row, row-past, row-where, kept-refusal, like-filled, kept-row, kept-past, kept-where, last-row}
+use Rattle.promises.proofs.LengthRows.{passes-on, pair-rows, both-pair-rows}
 
 -- ---- the pair tests
-
--- no length is refused, so each test tells yes or no
-fr-told : (forward : Bool) (b : List ℕ) → frBy forward b ≡ Flag.Is (isYes (frBy forward b))
-unfolding frBy mateStartsBefore askedLength
-fr-told forward b = go (isOpposite b) (isReverse (flagsOf b))
-  where
-    own : Bool
-    own = leZ (startOf (matePosOf b)) (lastOf (posOf b) (refLengthOrZero b))
-
-    go : (t u : Bool) → cond t (cond u (Flag.Is own) (Flag.Is forward)) (Flag.Is false) ≡ Flag.Is (isYes (cond t (cond u (Flag.Is own) (Flag.Is forward)) (Flag.Is false)))
-    go true true = refl
-    go true false = refl
-    go false u = refl
-
-primary-told : (a b : List ℕ) → isPrimaryFr a b ≡ Flag.Is (isYes (isPrimaryFr a b))
-unfolding isPrimaryFr
-primary-told a b = go (areOpposite a b) (cond (isReverse (flagsOf a)) a b)
-  where
-    go : (t : Bool) (r : List ℕ) → cond t (isFr r) (Flag.Is false) ≡ Flag.Is (isYes (cond t (isFr r) (Flag.Is false)))
-    go true r = fr-told _ r
-    go false r = refl
-
-told : {fr : Flag} → fr ≡ Flag.Is (isYes fr) → Gives (tellFlag fr) []
-told e = answer (ap (λ (f : Flag). tellFlag f .number) e) refl
 
 pub is-mapped-opposite-strand-pair-raw : (b : List ℕ) → Gives (tellFlag (oppositePair b)) (recordRows b)
 unfolding oppositePair
 is-mapped-opposite-strand-pair-raw b = row tellFlag (isShort b) (Flag.Refused ShortRecord) _ 1 refl (answer refl refl)
 
-pub is-fr-pair-raw : (b : List ℕ) → Gives (tellFlag (frPair b)) (recordRows b)
+-- past a length that was asked for, a test tells yes or no
+told : (t : Bool) → Gives (tellFlag (Flag.Is t)) []
+told t = answer refl refl
+
+pub is-fr-pair-raw : (b : List ℕ) → Gives (tellFlag (frPair b)) (frRows b)
 unfolding frPair
-is-fr-pair-raw b = row tellFlag (isShort b) (Flag.Refused ShortRecord) _ 1 refl (told (fr-told _ b))
+is-fr-pair-raw b =
+    row-past tellFlag (isShort b) (Flag.Refused ShortRecord) _ 1 refl (λ l.
+    like refl (pair-rows _ (passes-on Flag.Refused tellFlag (λ fr. fr) (λ r. refl)) (λ t. []) told _ b l))
 
 pub is-primary-fr-pair-raw : (a b : List ℕ) → Gives (tellFlag (primaryFrPair a b)) (twoRows a b)
 unfolding primaryFrPair
 is-primary-fr-pair-raw a b =
-    row tellFlag (isShort a) (Flag.Refused ShortRecord) _ 1 refl
-    (row tellFlag (isShort b) (Flag.Refused ShortRecord) _ 1 refl (told (primary-told a b)))
+    row-past tellFlag (isShort a) (Flag.Refused ShortRecord) _ 1 refl (λ l.
+    row-past tellFlag (isShort b) (Flag.Refused ShortRecord) _ 1 refl (λ m.
+    like refl (both-pair-rows _ (passes-on Flag.Refused tellFlag (λ fr. fr) (λ r. refl)) (λ t. []) told a b l m)))
 
 -- ---- the overhang
 
@@ -107,22 +89,22 @@ overhang-rows fr b ys m =
     subst (λ t. Gives (tellCount (overhangAt (placedPair fr b m) b ys)) ((4 when t) ∷ [])) (placed-over fr b m)
     (row tellCount (isOver (placedPair fr b m)) (Count.Refused Overflow) _ 4 refl (answer refl refl))
 
-pair-rows : (fr : Flag) → fr ≡ Flag.Is (isYes fr) → (b ys : List ℕ) (m : ℤ) → Gives (tellCount (pairOverhang fr b m ys)) (placeRow (isYes fr) (posOf b) m ∷ [])
-pair-rows (Flag.Is t) e b ys m = overhang-rows t b ys m
-pair-rows (Flag.Refused r) e b ys m = never (cc)
-
 pub num-bases-extending-past-mate-cigar-raw : (b ys : List ℕ) → Gives (tellCount (pastMateCigar b ys)) (mateCigarRows b ys)
 unfolding pastMateCigar
 num-bases-extending-past-mate-cigar-raw b ys =
-    row tellCount (isShort b) (Count.Refused ShortRecord) _ 1 refl
-    (row tellCount (ltb mostOps (length ys)) (Count.Refused TooManyOps) _ 3 refl
-    (row-where tellCount (validMapped ys) (Count.Number 0) _ refl (pair-rows (isFrBy b ys) (fr-told _ b) b ys (matePosOf b))))
+    row-past tellCount (isShort b) (Count.Refused ShortRecord) _ 1 refl (λ l.
+    row tellCount (ltb mostOps (length ys)) (Count.Refused TooManyOps) _ 3 refl
+    (row-where tellCount (validMapped ys) (Count.Number 0) _ refl
+    (pair-rows _ (passes-on Flag.Refused tellCount (λ fr. pairOverhang fr b (matePosOf b) ys) (λ r. refl)) (λ t. placeRow t (posOf b) (matePosOf b) ∷ [])
+    (λ t. overhang-rows t b ys (matePosOf b)) _ b l)))
 
 pub num-bases-extending-past-mate-vs-mate-raw : (b m : List ℕ) → Gives (tellCount (pastMateRecord b m)) (mateRecordRows b m)
 unfolding pastMateRecord
 num-bases-extending-past-mate-vs-mate-raw b m =
-    row tellCount (isShort b) (Count.Refused ShortRecord) _ 1 refl
-    (row tellCount (isShort m) (Count.Refused ShortRecord) _ 1 refl (pair-rows (isPrimaryFr b m) (primary-told b m) b (recordOps m) (posOf m)))
+    row-past tellCount (isShort b) (Count.Refused ShortRecord) _ 1 refl (λ l.
+    row-past tellCount (isShort m) (Count.Refused ShortRecord) _ 1 refl (λ k.
+    both-pair-rows _ (passes-on Flag.Refused tellCount (λ fr. pairOverhang fr b (posOf m) (recordOps m)) (λ r. refl)) (λ t. placeRow t (posOf b) (posOf m) ∷ [])
+    (λ t. overhang-rows t b (recordOps m) (posOf m)) b m l k))
 
 -- 4, then 6, before the list is written
 list-rows : (fr : Bool) (b xs d : List ℕ) (m : ℤ)
@@ -132,17 +114,34 @@ list-rows fr b xs d m =
     subst (λ t. GivesFilled tellOverhang (listLeft (placedPair fr b m) b xs d) d ((4 when t) ∷ noRoom d (length xs) ∷ []) (Overhang.Bases (basesAt (placedPair fr b m) b xs) (length xs)) xs) (placed-over fr b m)
     (kept-row tellOverhang (isOver (placedPair fr b m)) (Overhang.Refused Overflow) 4 refl refl (last-row tellOverhang xs (Overhang.Refused NoRoom) _ refl refl))
 
-left-rows : (fr : Flag) → fr ≡ Flag.Is (isYes fr) → (b xs d : List ℕ)
-    → GivesFilled tellOverhang (pairListLeft fr b xs d) d (placeRow (isYes fr) (posOf b) (matePosOf b) ∷ noRoom d (length xs) ∷ []) (Overhang.Bases (basesAt (placedPair (isYes fr) b (matePosOf b)) b xs) (length xs)) xs
-left-rows (Flag.Is t) e b xs d = list-rows t b xs d (matePosOf b)
-left-rows (Flag.Refused r) e b xs d = never (cc)
+-- what is left of the room by the pair test
+abbrev LeftBy : List ℕ → List ℕ → List ℕ → Flag → List Row → Type 0
+LeftBy b xs d fr rows = GivesFilled tellOverhang (pairListLeft fr b xs d) d rows (Overhang.Bases (basesAt (placedPair (isYes fr) b (matePosOf b)) b xs) (length xs)) xs
+
+-- no refusal has the number 0
+numbered : (r : Refusal) → eqb (numberOf r) 0 ≡ false
+numbered ShortRecord = refl
+numbered AreaOverrun = refl
+numbered TooManyOps = refl
+numbered Overflow = refl
+numbered NotACigar = refl
+numbered NoRoom = refl
+numbered BadCode = refl
+numbered TooLong = refl
+numbered BadStart = refl
+numbered BadLength = refl
+
+left-rows : (b xs d : List ℕ) → isShort b ≡ false → LeftBy b xs d (isFrBy b xs) (pairRows b ++ (placeRow (isYes (isFrBy b xs)) (posOf b) (matePosOf b) ∷ noRoom d (length xs) ∷ []))
+left-rows b xs d l =
+    pair-rows (LeftBy b xs d) (record { stops = λ r rows e. kept-refusal tellOverhang (Overhang.Refused r) refl e (numbered r); alike = λ fr rows rows' e q. like-filled tellOverhang e q })
+    (λ t. placeRow t (posOf b) (matePosOf b) ∷ noRoom d (length xs) ∷ []) (λ t. list-rows t b xs d (matePosOf b)) _ b l
 
 -- an answer leaves the parsed list in the first places; a text that the strict reader refuses answers 0 and leaves the room as it was
 pub num-bases-extending-past-mate-text-raw : (b s d : List ℕ)
     → GivesFilled tellOverhang (pastMateText b s d) d (mateTextRows b s d) (cond (strict s) (Overhang.Bases (basesAt (placedPair (isYes (isFrBy b (textOps s))) b (matePosOf b)) b (textOps s)) (length (textOps s))) (Overhang.Bases 0 0)) (cond (strict s) (textOps s) [])
 unfolding pastMateText
 num-bases-extending-past-mate-text-raw b s d =
-    kept-row tellOverhang (isShort b) (Overhang.Refused ShortRecord) 1 refl refl
-    (kept-where tellOverhang (strict s) (Overhang.Bases 0 0) refl
+    kept-past tellOverhang (isShort b) (Overhang.Refused ShortRecord) 1 refl refl (λ l.
+    kept-where tellOverhang (strict s) (Overhang.Bases 0 0) refl
     (kept-row tellOverhang (ltb mostOps (length (textOps s))) (Overhang.Refused TooManyOps) 3 refl refl
-    (left-rows (isFrBy b (textOps s)) (fr-told _ b) b (textOps s) d)))
+    (left-rows b (textOps s) d l)))

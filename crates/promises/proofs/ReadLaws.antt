@@ -1,4 +1,4 @@
--- What documents 01 and 02 promise of lengths, ends, lookup, pair tests and overhangs beside the answers. Each line is a theorem of the crate that it is cited from, over the definitions that the contracts use.
+-- What documents 01 and 02 promise of lengths, ends, bins, lookup, pair tests and overhangs beside the answers. Each line is a theorem of the crate that it is cited from, over the definitions that the contracts use.
 use Prim.Native.Nat.{ℕ, _+_, _-_, _≤_, _<_}
 use mathlib.Core.Path.{_≡_}
 use mathlib.Core.Bool.{Bool, true, false}
@@ -6,6 +6,8 @@ use mathlib.Core.List.{List, _∷_, _++_}
 use lib.IntN.{ℤ, pos, _+ℤ_, _-ℤ_}
 use lib.ListN.{length, take}
 use lib.Signed.{ltZ, leZ}
+use lib.Dec.{ltb}
+use borrow.Author.Tests.{ltb-false}
 use mir.Syntax.{w32}
 use mir.Val.{SFits}
 use Rattle.lists.specs.Lists.{facing, sumOf}
@@ -13,22 +15,32 @@ use Rattle.signed.specs.declared.Sum.the-variants as Sum
 use Rattle.sam.specs.Op.{queryLen}
 use Rattle.sam.specs.Columns.{Column, Spot, columns, queries, refs, refOf, Seen}
 use Rattle.sam.specs.Record.{posOf, flagsOf, matePosOf, templateLenOf, isReverse, isShort}
+use Rattle.answers.specs.Settled.{keeps}
 use Rattle.answers.specs.declared.Pos1.{Pos1}
+use Rattle.answers.specs.declared.Refusal.{Refusal}
+use Rattle.answers.specs.declared.Nat.the-variants as Nat
+use Rattle.answers.specs.declared.Count.the-variants as Count
 use Rattle.answers.specs.declared.Int.the-variants as Int
 use Rattle.answers.specs.declared.Flag.the-variants as Flag
 use Rattle.answers.specs.declared.Place1.the-variants as Place1
-use Rattle.oplist.specs.Ops.{recordOps}
+use Rattle.oplist.specs.Ops.{mostOps, recordOps}
+use Rattle.text_rules.specs.Text.{textOps}
+use Rattle.text_rules.specs.Valid.{validMapped}
+use Rattle.text_rules.specs.Strict.{strict}
 use Rattle.clip_runs.specs.Clips.{softLen, hardLen, leadingClips, leadingSoft, leadingHard, hasInner, trailingSoft, trailingHard, clipsAfterReference}
 use Rattle.clip_runs.proofs.RunLaws as Clips
 use Rattle.clip_runs.proofs.EndLaws as EndClips
-use Rattle.lengths.specs.Lengths.{askedLength}
+use Rattle.lengths.specs.Lengths.{checkedRefLength}
+use Rattle.bin_rules.specs.Bin.{recordBin, setBin}
+use Rattle.bin_rules.proofs.Records as Bins
 use Rattle.ends_rules.specs.Ends.{unclippedStart, unclippedEnd, alignmentStart, alignmentEnd}
 use Rattle.ends_rules.specs.Tails.{greatestRun, Reached}
+use Rattle.ends_rules.proofs.CaseLaws as EndCases
 use Rattle.ends_rules.proofs.Meaning as Ends
 use Rattle.ends_rules.proofs.RunMost as Runs
 use Rattle.lookup_rules.specs.Examined.{examined, Deciding}
 use Rattle.lookup_rules.proofs.PlaceLaws as Places
-use Rattle.pairs_rules.specs.Pairs.{isOpposite, startOf, lastOf, oppositePair, frPair, primaryFrPair}
+use Rattle.pairs_rules.specs.Pairs.{isOpposite, startOf, lastOf, areOpposite, isPrimaryFr, oppositePair, frPair, primaryFrPair}
 use Rattle.pairs_rules.specs.Needed.{SamePair, SameReverse}
 use Rattle.pairs_rules.proofs.Edges as Edges
 use Rattle.pairs_rules.proofs.Needed as Pairs
@@ -36,7 +48,8 @@ use Rattle.overhang_rules.specs.Reach.{basesUpTo, onBase, Unclamped}
 use Rattle.overhang_rules.specs.Overhang.{endOf, softStart, softEnd, basesPast, basesExtending}
 use Rattle.overhang_rules.proofs.Meaning as Counts
 use Rattle.overhang_rules.proofs.Gaps as Gaps
-use Rattle.overlap_rules.specs.Overlap.{pastMateCigar, pastMateRecord, pastMateText}
+use Rattle.overlap_rules.specs.declared.Overhang.the-variants as Overhang
+use Rattle.overlap_rules.specs.Overlap.{isFrBy, pastMateCigar, pastMateRecord, pastMateText}
 use Rattle.overlap_rules.specs.Bound.{Within, WithinText}
 use Rattle.overlap_rules.proofs.Promised as Most
 
@@ -68,7 +81,7 @@ pub first-is : (b : List ℕ) (p : Pos1) → alignmentStart b ≡ Place1.At p �
 first-is b p e = Ends.first-is b p e
 
 -- its end is `pos` and the reference length, which counts the last place from 1
-pub last-is : (b : List ℕ) (p : Pos1) (n : ℤ) → askedLength b ≡ Int.Number n → alignmentEnd b ≡ Place1.At p → posOf b +ℤ n ≡ p .0
+pub last-is : (b : List ℕ) (p : Pos1) (n : ℤ) → checkedRefLength b ≡ Int.Number n → alignmentEnd b ≡ Place1.At p → posOf b +ℤ n ≡ p .0
 last-is b p n l e = Ends.last-is b p n l e
 
 -- 4 "where Rust with overflow checks stops": its one sum of clips, after any number of ops, is at most the greatest run, and comes to it
@@ -108,7 +121,7 @@ pub forward-only : (a b : List ℕ) → isShort a ≡ isShort b → SamePair a b
 forward-only a b l s r t = Pairs.forward-only a b l s r t
 
 -- "if mate start ≤ own end": a mate that starts at a reverse record's last base is enough
-pub fr-at-end : (b : List ℕ) → isShort b ≡ false → (n : ℤ) → isOpposite b ≡ true → isReverse (flagsOf b) ≡ true → askedLength b ≡ Int.Number n
+pub fr-at-end : (b : List ℕ) → isShort b ≡ false → (n : ℤ) → isOpposite b ≡ true → isReverse (flagsOf b) ≡ true → checkedRefLength b ≡ Int.Number n
     → startOf (matePosOf b) ≡ lastOf (posOf b) n → frPair b ≡ Flag.Is true
 fr-at-end b l n o r k e = Edges.fr-at-end b l n o r k e
 
@@ -119,6 +132,46 @@ no-template b l r t = Edges.no-template b l r t
 -- which of two records comes first plays no part
 pub symmetric : (a b : List ℕ) → primaryFrPair a b ≡ primaryFrPair b a
 symmetric a b = Pairs.symmetric a b
+
+-- ---- a damaged record: b, which has 32 bytes, and r, by which its reference length is refused
+
+module _ (b : List ℕ) (l : isShort b ≡ false) where
+  -- "A record with negative `pos` still gets bin 4680, because that test comes first"
+  pub negative-bin : ltZ (posOf b) (pos 0) ≡ true → recordBin b ≡ Nat.Number 4680
+  negative-bin t = Bins.before-first b (ltb-false (length b) 32 l) t
+
+  -- "a pair whose flags already fail still answers no"
+  pub flags-first : isOpposite b ≡ false → frPair b ≡ Flag.Is false
+  flags-first o = Edges.flags-first b l o
+
+  pub both-flags-first : (a : List ℕ) → isShort a ≡ false → areOpposite b a ≡ false → primaryFrPair b a ≡ Flag.Is false
+  both-flags-first a k o = Edges.both-flags-first b a l k o
+
+  -- "`alignment_end_from_raw`, bin, the pair tests and overhang pass the refusal on wherever they ask for this length"
+  module _ (r : Refusal) (e : checkedRefLength b ≡ Int.Refused r) where
+    pub no-end : ltZ (posOf b) (pos 0) ≡ false → alignmentEnd b ≡ Place1.Refused r
+    no-end t = EndCases.no-end b (ltb-false (length b) 32 l) r t e
+
+    pub no-bin : ltZ (posOf b) (pos 0) ≡ false → recordBin b ≡ Nat.Refused r
+    no-bin t = Bins.no-length b (ltb-false (length b) 32 l) r t e
+
+    pub no-pair : isOpposite b ≡ true → isReverse (flagsOf b) ≡ true → frPair b ≡ Flag.Refused r
+    no-pair o t = Edges.no-length b l r o t e
+
+  -- the overhang's pair test is refused by a length alone, and then the call is: before 4 of a place, and before 6
+  pub cigar-no-length : (ys : List ℕ) (r : Refusal) → ltb mostOps (length ys) ≡ false → validMapped ys ≡ true → isFrBy b ys ≡ Flag.Refused r → pastMateCigar b ys ≡ Count.Refused r
+  cigar-no-length ys r m v e = Most.cigar-no-length b ys r l m v e
+
+  pub record-no-length : (m : List ℕ) (r : Refusal) → isShort m ≡ false → isPrimaryFr b m ≡ Flag.Refused r → pastMateRecord b m ≡ Count.Refused r
+  record-no-length m r k e = Most.record-no-length b m r l k e
+
+  pub text-no-length : (s d : List ℕ) (r : Refusal) → strict s ≡ true → ltb mostOps (length (textOps s)) ≡ false → isFrBy b (textOps s) ≡ Flag.Refused r
+      → pastMateText b s d ≡ keeps (Overhang.Refused r) d
+  text-no-length s d r t m e = Most.text-no-length b s d r l t m e
+
+-- `set_bin_from_raw_bam` leaves a record that has no bin as it was
+pub not-written : (b : List ℕ) (r : Refusal) → recordBin b ≡ Nat.Refused r → setBin b ≡ keeps (Nat.Refused r) b
+not-written b r e = Bins.not-written b r e
 
 -- ---- "An overhang never exceeds the read's query length", of each call
 

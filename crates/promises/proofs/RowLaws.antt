@@ -35,7 +35,7 @@ abbrev pub number-alone : ℕ → Told
 number-alone n = record { number = n; values = [] }
 
 -- a refusal, where its row is the first that holds
-refusal : {t : Told} {n : ℕ} {rows : List Row} → t ≡ number-alone n → n ≡ first rows → Gives t rows
+pub refusal : {t : Told} {n : ℕ} {rows : List Row} → t ≡ number-alone n → n ≡ first rows → Gives t rows
 refusal p e = record { number = ap (λ x. x .number) p ∙ e; alone = λ h. ap (λ x. x .values) p }
 
 -- an answer, where no row holds
@@ -43,7 +43,7 @@ pub answer : {t : Told} {rows : List Row} → t .number ≡ 0 → 0 ≡ first ro
 answer p e = record { number = p ∙ e; alone = λ h. absurd (subst T (sym (ap (λ n. not (eqb n 0)) e ∙ h)) tt) }
 
 -- rows with the same first one
-like : {t : Told} {rows rows' : List Row} → first rows ≡ first rows' → Gives t rows → Gives t rows'
+pub like : {t : Told} {rows rows' : List Row} → first rows ≡ first rows' → Gives t rows → Gives t rows'
 like e q = record { number = q .number ∙ e; alone = λ h. q .alone (ap (λ n. not (eqb n 0)) e ∙ h) }
 
 module _ {A : Type 0} (tell : A → Told) where
@@ -51,6 +51,11 @@ module _ {A : Type 0} (tell : A → Told) where
   pub row : (t : Bool) (a x : A) (n : ℕ) {rows : List Row} → tell a ≡ number-alone n → Gives (tell x) rows → Gives (tell (cond t a x)) (n when t ∷ rows)
   row true a x n p q = refusal p refl
   row false a x n p q = like refl q
+
+  -- the same, where what it goes on to is judged past the test alone
+  pub row-past : (t : Bool) (a x : A) (n : ℕ) {rows : List Row} → tell a ≡ number-alone n → (t ≡ false → Gives (tell x) rows) → Gives (tell (cond t a x)) (n when t ∷ rows)
+  row-past true a x n p q = refusal p refl
+  row-past false a x n p q = like refl (q refl)
 
   -- two tests for one number
   pub row-either : (t u : Bool) (a x : A) (n : ℕ) {rows : List Row} → tell a ≡ number-alone n → Gives (tell x) rows → Gives (tell (cond t a (cond u a x))) ((n when (t || u)) ∷ rows)
@@ -92,14 +97,14 @@ splice-fills d ys h =
 
 module _ {A : Type 0} (tell : A → Told) {d : List ℕ} where
   -- a refusal keeps the output, where its row is the first that holds
-  kept-refusal : (a : A) {n : ℕ} {rows : List Row} {b : A} {ys : List ℕ} → tell a ≡ number-alone n → n ≡ first rows → eqb n 0 ≡ false → GivesFilled tell (keeps a d) d rows b ys
+  pub kept-refusal : (a : A) {n : ℕ} {rows : List Row} {b : A} {ys : List ℕ} → tell a ≡ number-alone n → n ≡ first rows → eqb n 0 ≡ false → GivesFilled tell (keeps a d) d rows b ys
   kept-refusal a {n} {rows} p e some =
       record { refusal = record { gives = refusal p e; kept = λ h. refl }; answer = λ h. absurd (no h); fills = λ h. absurd (no h) }
     where
       no : refuses rows ≡ false → ⊥
       no h = subst T (sym (ap not some) ∙ ap (λ m. not (eqb m 0)) e ∙ h) tt
 
-  like-filled : {x : Outcome A} {rows rows' : List Row} {b : A} {ys : List ℕ} → first rows ≡ first rows' → GivesFilled tell x d rows b ys → GivesFilled tell x d rows' b ys
+  pub like-filled : {x : Outcome A} {rows rows' : List Row} {b : A} {ys : List ℕ} → first rows ≡ first rows' → GivesFilled tell x d rows b ys → GivesFilled tell x d rows' b ys
   like-filled e q =
       record {
         refusal = record { gives = like e (q .refusal .gives); kept = λ h. q .refusal .kept (ap (λ n. not (eqb n 0)) e ∙ h) };
@@ -111,6 +116,11 @@ module _ {A : Type 0} (tell : A → Told) {d : List ℕ} where
       → GivesFilled tell x d rows b ys → GivesFilled tell (cond t (keeps a d) x) d (n when t ∷ rows) b ys
   kept-row true a n p some q = kept-refusal a p refl some
   kept-row false a n p some q = like-filled refl q
+
+  pub kept-past : (t : Bool) (a : A) (n : ℕ) {x : Outcome A} {rows : List Row} {b : A} {ys : List ℕ} → tell a ≡ number-alone n → eqb n 0 ≡ false
+      → (t ≡ false → GivesFilled tell x d rows b ys) → GivesFilled tell (cond t (keeps a d) x) d (n when t ∷ rows) b ys
+  kept-past true a n p some q = kept-refusal a p refl some
+  kept-past false a n p some q = like-filled refl (q refl)
 
   -- an answer that keeps the output too, where the test fails, so that the rows behind are due only where it holds
   pub kept-where : (t : Bool) (a : A) {x : Outcome A} {rows : List Row} {b : A} {ys : List ℕ} → tell a .number ≡ 0

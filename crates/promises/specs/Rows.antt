@@ -1,18 +1,18 @@
 -- Document 01, "Numbers and their bounds", the refusal table: each number with the words of its row, then the rows of each call in its order:
--- "list calls 3, 8, 9, 4, 6; printing 1, 7, 6; strict text 5, 3, 6; records 1, 3, 2, 8, 4, 6."
+-- "list calls 3, 8, 9, 4, 6; printing 1, 7, 6; strict text 5, 3, 6; records 1, 3, 2, 8, 4, 6." Document 02, item 7: "2 and 4 now come from these callers, after 1",
+-- wherever end, bin, pair tests and overhang ask for a record's reference length.
 use Prim.Native.Nat.{ℕ}
-use mathlib.Core.Bool.{Bool, true, false, not, _||_, _&&_}
-use mathlib.Core.List.{List, [], _∷_}
+use mathlib.Core.Bool.{Bool, true, false, cond, not, _||_, _&&_}
+use mathlib.Core.List.{List, [], _∷_, _++_}
 use lib.Dec.{ltb, eqb}
 use lib.IntN.{ℤ, pos, negsuc, _+ℤ_, _-ℤ_}
 use lib.ListN.{length}
 use lib.Signed.{ltZ}
 use Rattle.lists.specs.Lists.{sumOf}
-use Rattle.signed.specs.Whole.{natural, clamp32}
+use Rattle.signed.specs.Whole.{clamp32}
 use Rattle.sam.specs.Op.{lenOf, refLen}
 use Rattle.sam.specs.Record.{posOf, matePosOf, flagsOf, isUnmapped, isReverse, opsEnd, isShort}
 use Rattle.clip_runs.specs.Clips.{leadingClips, clipsAfterReference}
-use Rattle.lengths.specs.Lengths.{refLengthOrZero}
 use Rattle.bin_rules.specs.Bin.{spanOf}
 use Rattle.print_rules.specs.Text.{anyBad, textOf}
 use Rattle.oplist.specs.Ops.{mostOps, recordOps}
@@ -24,7 +24,7 @@ use Rattle.ends_rules.specs.Ends.{noOps}
 use Rattle.clip_rules.specs.Answer.{clippedOps}
 use Rattle.answers.specs.declared.Flag.{Flag}
 use Rattle.answers.specs.declared.Flag.the-variants as Flag
-use Rattle.pairs_rules.specs.Pairs.{isFrWithMate, isPrimaryFr}
+use Rattle.pairs_rules.specs.Pairs.{isOpposite, isFrWithMate, areOpposite, isPrimaryFr}
 use Rattle.promises.specs.Table.{Row, _when_, only}
 
 -- ---- the ten numbers
@@ -33,7 +33,7 @@ use Rattle.promises.specs.Table.{Row, _when_, only}
 abbrev pub short : List ℕ → Row
 short b = 1 when isShort b
 
--- 2: "checked reference length: the op area ends past the record"
+-- 2: "the op area ends past the record"
 abbrev pub overrun : List ℕ → Row
 overrun b = 2 when ltb (length b) (opsEnd b)
 
@@ -76,9 +76,17 @@ badStart start = 9 when (ltb start 1 || ltb 2147483648 start)
 abbrev pub badLength : ℕ → Row
 badLength n = 10 when (eqb n 0 || ltb 268435455 n)
 
+-- ---- a record's reference length, where it is asked for: 2, 4
+
+abbrev pub refsOf : List ℕ → ℤ
+refsOf b = pos (sumOf refLen (recordOps b))
+
+abbrev pub asked : List ℕ → List Row
+asked b = overrun b ∷ over (refsOf b ∷ []) ∷ []
+
 -- ---- fields, ops, lengths, bins
 
--- the ten fields, `cigar_raw_bytes`, `query_length`, the pair tests on one record
+-- the ten fields, `cigar_raw_bytes`, `query_length`, `is_mapped_opposite_strand_pair_raw`
 abbrev pub recordRows : List ℕ → List Row
 recordRows b = short b ∷ []
 
@@ -98,23 +106,23 @@ listRows xs = tooMany xs ∷ []
 abbrev pub lengthRows : List ℕ → List Row
 lengthRows xs = tooMany xs ∷ over (pos (sumOf refLen xs) ∷ []) ∷ []
 
--- `reference_length_from_raw_bam_checked`
+-- `reference_length_from_raw_bam`, `reference_length_from_raw_bam_checked`
 abbrev pub checkedRows : List ℕ → List Row
-checkedRows b = short b ∷ overrun b ∷ over (pos (sumOf refLen (recordOps b)) ∷ []) ∷ []
+checkedRows b = short b ∷ asked b
 
 -- `cigar_lengths`
 abbrev pub lengthsRows : List ℕ → List Row
-lengthsRows b = short b ∷ over (pos (sumOf refLen (recordOps b)) ∷ []) ∷ []
+lengthsRows b = short b ∷ over (refsOf b ∷ []) ∷ []
 
 -- `reg2bin`
 abbrev pub regionRows : ℤ → List Row
 regionRows end = over ((end -ℤ pos 1) ∷ []) ∷ []
 
--- `bin_from_raw_bam`, `set_bin_from_raw_bam`: nothing is summed for a record "with `pos` below 0"
+-- `bin_from_raw_bam`, `set_bin_from_raw_bam`: nothing is asked for or summed of a record "with `pos` below 0"
 abbrev pub binRows : List ℕ → List Row
 binRows b =
-    let end = posOf b +ℤ spanOf (refLengthOrZero b) in
-    short b ∷ only (not (ltZ (posOf b) (pos 0))) (over (end ∷ (end -ℤ pos 1) ∷ []) ∷ [])
+    let end = posOf b +ℤ spanOf (refsOf b) in
+    short b ∷ only (not (ltZ (posOf b) (pos 0))) (asked b ++ (over (end ∷ (end -ℤ pos 1) ∷ []) ∷ []))
 
 -- ---- text
 
@@ -153,11 +161,11 @@ unclippedFromRows b at reverse = short b ∷ only (not (noOps b)) (over (endSums
 abbrev pub startRows : List ℕ → List Row
 startRows b = short b ∷ only (not (ltZ (posOf b) (pos 0))) (over ((posOf b +ℤ pos 1) ∷ []) ∷ [])
 
--- `alignment_end_from_raw`: none too where there is no reference length
+-- `alignment_end_from_raw`: none where `pos` is below 0; and none too where the reference length is 0, after it was asked for
 abbrev pub endRows : List ℕ → List Row
 endRows b =
     short b
-    ∷ only (not (ltZ (posOf b) (pos 0))) (only (not (eqb (natural (refLengthOrZero b)) 0)) (over ((posOf b +ℤ refLengthOrZero b) ∷ []) ∷ []))
+    ∷ only (not (ltZ (posOf b) (pos 0))) (asked b ++ only (not (eqb (sumOf refLen (recordOps b)) 0)) (over ((posOf b +ℤ refsOf b) ∷ []) ∷ []))
 
 -- `read_pos_at_ref_pos_raw`
 abbrev pub lookupRows : List ℕ → ℕ → List Row
@@ -175,9 +183,21 @@ clipRecordRows b amount start d = short b ∷ tooLong (recordOps b) ∷ noRoom d
 
 -- ---- pair tests and overhang
 
+-- of the pair that a record makes with its mate: the flags come first, and only a reverse record is asked for its length
+abbrev pub pairRows : List ℕ → List Row
+pairRows b = only (isOpposite b && isReverse (flagsOf b)) (asked b)
+
+-- of two records: the guards over both come first, and the reverse one decides
+abbrev pub bothPairRows : List ℕ → List ℕ → List Row
+bothPairRows a b = only (areOpposite a b) (pairRows (cond (isReverse (flagsOf a)) a b))
+
+-- `is_fr_pair_raw`
+abbrev pub frRows : List ℕ → List Row
+frRows b = short b ∷ pairRows b
+
 -- `is_primary_fr_pair_raw`
 abbrev pub twoRows : List ℕ → List ℕ → List Row
-twoRows a b = short a ∷ short b ∷ []
+twoRows a b = short a ∷ short b ∷ bothPairRows a b
 
 -- `bases_extending_past_mate_ops`
 abbrev pub extendingRows : List ℕ → List ℕ → List Row
@@ -198,12 +218,12 @@ byOps b ys = placeRow (isYes (isFrWithMate b (clamp32 (pos (sumOf refLen ys)))))
 
 -- `num_bases_extending_past_mate_cigar_raw`: a list that is no valid mapped CIGAR answers 0
 abbrev pub mateCigarRows : List ℕ → List ℕ → List Row
-mateCigarRows b ys = short b ∷ tooMany ys ∷ only (validMapped ys) (byOps b ys ∷ [])
+mateCigarRows b ys = short b ∷ tooMany ys ∷ only (validMapped ys) (pairRows b ++ (byOps b ys ∷ []))
 
 -- `num_bases_extending_past_mate_vs_mate_raw`
 abbrev pub mateRecordRows : List ℕ → List ℕ → List Row
-mateRecordRows b m = short b ∷ short m ∷ placeRow (isYes (isPrimaryFr b m)) (posOf b) (posOf m) ∷ []
+mateRecordRows b m = short b ∷ short m ∷ (bothPairRows b m ++ (placeRow (isYes (isPrimaryFr b m)) (posOf b) (posOf m) ∷ []))
 
 -- `num_bases_extending_past_mate_text_raw`: "refusal 5 gives overhang 0 [..]; 3 and 6 are passed on, in the records' order"
 abbrev pub mateTextRows : List ℕ → List ℕ → List ℕ → List Row
-mateTextRows b s d = short b ∷ only (strict s) (tooMany (textOps s) ∷ byOps b (textOps s) ∷ noRoom d (length (textOps s)) ∷ [])
+mateTextRows b s d = short b ∷ only (strict s) (tooMany (textOps s) ∷ (pairRows b ++ (byOps b (textOps s) ∷ noRoom d (length (textOps s)) ∷ [])))

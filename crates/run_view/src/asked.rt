@@ -65,7 +65,7 @@ pub fn part(bam: &[u8]) -> &[u8] {
     cigar_raw_bytes(bam).part
 }
 
-pub fn reference_length(bam: &[u8]) -> i32 {
+pub fn reference_length(bam: &[u8]) -> Int {
     RawRecordView::new(bam).reference_length()
 }
 

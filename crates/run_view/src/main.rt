@@ -59,7 +59,7 @@ fn part(bam: &[u8]) {
 
 fn sums(bam: &[u8]) {
     shown::text(b"  reference ");
-    shown::integer(asked::reference_length(bam));
+    shown::int(asked::reference_length(bam));
     shown::text(b", query ");
     shown::count(asked::query_length(bam));
     shown::text(b", lengths ");

@@ -21,7 +21,7 @@ pub fn natural(n: u64) {
     io::print_decimal(1, n);
 }
 
-pub fn integer(n: i32) {
+fn integer(n: i32) {
     let u = signed::raise(n);
     if u < 2147483648 {
         text(b"-");

@@ -76,7 +76,7 @@ use Rattle.ends.proofs.alignment_end_from_raw.Symbol as alignment-end-from-raw-
 use Rattle.unclipped.proofs.unclipped_5prime_from_raw_bam as unclipped-5prime-from-raw-bam
 use Rattle.unclipped.proofs.unclipped_5prime_from_raw_bam.Met as unclipped-5prime-from-raw-bam-met
 use Rattle.unclipped.proofs.unclipped_5prime_from_raw_bam.Symbol as unclipped-5prime-from-raw-bam-symbol
-use Rattle.view.proofs.Shared.{Answer, none, enum, sint32, part, Promise, promised, Gives, ofView, ofSlice, sharedFn, shared}
+use Rattle.view.proofs.Shared.{Answer, none, enum, part, Promise, promised, Gives, ofView, ofSlice, sharedFn, shared}
 
 module _ {M : Type 1} (𝓤 : URA M) (H : Heap 𝓤) (𝓜 : Model 𝓤 H) (𝓖 : GhostRules 𝓤 H) (𝓡 : Running 𝓤 H 𝓜) where
   pub record Callee : Type 2 where
@@ -102,7 +102,7 @@ module _ {M : Type 1} (𝓤 : URA M) (H : Heap 𝓤) (𝓜 : Model 𝓤 H) (𝓖
       record { name = mate-pos-symbol.name; routine = mate-pos-symbol.routine; answer = enum 𝓤 H 𝓜 𝓖 Place0.the-type Place0′.the-laws tt; promise = λ κs a. mate-pos.spec 𝓤 H (𝓖 .A) (𝓜 .mem) (𝓡 .run) κs a .ensures tt; met = mate-pos-met.met 𝓤 H 𝓜 𝓖 𝓡 } ∷
       record { name = template-length-symbol.name; routine = template-length-symbol.routine; answer = enum 𝓤 H 𝓜 𝓖 Int.the-type Int′.the-laws tt; promise = λ κs a. template-length.spec 𝓤 H (𝓖 .A) (𝓜 .mem) (𝓡 .run) κs a .ensures tt; met = template-length-met.met 𝓤 H 𝓜 𝓖 𝓡 } ∷
       record { name = cigar-raw-bytes-symbol.name; routine = cigar-raw-bytes-symbol.routine; answer = part 𝓤 H 𝓜 𝓖; promise = λ κs a. cigar-raw-bytes.spec 𝓤 H (𝓖 .A) (𝓜 .mem) (𝓡 .run) κs a .ensures tt; met = cigar-raw-bytes-met.met 𝓤 H 𝓜 𝓖 𝓡 } ∷
-      record { name = reference-length-from-raw-bam-symbol.name; routine = reference-length-from-raw-bam-symbol.routine; answer = sint32 𝓤 H 𝓜 𝓖; promise = λ κs a. reference-length-from-raw-bam.spec 𝓤 H (𝓖 .A) (𝓜 .mem) (𝓡 .run) κs a .ensures tt; met = reference-length-from-raw-bam-met.met 𝓤 H 𝓜 𝓖 𝓡 } ∷
+      record { name = reference-length-from-raw-bam-symbol.name; routine = reference-length-from-raw-bam-symbol.routine; answer = enum 𝓤 H 𝓜 𝓖 Int.the-type Int′.the-laws tt; promise = λ κs a. reference-length-from-raw-bam.spec 𝓤 H (𝓖 .A) (𝓜 .mem) (𝓡 .run) κs a .ensures tt; met = reference-length-from-raw-bam-met.met 𝓤 H 𝓜 𝓖 𝓡 } ∷
       record { name = query-length-symbol.name; routine = query-length-symbol.routine; answer = enum 𝓤 H 𝓜 𝓖 Count.the-type Count′.the-laws tt; promise = λ κs a. query-length.spec 𝓤 H (𝓖 .A) (𝓜 .mem) (𝓡 .run) κs a .ensures tt; met = query-length-met.met 𝓤 H 𝓜 𝓖 𝓡 } ∷
       record { name = cigar-lengths-symbol.name; routine = cigar-lengths-symbol.routine; answer = enum 𝓤 H 𝓜 𝓖 Lengths.the-type Lengths′.the-laws tt; promise = λ κs a. cigar-lengths.spec 𝓤 H (𝓖 .A) (𝓜 .mem) (𝓡 .run) κs a .ensures tt; met = cigar-lengths-met.met 𝓤 H 𝓜 𝓖 𝓡 } ∷
       record { name = alignment-start-from-raw-symbol.name; routine = alignment-start-from-raw-symbol.routine; answer = enum 𝓤 H 𝓜 𝓖 Place1.the-type Place1′.the-laws tt; promise = λ κs a. alignment-start-from-raw.spec 𝓤 H (𝓖 .A) (𝓜 .mem) (𝓡 .run) κs a .ensures tt; met = alignment-start-from-raw-met.met 𝓤 H 𝓜 𝓖 𝓡 } ∷

@@ -3,7 +3,7 @@ ghost use mathlib.Core.Path.{_≡_};
 ghost use Rattle.answers.specs.Settled.{Settled};
 ghost use Rattle.sam.specs.Record.{refIdOf, posOf, nameLenOf, storedBinOf, opCountOf, flagsOf, seqLenOf, mateRefIdOf, matePosOf, templateLenOf};
 ghost use Rattle.fields.specs.Fields.{intField, natField, posField, partRefusal, cigarPart};
-ghost use Rattle.lengths.specs.Lengths.{refLengthOrZero, recordQueryLength, recordLengths};
+ghost use Rattle.lengths.specs.Lengths.{checkedRefLength, recordQueryLength, recordLengths};
 ghost use Rattle.ends_rules.specs.Ends.{unclippedOf, asRust, alignmentStart, alignmentEnd};
 ghost use Rattle.print_rules.specs.Text.{printed};
 ghost use Rattle.clip_rules.specs.Answer.{clippedRecord};
@@ -98,8 +98,8 @@ impl<'a> RawRecordView<'a> {
         fields::cigar_raw_bytes(self.0)
     }
 
-    pub fn reference_length(&self) -> i32
-        ensures { λ r. ⌜ r ≡ refLengthOrZero (now (now (self .entry) .0)) ⌝ }
+    pub fn reference_length(&self) -> Int
+        ensures { λ r. ⌜ r ≡ checkedRefLength (now (now (self .entry) .0)) ⌝ }
     {
         lengths::reference_length_from_raw_bam(self.0)
     }

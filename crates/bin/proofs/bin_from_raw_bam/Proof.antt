@@ -38,18 +38,18 @@ module _ (c : tie.After-own-place) where
       e ∙ c .own-place .ensures
 
 -- the length that was told
-module _ (c : tie.After-asked-length) where
+module _ (c : tie.After-reference-length-from-raw-bam) where
   abbrev first : tie.After-own-place
   first = c .before .before .before .before
 
-  cases : recordBin (b first) ≡ binFrom (posOf (b first)) (c .asked-length .result)
-  cases = from-first (b first) (long first) (simp (start first) at (c .before .if2 .left)) ∙ ap (binFrom (posOf (b first))) (sym (c .asked-length .ensures))
+  cases : recordBin (b first) ≡ binFrom (posOf (b first)) (c .reference-length-from-raw-bam .result)
+  cases = from-first (b first) (long first) (simp (start first) at (c .before .if2 .left)) ∙ ap (binFrom (posOf (b first))) (sym (c .reference-length-from-raw-bam .ensures))
 
 returns-2 : tie.Need-returns-2
 returns-2 c = let f = c .before .before .before in sym (before-first (b f) (long f) (simp (start f) at (c .if2 .taken)))
 
-asked-length-requires : tie.Need-asked-length-requires
-asked-length-requires c κs = search needs
+reference-length-from-raw-bam-requires : tie.Need-reference-length-from-raw-bam-requires
+reference-length-from-raw-bam-requires c κs = search needs
 
 enum-known-n : tie.Need-enum-known-n
 enum-known-n c = search needs
@@ -79,7 +79,7 @@ bin-from-raw-bam-spec =
     returns
     own-place-requires
     returns-2
-    asked-length-requires
+    reference-length-from-raw-bam-requires
     enum-known-n
     bin-from-requires
     enum-known-why

@@ -29,19 +29,19 @@ module _ (c : tie.After-own-place) (t : Bool) where
       ap (λ (z : ℤ). ltZ z (pos 0)) (sym (c .own-place .ensures)) ∙ simp e at h
 
 -- past the tests, by the length that was told
-past : (c : tie.After-asked-length) → let b = c .before .before .before .before .before .before .before .args .bam .now in endAt (posOf b) (c .asked-length .result) ≡ alignmentEnd b
+past : (c : tie.After-reference-length-from-raw-bam) → let b = c .before .before .before .before .before .before .before .args .bam .now in endAt (posOf b) (c .reference-length-from-raw-bam .result) ≡ alignmentEnd b
 past c =
     let p = c .before .before .before .before in
     let b = p .before .before .before .args .bam .now in
-    ap (endAt (posOf b)) (c .asked-length .ensures) ∙ end-at b (p .before .if1 .left) (sign p false (c .before .if2 .left))
+    ap (endAt (posOf b)) (c .reference-length-from-raw-bam .ensures) ∙ end-at b (p .before .if1 .left) (sign p false (c .before .if2 .left))
 
 returns-2 : tie.Need-returns-2
 returns-2 c =
     let p = c .before .before .before in
     end-none (p .before .before .before .args .bam .now) (p .before .if1 .left) (sign p true (c .if2 .taken))
 
-asked-length-requires : tie.Need-asked-length-requires
-asked-length-requires c κs = search needs
+reference-length-from-raw-bam-requires : tie.Need-reference-length-from-raw-bam-requires
+reference-length-from-raw-bam-requires c κs = search needs
 
 enum-known-n : tie.Need-enum-known-n
 enum-known-n c = search needs
@@ -76,7 +76,7 @@ alignment-end-from-raw-spec =
     returns
     own-place-requires
     returns-2
-    asked-length-requires
+    reference-length-from-raw-bam-requires
     enum-known-n
     end-at-requires
     enum-known-why

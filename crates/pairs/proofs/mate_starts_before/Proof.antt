@@ -16,8 +16,8 @@ mate-place-requires c κs = search needs
 own-place-requires : tie.Need-own-place-requires
 own-place-requires c κs = search needs
 
-asked-length-requires : tie.Need-asked-length-requires
-asked-length-requires c κs = search needs
+reference-length-from-raw-bam-requires : tie.Need-reference-length-from-raw-bam-requires
+reference-length-from-raw-bam-requires c κs = search needs
 
 enum-known-n : tie.Need-enum-known-n
 enum-known-n c = search needs
@@ -39,14 +39,14 @@ returns c =
     let n = k .n .given .0 .0 in
     let e : toZ w32 (ofZ w32 n) ≡ n = search needs in
     ap Flag.Is (simp (m .mate-place .ensures, p .own-place .ensures, e) at (c .starts-before-end .ensures))
-    ∙ ap (startsBeforeEnd (matePosOf b) (posOf b)) (sym (k .n .given .1) ∙ a .asked-length .ensures)
+    ∙ ap (startsBeforeEnd (matePosOf b) (posOf b)) (sym (k .n .given .1) ∙ a .reference-length-from-raw-bam .ensures)
 
 returns-2 : tie.Need-returns-2
 unfolding mateStartsBefore
 returns-2 c =
     let a = c .before .before .before in
     let b = now (a .before .before .before .before .args .bam) in
-    ap (startsBeforeEnd (matePosOf b) (posOf b)) (sym (c .before .why .given .1) ∙ a .asked-length .ensures)
+    ap (startsBeforeEnd (matePosOf b) (posOf b)) (sym (c .before .why .given .1) ∙ a .reference-length-from-raw-bam .ensures)
 
 pub mate-starts-before-spec : {M : Type 1} → statement M
 mate-starts-before-spec =
@@ -54,7 +54,7 @@ mate-starts-before-spec =
     (tie.spec
     mate-place-requires
     own-place-requires
-    asked-length-requires
+    reference-length-from-raw-bam-requires
     enum-known-n
     starts-before-end-requires
     enum-known-why
