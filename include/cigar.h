@@ -105,9 +105,8 @@ struct cigar_int cigar_reference_length_from_cigar(const uint32_t *ops, size_t o
 struct cigar_count cigar_query_length_from_cigar(const uint32_t *ops, size_t ops_len);
 /* The reference length of a list, 2^31 - 1 at most. Refusal 3 */
 struct cigar_int cigar_saturating_reference_length(const uint32_t *ops, size_t ops_len);
-/* The reference length of a record, 0 for one that the checked form refuses */
-int32_t cigar_reference_length_from_raw_bam(const uint8_t *rec, size_t rec_len);
-/* The reference length of a record. Refusals 1, 2, 4 */
+/* The reference length of a record; both calls are the same. Refusals 1, 2, 4 */
+struct cigar_int cigar_reference_length_from_raw_bam(const uint8_t *rec, size_t rec_len);
 struct cigar_int cigar_reference_length_from_raw_bam_checked(const uint8_t *rec, size_t rec_len);
 /* The query length of a record. Refusal 1 */
 struct cigar_count cigar_query_length(const uint8_t *rec, size_t rec_len);
@@ -118,9 +117,9 @@ struct cigar_lengths cigar_cigar_lengths(const uint8_t *rec, size_t rec_len);
 
 /* The bin of the region from beg to end, counted from 0, end not included. Refusal 4 */
 struct cigar_count cigar_reg2bin(int32_t beg, int32_t end);
-/* The bin of a record. Refusals 1, 4 */
+/* The bin of a record; 4680 where its position is below 0, whatever its ops. Refusals 1, 2, 4 */
 struct cigar_count cigar_bin_from_raw_bam(const uint8_t *rec, size_t rec_len);
-/* The same, and written to bytes 10 and 11 of the record, which keeps its content where the call refuses. Refusals 1, 4 */
+/* The same, and written to bytes 10 and 11 of the record, which keeps its content where the call refuses. Refusals 1, 2, 4 */
 struct cigar_count cigar_set_bin_from_raw_bam(uint8_t *rec, size_t rec_len);
 
 /* ======== libexports_reads.a ======== */
@@ -144,8 +143,9 @@ int32_t cigar_mate_unclipped_5prime_1based(int32_t position, uint8_t reverse, co
 struct cigar_int cigar_unclipped_5prime_from_raw_bam(const uint8_t *rec, size_t rec_len);
 /* The same from a given position and strand, counted as the given one is, which one without ops answers. Refusals 1, 4 */
 struct cigar_int cigar_unclipped_5prime_raw(const uint8_t *rec, size_t rec_len, int32_t position, uint8_t reverse);
-/* The first and the last reference position, counted from 1; none where the record has none. Refusals 1, 4 */
+/* The first reference position, counted from 1; none where the record has none. Refusals 1, 4 */
 struct cigar_found cigar_alignment_start_from_raw(const uint8_t *rec, size_t rec_len);
+/* The last one. Refusals 1, 2, 4 */
 struct cigar_found cigar_alignment_end_from_raw(const uint8_t *rec, size_t rec_len);
 
 /* ---- lookup: none or the query position, counted from 1, at a reference position; both count from 1. Beside either the ops examined: the place, counted
@@ -159,25 +159,25 @@ struct cigar_two cigar_clip_cigar_ops_raw(const uint32_t *ops, size_t ops_len, u
 /* Of a record. Refusals 1, 8, 6 */
 struct cigar_two cigar_clip_cigar_ops(const uint8_t *rec, size_t rec_len, uint64_t amount, uint8_t from_start, uint32_t *out, size_t out_len);
 
-/* ---- pair tests. Refusal 1 */
+/* ---- pair tests. A reverse record is asked for its length, unless its flags, references or strands already fail */
 
-/* Paired, both mapped, on the same reference, on opposite strands */
+/* Paired, both mapped, on the same reference, on opposite strands. Refusal 1 */
 struct cigar_flag cigar_is_mapped_opposite_strand_pair_raw(const uint8_t *rec, size_t rec_len);
-/* Such a pair that faces inward: of a reverse record its mate starts at or before its end, of a forward one the template length is at least 1 */
+/* Such a pair that faces inward: of a reverse record its mate starts at or before its end, of a forward one the template length is at least 1. Refusals 1, 2, 4 */
 struct cigar_flag cigar_is_fr_pair_raw(const uint8_t *rec, size_t rec_len);
-/* The same of two records, by the reverse one */
+/* The same of two records, by the reverse one. Refusals 1, 2, 4 */
 struct cigar_flag cigar_is_primary_fr_pair_raw(const uint8_t *rec, size_t rec_len, const uint8_t *mate, size_t mate_len);
 
 /* ---- overhang: the query bases past the mate */
 
 /* Of two lists; positions are counted from 1. Refusal 3 */
 struct cigar_count cigar_bases_extending_past_mate_ops(uint8_t reverse, int32_t position, const uint32_t *ops, size_t ops_len, int32_t mate_position, const uint32_t *mate_ops, size_t mate_ops_len);
-/* Of a record and its mate's list. Refusals 1, 3, 4 */
+/* Of a record and its mate's list. Refusals 1, 3, 2, 4 */
 struct cigar_count cigar_num_bases_extending_past_mate_cigar_raw(const uint8_t *rec, size_t rec_len, const uint32_t *mate_ops, size_t mate_ops_len);
-/* Of a record and its mate's. Refusals 1, 4 */
+/* Of a record and its mate's. Refusals 1, 2, 4 */
 struct cigar_count cigar_num_bases_extending_past_mate_vs_mate_raw(const uint8_t *rec, size_t rec_len, const uint8_t *mate, size_t mate_len);
 /* The mate's ops from text into out: `first` the overhang, `second` the ops written; text that the strict reader refuses by 5 answers 0 and 0 and writes
- * nothing. Refusals 1, 3, 4, 6 */
+ * nothing. Refusals 1, 3, 2, 4, 6 */
 struct cigar_two cigar_num_bases_extending_past_mate_text_raw(const uint8_t *rec, size_t rec_len, const uint8_t *text, size_t text_len, uint32_t *out, size_t out_len);
 
 #ifdef __cplusplus

@@ -115,7 +115,7 @@ fn records(n: usize, random: &mut Random) {
     let mut string = Vec::new();
     pair!("get_cigar_ops", n, "the Rust allocates", cigar::get_cigar_ops => fn(&[u8]) -> Vec<u32>, port::get_cigar_ops => fn(&[u8], &mut [u32]) -> Result<usize, port::Refusal>, |i, f| f(&r[i]), |i, g| g(&r[i], &mut out));
     pair!("cigar_raw_bytes", n, "", |x: &[u8]| RawRecordView::new(x).cigar_raw_bytes().len() => fn(&[u8]) -> usize, port::cigar_raw_bytes => fn(&[u8]) -> Result<&[u8], port::Refusal>, |i, f| f(&r[i]), |i, g| g(&r[i]));
-    pair!("reference_length_from_raw_bam", n, "", cigar::reference_length_from_raw_bam => fn(&[u8]) -> i32, port::reference_length_from_raw_bam => fn(&[u8]) -> i32, |i, f| f(&r[i]), |i, g| g(&r[i]));
+    pair!("reference_length_from_raw_bam", n, "", cigar::reference_length_from_raw_bam => fn(&[u8]) -> i32, port::reference_length_from_raw_bam => fn(&[u8]) -> Result<i32, port::Refusal>, |i, f| f(&r[i]), |i, g| g(&r[i]));
     pair!("reference_length_from_raw_bam_checked", n, "", cigar::reference_length_from_raw_bam_checked => fn(&[u8]) -> Option<i32>, port::reference_length_from_raw_bam_checked => fn(&[u8]) -> Result<i32, port::Refusal>, |i, f| f(&r[i]), |i, g| g(&r[i]));
     pair!("query_length", n, "", |x: &[u8]| RawRecordView::new(x).query_length() => fn(&[u8]) -> usize, port::query_length => fn(&[u8]) -> Result<usize, port::Refusal>, |i, f| f(&r[i]), |i, g| g(&r[i]));
     pair!("cigar_lengths", n, "", |x: &[u8]| RawRecordView::new(x).cigar_lengths() => fn(&[u8]) -> (i32, usize), port::cigar_lengths => fn(&[u8]) -> Result<port::RecordLengths, port::Refusal>, |i, f| f(&r[i]), |i, g| g(&r[i]));

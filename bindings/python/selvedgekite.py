@@ -75,13 +75,12 @@ OPS = [POINTER(c_uint32), c_size_t]
 ROOM = [POINTER(c_uint8), c_size_t]
 
 DECLARED = [
-    (Int, BYTES, 'ref_id pos mate_ref_id mate_pos template_length reference_length_from_raw_bam_checked unclipped_5prime_from_raw_bam'),
+    (Int, BYTES, 'ref_id pos mate_ref_id mate_pos template_length reference_length_from_raw_bam reference_length_from_raw_bam_checked unclipped_5prime_from_raw_bam'),
     (Count, BYTES, 'l_read_name bin n_cigar_op flags l_seq query_length bin_from_raw_bam'),
     (Flag, BYTES, 'is_mapped_opposite_strand_pair_raw is_fr_pair_raw'),
     (Found, BYTES, 'alignment_start_from_raw alignment_end_from_raw'),
     (Two, BYTES, 'cigar_raw_bytes'),
     (Lengths, BYTES, 'cigar_lengths'),
-    (c_int32, BYTES, 'reference_length_from_raw_bam'),
     (Count, ROOM, 'set_bin_from_raw_bam'),
     (Int, OPS, 'reference_length_from_cigar saturating_reference_length'),
     (Count, OPS, 'query_length_from_cigar'),
@@ -330,12 +329,12 @@ def saturating_reference_length(ops):
 
 
 def reference_length_from_raw_bam(bam):
-    """The reference length of a record, 0 for one that the checked form refuses."""
-    return C.cigar_reference_length_from_raw_bam(*_record(bam))
+    """The reference length of a record."""
+    return _value(C.cigar_reference_length_from_raw_bam(*_record(bam)))
 
 
 def reference_length_from_raw_bam_checked(bam):
-    """The reference length of a record."""
+    """The same."""
     return _value(C.cigar_reference_length_from_raw_bam_checked(*_record(bam)))
 
 

@@ -78,6 +78,7 @@ pub fn all(seed: u64, size: u64, emit: &mut dyn FnMut(&[u8]) -> Done) -> Done {
     out.short_geometry()?;
     out.random_geometry()?;
     out.pairs()?;
+    out.damaged_pairs()?;
     out.bins()?;
     out.giants()
 }
@@ -335,6 +336,33 @@ fn damage_record(rng: &mut Rng, bytes: &mut Vec<u8>) {
 fn ops_of(record: &[u8]) -> Vec<u32> {
     if record.len() < 32 { Vec::new() } else { cigar::get_cigar_ops(record) }
 }
+
+/// What makes two records no pair.
+#[derive(Clone, Copy)]
+enum Fault {
+    None,
+    Flag(u16),
+    MateFlag(u16),
+    Reference,
+    MateReference,
+}
+
+const FAULTS: [Fault; 14] = [
+    Fault::None,
+    Fault::None,
+    Fault::None,
+    Fault::Flag(1),
+    Fault::Flag(4),
+    Fault::Flag(8),
+    Fault::Flag(16),
+    Fault::Flag(32),
+    Fault::MateFlag(1),
+    Fault::MateFlag(4),
+    Fault::MateFlag(8),
+    Fault::MateFlag(32),
+    Fault::Reference,
+    Fault::MateReference,
+];
 
 const FIELDS: [&str; 10] = ["ref_id", "pos", "l_read_name", "bin", "n_cigar_op", "flags", "l_seq", "mate_ref_id", "mate_pos", "template_length"];
 const RECORD_CALLS: [&str; 12] = [
@@ -767,6 +795,75 @@ impl Out<'_> {
             self.overhang_of_text(&record, &text)?;
         }
         Ok(())
+    }
+
+    /// Damaged records as the one that is asked, as the mate and as both, on both strands, at positions on both sides of 0 and at the ends of 32 bits, with flags and references that
+    /// make a pair and that don't, against valid lists and others.
+    fn damaged_pairs(&mut self) -> Done {
+        let places = [99, 0, -1, i32::MIN, i32::MAX];
+        for _ in 0..2 * self.size {
+            for way in [1, 2, 3] {
+                for fault in FAULTS {
+                    for reverse in [false, true] {
+                        for pos in places {
+                            self.damaged_pair(way, fault, reverse, pos)?;
+                        }
+                    }
+                }
+            }
+        }
+        Ok(())
+    }
+
+    /// A pair with one fault, of which the first (1), the second (2) or both (3) are damaged.
+    fn damaged_pair(&mut self, way: u32, fault: Fault, reverse: bool, pos: i32) -> Done {
+        let (mut a, mut b) = (Record::new(&mut self.rng, vec![op(0, 20)]), Record::new(&mut self.rng, vec![op(0, 10), op(4, 5)]));
+        (a.flags, b.flags) = if reverse { (83, 163) } else { (99, 147) };
+        let mate_pos = if self.rng.one_in(3) { self.rng.pick(&[-1, i32::MAX]) } else { 99 + self.rng.range(-25, 25) as i32 };
+        (a.pos, a.mate_pos, b.pos, b.mate_pos) = (pos, mate_pos, mate_pos, pos);
+        for record in [&mut a, &mut b] {
+            (record.ref_id, record.mate_ref_id, record.template_length) = (3, 3, self.rng.range(-1, 2) as i32);
+        }
+        match fault {
+            Fault::None => {}
+            Fault::Flag(bit) => a.flags ^= bit,
+            Fault::MateFlag(bit) => b.flags ^= bit,
+            Fault::Reference => a.ref_id = 4,
+            Fault::MateReference => a.mate_ref_id = 4,
+        }
+        let mut list = b.ops.clone();
+        if self.rng.one_in(4) {
+            list.push(op(0, 0));
+        }
+        let record = self.damaged(a, way & 1 != 0);
+        let mate = self.damaged(b, way & 2 != 0);
+        for call in RECORD_CALLS {
+            self.say(call, &[Bytes(&record)])?;
+        }
+        for call in ["is_primary_fr_pair_raw", "num_bases_extending_past_mate_vs_mate_raw"] {
+            self.say(call, &[Bytes(&record), Bytes(&mate)])?;
+            self.say(call, &[Bytes(&mate), Bytes(&record)])?;
+        }
+        self.say("num_bases_extending_past_mate_cigar_raw", &[Bytes(&record), List(&list)])?;
+        self.overhang_of_text(&record, &text_of(&list))
+    }
+
+    /// The record's bytes; of a damaged one with ops that overrun it, or of 2^31 reference bases or about as many.
+    fn damaged(&mut self, mut record: Record, damaged: bool) -> Vec<u8> {
+        if damaged && self.rng.one_in(2) {
+            record.ops = list_at_2_31(&mut self.rng);
+            return record.bytes(&mut self.rng);
+        }
+        let mut bytes = record.bytes(&mut self.rng);
+        if damaged {
+            let ops_end = 32 + usize::from(record.name) + 4 * record.ops.len();
+            match self.rng.below(3) {
+                0 => bytes.truncate(32 + self.rng.below((ops_end - 32) as u64) as usize),
+                1 => bytes[12] += 1 + self.rng.below(200) as u8 + record.tail as u8 / 4,
+                _ => bytes[13] = 255,
+            }
+        }
+        bytes
     }
 
     // ---- bins

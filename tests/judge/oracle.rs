@@ -1,5 +1,5 @@
 //! Every call of the protocol, answered by the original inside document 01's domain. The refusal that is due is computed first, by `rules`;
-//! the original is then held to it: it has to stop exactly where 4, 7 or 10 is due, and nowhere else.
+//! the original is then held to it: it has to stop exactly where 4, 7 or 10 is due, and nowhere else. Where document 02 parts from the original, its answer is folded.
 
 use crate::protocol::{FILL_BYTES, FILL_OPS, Reply, Said, Words, split};
 use crate::rules;
@@ -52,6 +52,26 @@ fn hold<T>(due: Option<u8>, original: impl FnOnce() -> T) -> Result<T, Said> {
             })
         }
     }
+}
+
+/// Document 02, item 7: where the original asks for the length of a damaged record and goes on with 0, the length's refusal is due, whatever it says then;
+/// everywhere else the original decides.
+fn fold<T>(asked: Option<u8>, answer: Result<T, Said>) -> Result<T, Said> {
+    match (answer, asked) {
+        (Err(Said::Mismatch(words)), _) => Err(Said::Mismatch(words)),
+        (_, Some(n)) => Err(Said::Refusal(n)),
+        (answer, None) => answer,
+    }
+}
+
+/// The same of bin.rs and overlap.rs, of which it is known whether they asked for such a length: they have to, exactly where one is due.
+fn hold_asking<T>(asked: Option<u8>, due: Option<u8>, original: impl FnOnce() -> T) -> Result<T, Said> {
+    cigar::damaged_was_asked();
+    let answer = hold(due, original);
+    if cigar::damaged_was_asked() != asked.is_some() {
+        return Err(Said::Mismatch(format!("{asked:?} is due of the length, and the original asks otherwise")));
+    }
+    fold(asked, answer)
 }
 
 fn said<T>(result: Result<T, Said>, values: impl FnOnce(T) -> Said) -> Said {
@@ -111,6 +131,33 @@ fn never(_: &[u8]) -> Option<u8> {
     None
 }
 
+type Due = fn(&[u8]) -> Option<u8>;
+
+/// A call on one record that may ask for its length.
+fn of_asked<T>(words: &mut Words, asked: Due, due: Due, run: fn(&[u8]) -> T, values: fn(T) -> Said) -> Option<Reply> {
+    let record = words.bytes()?;
+    words.done()?;
+    alone(match rules::too_short(&record) {
+        Some(n) => Said::Refusal(n),
+        None => said(hold_asking(asked(&record), due(&record), || run(&record)), values),
+    })
+}
+
+/// The alignment's end, which asks within cigar.rs: a length of 0 has none.
+fn alignment_end_from_raw(words: &mut Words) -> Option<Reply> {
+    let record = words.bytes()?;
+    words.done()?;
+    if let Some(n) = rules::too_short(&record) {
+        return alone(Said::Refusal(n));
+    }
+    let asked = rules::asked_at_a_place(&record);
+    let answer = hold(rules::alignment_end_overflows(&record), || cigar::alignment_end_from_raw(&record));
+    alone(match (answer, asked) {
+        (Ok(Some(end)), Some(n)) => Said::Mismatch(format!("{n} is due of the length, and the original finds the end {end}")),
+        (answer, asked) => said(fold(asked, answer), some),
+    })
+}
+
 /// A call on one list, refused by 3.
 fn of_list<T>(words: &mut Words, due: fn(&[u32]) -> Option<u8>, run: fn(&[u32]) -> T, values: fn(T) -> Said) -> Option<Reply> {
     let list = words.list()?;
@@ -158,7 +205,7 @@ fn op_new(words: &mut Words) -> Option<Reply> {
     alone(said(hold(rules::bad_length(length), || CigarOp::new(kind, length).raw()), one))
 }
 
-/// The original's unchecked length answers 0 where the checked one refuses, also under 32 bytes.
+/// The original's unchecked length answers 0 where the checked one refuses, also under 32 bytes: the checked one's refusal is due (document 02, item 7).
 fn reference_length_from_raw_bam(words: &mut Words) -> Option<Reply> {
     let record = words.bytes()?;
     words.done()?;
@@ -166,7 +213,7 @@ fn reference_length_from_raw_bam(words: &mut Words) -> Option<Reply> {
     let answer = hold(None, || cigar::reference_length_from_raw_bam(&record));
     alone(match (answer, due) {
         (Ok(length), Some(n)) if length != 0 => Said::Mismatch(format!("0 is due for {n}, and the original answers {length}")),
-        (answer, _) => said(answer, one),
+        (answer, due) => said(fold(due, answer), one),
     })
 }
 
@@ -296,7 +343,7 @@ fn is_primary_fr_pair_raw(words: &mut Words) -> Option<Reply> {
     words.done()?;
     alone(match rules::too_short(&a).or(rules::too_short(&b)) {
         Some(n) => Said::Refusal(n),
-        None => said(hold(None, || overlap::is_primary_fr_pair_raw(&a, &b)), one),
+        None => said(hold_asking(rules::asked_of_two(&a, &b), None, || overlap::is_primary_fr_pair_raw(&a, &b)), one),
     })
 }
 
@@ -313,8 +360,8 @@ fn bases_extending_past_mate_ops(words: &mut Words) -> Option<Reply> {
 
 /// The overhang of a record of 32 bytes or more against a list of 65,535 ops or fewer.
 fn overhang(record: &[u8], list: &[u32]) -> Result<i64, Said> {
-    let due = rules::overhang_overflows(record, list);
-    hold(due, || overlap::num_bases_extending_past_mate_cigar_raw(record, list)).map(count)
+    let (asked, due) = (rules::asked_against(record, list), rules::overhang_overflows(record, list));
+    hold_asking(asked, due, || overlap::num_bases_extending_past_mate_cigar_raw(record, list)).map(count)
 }
 
 fn num_bases_extending_past_mate_cigar_raw(words: &mut Words) -> Option<Reply> {
@@ -333,12 +380,13 @@ fn num_bases_extending_past_mate_vs_mate_raw(words: &mut Words) -> Option<Reply>
         Some(n) => Said::Refusal(n),
         None => {
             let run = || overlap::num_bases_extending_past_mate_vs_mate_raw(&record, &mate);
-            said(hold(rules::pair_overflows(&record, &mate), run), |bases| one(count(bases)))
+            let (asked, due) = (rules::asked_of_two(&record, &mate), rules::pair_overflows(&record, &mate));
+            said(hold_asking(asked, due, run), |bases| one(count(bases)))
         }
     })
 }
 
-/// The strict reader's 5 answers 0 with nothing written; then 3, 4 and 6.
+/// The strict reader's 5 answers 0 with nothing written; then 3, 2, 4 and 6.
 fn overhang_of_text(record: &[u8], text: &[u8]) -> Result<(Vec<u32>, Said), Said> {
     if let Some(n) = rules::too_short(record) {
         return Err(Said::Refusal(n));
@@ -375,7 +423,7 @@ fn set_bin_from_raw_bam(words: &mut Words) -> Option<Reply> {
     };
     let answer = match rules::too_short(&record) {
         Some(n) => Err(Said::Refusal(n)),
-        None => hold(rules::bin_overflows(&record), run),
+        None => hold_asking(rules::asked_at_a_place(&record), rules::bin_overflows(&record), run),
     };
     let lent = bytes_as_list(answer.as_ref().unwrap_or(&record));
     Some(Reply { said: said(answer, |written| one(u16::from_le_bytes([written[10], written[11]]))), lent: Some(lent) })
@@ -420,19 +468,19 @@ pub const CALLS: [(&str, Call); 51] = [
     ("unclipped_5prime_from_raw_bam", |w| of_record(w, rules::own_unclipped_overflows, cigar::unclipped_5prime_from_raw_bam, one)),
     ("unclipped_5prime_raw", unclipped_5prime_raw),
     ("alignment_start_from_raw", |w| of_record(w, rules::alignment_start_overflows, cigar::alignment_start_from_raw, some)),
-    ("alignment_end_from_raw", |w| of_record(w, rules::alignment_end_overflows, cigar::alignment_end_from_raw, some)),
+    ("alignment_end_from_raw", alignment_end_from_raw),
     ("read_pos_at_ref_pos_raw", read_pos_at_ref_pos_raw),
     ("clip_cigar_ops_raw", clip_cigar_ops_raw),
     ("clip_cigar_ops", clip_cigar_ops),
     ("is_mapped_opposite_strand_pair_raw", |w| of_record(w, never, overlap::is_mapped_opposite_strand_pair_raw, one)),
-    ("is_fr_pair_raw", |w| of_record(w, never, overlap::reach::is_fr_pair_raw, one)),
+    ("is_fr_pair_raw", |w| of_asked(w, rules::asked_by_its_pair, never, overlap::reach::is_fr_pair_raw, one)),
     ("is_primary_fr_pair_raw", is_primary_fr_pair_raw),
     ("bases_extending_past_mate_ops", bases_extending_past_mate_ops),
     ("num_bases_extending_past_mate_cigar_raw", num_bases_extending_past_mate_cigar_raw),
     ("num_bases_extending_past_mate_vs_mate_raw", num_bases_extending_past_mate_vs_mate_raw),
     ("num_bases_extending_past_mate_text_raw", num_bases_extending_past_mate_text_raw),
     ("reg2bin", reg2bin),
-    ("bin_from_raw_bam", |w| of_record(w, rules::bin_overflows, bin::bin_from_raw_bam, one)),
+    ("bin_from_raw_bam", |w| of_asked(w, rules::asked_at_a_place, rules::bin_overflows, bin::bin_from_raw_bam, one)),
     ("set_bin_from_raw_bam", set_bin_from_raw_bam),
 ];
 

@@ -1,4 +1,4 @@
-//! Document 01's refusals, computed from the input alone: nothing here asks the original or the port.
+//! Document 01's refusals and document 02's, computed from the input alone: nothing here asks the original or the port.
 
 pub const MOST_OPS: usize = 65_535;
 const SHORTEST_RECORD: usize = 32;
@@ -127,8 +127,8 @@ impl Record<'_> {
         Some(area.chunks_exact(4).map(|four| u32::from_le_bytes([four[0], four[1], four[2], four[3]])).collect())
     }
 
-    /// The reference length, 0 where the checked one refuses.
-    pub fn reference_length(&self) -> i64 {
+    /// The reference length as the original goes on with it: 0 where the checked one refuses.
+    fn reference_length(&self) -> i64 {
         let total = self.ops().map_or(0, |ops| reference_total(&ops));
         if I32.contains(&total) { total } else { 0 }
     }
@@ -153,11 +153,12 @@ fn is_fr_with_ops(record: &Record, mate_ops: &[u32]) -> bool {
     record.is_opposite_strand_pair() && record.pos() < record.mate_pos() + mate_length
 }
 
-/// Both mapped, both mates mapped, one reference, one of each strand, and the reverse one is FR.
-fn is_primary_fr(a: &Record, b: &Record) -> bool {
+/// The reverse one of two records: both mapped, both mates mapped, one reference, one of each strand.
+fn reverse_of<'a>(a: &'a [u8], b: &'a [u8]) -> Option<&'a [u8]> {
+    let (first, second) = (Record(a), Record(b));
     let mapped = |r: &Record| !r.has(4) && !r.has(8);
-    let reverse = if a.is_reverse() { a } else { b };
-    mapped(a) && mapped(b) && a.signed(0) == b.signed(0) && a.is_reverse() != b.is_reverse() && reverse.reverse_is_fr()
+    let opposite = mapped(&first) && mapped(&second) && first.signed(0) == second.signed(0) && first.is_reverse() != second.is_reverse();
+    opposite.then_some(if first.is_reverse() { a } else { b })
 }
 
 /// 4 of a record against its mate's ops: the mate's position + 1, then the own position + 1, for a valid list and an FR pair.
@@ -171,11 +172,8 @@ pub fn overhang_overflows(record: &[u8], mate_ops: &[u32]) -> Option<u8> {
 
 /// 4 of a record against its mate's record.
 pub fn pair_overflows(record: &[u8], mate: &[u8]) -> Option<u8> {
-    let (record, mate) = (Record(record), Record(mate));
-    if !is_primary_fr(&record, &mate) {
-        return None;
-    }
-    overflows(mate.pos(), &[1]).or(overflows(record.pos(), &[1]))
+    reverse_of(record, mate).filter(|reverse| Record(reverse).reverse_is_fr())?;
+    overflows(Record(mate).pos(), &[1]).or(overflows(Record(record).pos(), &[1]))
 }
 
 /// 4 at the start: position less the leading S and H.
@@ -225,13 +223,13 @@ pub fn alignment_start_overflows(record: &[u8]) -> Option<u8> {
     overflows(Record(record).pos(), &[1]).filter(|_| Record(record).pos() >= 0)
 }
 
-/// 4 of the alignment's end: position + length, for a position of at least 0.
+/// 4 of the alignment's end, whose length is given or 0: position + length, for a position of at least 0.
 pub fn alignment_end_overflows(record: &[u8]) -> Option<u8> {
     let fields = Record(record);
     overflows(fields.pos(), &[fields.reference_length()]).filter(|_| fields.pos() >= 0)
 }
 
-/// 4 of the bin: position + a length of at least 1, for a position of at least 0.
+/// 4 of the bin, whose length is given or 0: position + a length of at least 1, for a position of at least 0.
 pub fn bin_overflows(record: &[u8]) -> Option<u8> {
     let fields = Record(record);
     overflows(fields.pos(), &[fields.reference_length().max(1)]).filter(|_| fields.pos() >= 0)
@@ -263,6 +261,29 @@ pub fn checked_length_refusal(record: &[u8]) -> Option<u8> {
         None => Some(2),
         Some(ops) => overflows(reference_total(&ops), &[0]),
     }
+}
+
+// ---- document 02, item 7: 2 and 4 of a damaged record's length, where a call asks for it; each answers what its tests before that decide without asking
+
+/// End and bin: a position below 0 comes first.
+pub fn asked_at_a_place(record: &[u8]) -> Option<u8> {
+    if Record(record).pos() < 0 { None } else { checked_length_refusal(record) }
+}
+
+/// A pair test on one record: flags, references and strands that fail come first; a forward record is not asked.
+pub fn asked_by_its_pair(record: &[u8]) -> Option<u8> {
+    let fields = Record(record);
+    if fields.is_opposite_strand_pair() && fields.is_reverse() { checked_length_refusal(record) } else { None }
+}
+
+/// On two records: the guards over both come first, then the reverse one is put to the test on one.
+pub fn asked_of_two(a: &[u8], b: &[u8]) -> Option<u8> {
+    asked_by_its_pair(reverse_of(a, b)?)
+}
+
+/// Against a list: one that is not valid comes first.
+pub fn asked_against(record: &[u8], list: &[u32]) -> Option<u8> {
+    if is_valid(list) { asked_by_its_pair(record) } else { None }
 }
 
 /// `is_valid_mapped_cigar`: S stands only as the first or last op that is not H, H only as the first or last op.

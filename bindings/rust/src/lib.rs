@@ -165,6 +165,8 @@ of_record! {
     /// The template's length.
     template_length, cigar_template_length, int, i32;
     /// The reference length.
+    reference_length_from_raw_bam, cigar_reference_length_from_raw_bam, int, i32;
+    /// The same.
     reference_length_from_raw_bam_checked, cigar_reference_length_from_raw_bam_checked, int, i32;
     /// The query length.
     query_length, cigar_query_length, count, usize;
@@ -288,12 +290,6 @@ pub fn query_length_from_cigar(ops: &[u32]) -> Result<usize, Refusal> {
 #[inline]
 pub fn saturating_reference_length(ops: &[u32]) -> Result<i32, Refusal> {
     int(unsafe { raw::cigar_saturating_reference_length(ops.as_ptr(), ops.len()) })
-}
-
-/// The reference length, 0 for a record that the checked form refuses.
-#[inline]
-pub fn reference_length_from_raw_bam(bam: &[u8]) -> i32 {
-    unsafe { raw::cigar_reference_length_from_raw_bam(bam.as_ptr(), bam.len()) }
 }
 
 /// What a record's ops sum up to. Of clips only, all are leading.

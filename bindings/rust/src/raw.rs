@@ -76,7 +76,7 @@ extern "C" {
     pub fn cigar_reference_length_from_cigar(ops: *const u32, ops_len: usize) -> Int;
     pub fn cigar_query_length_from_cigar(ops: *const u32, ops_len: usize) -> Count;
     pub fn cigar_saturating_reference_length(ops: *const u32, ops_len: usize) -> Int;
-    pub fn cigar_reference_length_from_raw_bam(rec: *const u8, rec_len: usize) -> i32;
+    pub fn cigar_reference_length_from_raw_bam(rec: *const u8, rec_len: usize) -> Int;
     pub fn cigar_reference_length_from_raw_bam_checked(rec: *const u8, rec_len: usize) -> Int;
     pub fn cigar_query_length(rec: *const u8, rec_len: usize) -> Count;
     pub fn cigar_cigar_lengths(rec: *const u8, rec_len: usize) -> Lengths;
