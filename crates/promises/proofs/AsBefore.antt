@@ -23,9 +23,9 @@ use Rattle.bin_rules.specs.Bin.{binFrom, recordBin}
 use Rattle.pairs_rules.specs.Pairs.{isOpposite, startsBeforeEnd, mateStartsBefore, frBy}
 
 -- "`reference_length_from_raw_bam` answers 0 for 1, 2 and 4"
-abbrev orZero : Int → Int
-orZero (Int.Number n) = Int.Number n
-orZero (Int.Refused r) = Int.Number (pos 0)
+abbrev lengthBefore : Int → Int
+lengthBefore (Int.Number n) = Int.Number n
+lengthBefore (Int.Refused r) = Int.Number (pos 0)
 
 abbrev isGiven : Int → Bool
 isGiven (Int.Number n) = true
@@ -43,12 +43,12 @@ frGiven forward b n = cond (isOpposite b) (cond (isReverse (flagsOf b)) (startsB
 
 -- each call equals what it was; the overhang calls and `is_primary_fr_pair_raw` ask for a length by the pair test alone
 pub record AsBefore (b : List ℕ) : Type 0 where
-  pub length : isGiven (checkedRefLength b) ≡ true → checkedRefLength b ≡ orZero (checkedRefLength b)
-  pub end : (ltZ (posOf b) (pos 0) ≡ false → isGiven (checkedRefLength b) ≡ true) → alignmentEnd b ≡ endBy b (orZero (checkedRefLength b))
-  pub bin : (ltZ (posOf b) (pos 0) ≡ false → isGiven (checkedRefLength b) ≡ true) → recordBin b ≡ binBy b (orZero (checkedRefLength b))
-  pub pair : (forward : Bool) → ((isOpposite b && isReverse (flagsOf b)) ≡ true → isGiven (checkedRefLength b) ≡ true) → frBy forward b ≡ frGiven forward b (orZero (checkedRefLength b))
+  pub length : isGiven (checkedRefLength b) ≡ true → checkedRefLength b ≡ lengthBefore (checkedRefLength b)
+  pub end : (ltZ (posOf b) (pos 0) ≡ false → isGiven (checkedRefLength b) ≡ true) → alignmentEnd b ≡ endBy b (lengthBefore (checkedRefLength b))
+  pub bin : (ltZ (posOf b) (pos 0) ≡ false → isGiven (checkedRefLength b) ≡ true) → recordBin b ≡ binBy b (lengthBefore (checkedRefLength b))
+  pub pair : (forward : Bool) → ((isOpposite b && isReverse (flagsOf b)) ≡ true → isGiven (checkedRefLength b) ≡ true) → frBy forward b ≡ frGiven forward b (lengthBefore (checkedRefLength b))
 
-given-is : (n : Int) → isGiven n ≡ true → n ≡ orZero n
+given-is : (n : Int) → isGiven n ≡ true → n ≡ lengthBefore n
 given-is (Int.Number n) e = refl
 given-is (Int.Refused r) e = never (cc)
 
@@ -65,18 +65,18 @@ as-before b =
     n : Int
     n = checkedRefLength b
 
-    same : isGiven n ≡ true → n ≡ orZero n
+    same : isGiven n ≡ true → n ≡ lengthBefore n
     same = given-is n
 
     -- what is answered before the length is asked for, and what is made of it
-    past : {A : Type 0} (t : Bool) (a : A) (f : Int → A) → (t ≡ false → isGiven n ≡ true) → cond t a (f n) ≡ cond t a (f (orZero n))
+    past : {A : Type 0} (t : Bool) (a : A) (f : Int → A) → (t ≡ false → isGiven n ≡ true) → cond t a (f n) ≡ cond t a (f (lengthBefore n))
     past true a f h = refl
     past false a f h = ap f (same (h refl))
 
     own : Int → Flag
     own k = startsBeforeEnd (matePosOf b) (posOf b) k
 
-    paired : (forward t u : Bool) → ((t && u) ≡ true → isGiven n ≡ true) → cond t (cond u (own n) (Flag.Is forward)) (Flag.Is false) ≡ cond t (cond u (own (orZero n)) (Flag.Is forward)) (Flag.Is false)
+    paired : (forward t u : Bool) → ((t && u) ≡ true → isGiven n ≡ true) → cond t (cond u (own n) (Flag.Is forward)) (Flag.Is false) ≡ cond t (cond u (own (lengthBefore n)) (Flag.Is forward)) (Flag.Is false)
     paired forward true true h = ap own (same (h refl))
     paired forward true false h = refl
     paired forward false u h = refl
