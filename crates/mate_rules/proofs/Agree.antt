@@ -2,47 +2,31 @@
 use mathlib.Core.Path.{_≡_, refl, sym, ap, _∙_}
 use mathlib.Core.Bool.{Bool, true, false, cond}
 use mathlib.Core.List.{List, [], _∷_}
-use Prim.Native.Nat.{ℕ, _+_, _<_}
+use Prim.Native.Nat.{ℕ, _<_}
 use native.Mathlib.Omega.{arith}
 use lib.ListN.{getD}
 use Rattle.lists.specs.Lists.{sumOf}
 use Rattle.lists.specs.Runs.{leading, holds, afterLast}
-use Rattle.lists.proofs.Tables.{below-same}
 use Rattle.sam.specs.Op.{lenOf, codeOf, opOf, letters, isRef, refLen}
-use Rattle.sam.specs.Text.{value, Spells, end, op, isDigit}
+use Rattle.sam.specs.Text.{value, Spells, end, op}
+use Rattle.sam.proofs.LetterLaws.{letter-code, letter-digit}
 use Rattle.ops.specs.Ops.{isClip}
 use Rattle.clip_runs.specs.Clips.{clipLen, leadingClips, clipsAfterReference}
-use Rattle.mate_rules.specs.Pieces.{refLetters, clipLetters, isRefLetter, isClipLetter, Piece, pieces, counts, total, isRefPiece, isClipPiece, refCount, clipCount, mateLeading, mateReference, mateTrailing}
+use Rattle.mate_rules.specs.Pieces.{isRefLetter, isClipLetter, Piece, pieces, counts, total, isRefPiece, isClipPiece, refCount, clipCount, mateLeading, mateReference, mateTrailing}
 use Rattle.mate_rules.specs.Readers.{Short, Agree}
 use Rattle.mate_rules.proofs.Digits.{count-small}
 use Rattle.mate_rules.proofs.Scans.{first-piece}
 
 -- ---- the letters are the specification's
 
--- the letters of the codes below n that are of a kind, in the order of the codes
-abbrev lettersFrom : (ℕ → Bool) → ℕ → List ℕ → List ℕ
-lettersFrom p c [] = []
-lettersFrom p c (b ∷ bs) = cond (p c) (b ∷ lettersFrom p (c + 1) bs) (lettersFrom p (c + 1) bs)
-
-pub ref-letters : refLetters ≡ lettersFrom isRef 0 letters
-unfolding isRef
-ref-letters = refl
-
-pub clip-letters : clipLetters ≡ lettersFrom isClip 0 letters
-unfolding isClip
-clip-letters = refl
-
 module _ (c : ℕ) (h : c < 9) where
-  ref-letter : isRefLetter (getD letters c 0) ≡ isRef c
-  unfolding isRefLetter isRef
-  ref-letter = below-same (λ d. isRefLetter (getD letters d 0)) isRef 9 c refl h
+  pub ref-letter : isRefLetter (getD letters c 0) ≡ isRef c
+  unfolding isRefLetter
+  ref-letter = ap isRef (letter-code c h)
 
-  clip-letter : isClipLetter (getD letters c 0) ≡ isClip c
-  unfolding isClipLetter isClip
-  clip-letter = below-same (λ d. isClipLetter (getD letters d 0)) isClip 9 c refl h
-
-  no-digit : isDigit (getD letters c 0) ≡ false
-  no-digit = below-same (λ d. isDigit (getD letters d 0)) (λ d. false) 9 c refl h
+  pub clip-letter : isClipLetter (getD letters c 0) ≡ isClip c
+  unfolding isClipLetter
+  clip-letter = ap isClip (letter-code c h)
 
 -- ---- pieces that are ops
 
@@ -58,7 +42,7 @@ spelt (op d ds c {s} g h r) k =
     let n : ℕ = value 0 (d ∷ ds) in
     let l : lenOf (opOf n c) ≡ n = omega arith in
     let m : codeOf (opOf n c) ≡ c = omega arith in
-    rw (first-piece (d ∷ ds) (getD letters c 0) s g (no-digit c h))
+    rw (first-piece (d ∷ ds) (getD letters c 0) s g (letter-digit c h))
     (more (record { digits = d ∷ ds; letter = getD letters c 0 }) (opOf n c)
     (count-small n (omega (arith, k .0)) ∙ sym l) (ref-letter c h ∙ ap isRef (sym m)) (clip-letter c h ∙ ap isClip (sym m)) (spelt r (k .1)))
 

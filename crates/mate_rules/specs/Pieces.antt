@@ -1,30 +1,21 @@
 -- Document 01, module 6: "Reads any bytes. A missing number, or one above 2^31-1, counts 0." What a text says: its leading S and H, its reference length, and S and H after the last reference letter.
 use Prim.Native.Nat.{ℕ, _+_}
-use mathlib.Core.Bool.{Bool, true, false, cond}
+use mathlib.Core.Bool.{Bool, cond}
 use mathlib.Core.List.{List, [], _∷_}
 use lib.IntN.{ℤ, pos}
-use lib.Dec.{eqb}
 use Rattle.lists.specs.Runs.{leading, afterLast}
 use Rattle.signed.specs.Whole.{clamp32}
+use Rattle.sam.specs.Op.{letterCode, isRef}
 use Rattle.sam.specs.Text.{value, isDigit}
+use Rattle.ops.specs.Ops.{isClip}
 use Rattle.mate_rules.specs.Run.{countsAs}
 
--- this reader's letters: M D N = X of the reference, S H of clips
-abbrev pub refLetters : List ℕ
-refLetters = 77 ∷ 68 ∷ 78 ∷ 61 ∷ 88 ∷ []
-
-abbrev pub clipLetters : List ℕ
-clipLetters = 83 ∷ 72 ∷ []
-
-abbrev pub among : List ℕ → ℕ → Bool
-among [] b = false
-among (x ∷ xs) b = cond (eqb b x) true (among xs b)
-
+-- this reader's letters, by the specification's table: those of the reference, M D N = X, and those of clips, S H; any other byte is neither
 unfoldable pub isRefLetter : ℕ → Bool
-isRefLetter b = among refLetters b
+isRefLetter b = isRef (letterCode b)
 
 unfoldable pub isClipLetter : ℕ → Bool
-isClipLetter b = among clipLetters b
+isClipLetter b = isClip (letterCode b)
 
 -- digits, any number of them or none, and the byte after them that is no digit
 pub record Piece : Type 0 where

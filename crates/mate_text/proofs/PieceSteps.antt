@@ -1,11 +1,15 @@
--- What a piece does to the scans, case by case: each is the definition at a test's two answers.
+-- What a piece does to the scans, case by case: each is the definition at a test's two answers; and a letter's class, which antt computes from its entry for every byte.
 use mathlib.Core.Path.{_≡_, refl, ap, _∙_}
 use mathlib.Core.Bool.{Bool, true, false}
 use mathlib.Core.List.{List, [], _∷_}
-use Prim.Native.Nat.{ℕ}
+use Prim.Native.Nat.{ℕ, _<_}
 use lib.IntN.{ℤ, pos, _+ℤ_}
+use Rattle.lists.proofs.Tables.{below-same}
 use Rattle.signed.specs.Whole.{clamp32}
+use Rattle.sam.specs.Op.{isRef, indexOf, letterCode}
 use Rattle.sam.specs.Text.{isDigit}
+use Rattle.ops.specs.Ops.{isClip}
+use Rattle.letters.specs.Letters.{entryOf}
 use Rattle.mate_rules.specs.Run.{countsAs}
 use Rattle.mate_rules.specs.Pieces.{isRefLetter, isClipLetter}
 use Rattle.mate_rules.specs.InnerScan.{runAfter, foundAfter}
@@ -14,6 +18,16 @@ use Rattle.mate_rules.proofs.Scans.{scan}
 use Rattle.mate_text.specs.InnerPiece.{leadPiece, trailPiece}
 use Rattle.mate_text.specs.declared.Lead.{Lead}
 use Rattle.mate_text.specs.declared.Trail.{Trail}
+
+-- a letter's class is that of its entry in the table, whose mark is of none
+module _ (b : ℕ) (h : b < 256) where
+  pub ref-entry : isRef (entryOf b) ≡ isRefLetter b
+  unfolding isRefLetter isRef entryOf letterCode indexOf
+  ref-entry = below-same (λ d. isRef (entryOf d)) isRefLetter 256 b refl h
+
+  pub clip-entry : isClip (entryOf b) ≡ isClipLetter b
+  unfolding isClipLetter isClip entryOf letterCode indexOf
+  clip-entry = below-same (λ d. isClip (entryOf d)) isClipLetter 256 b refl h
 
 module _ (s : Lead) (n : ℤ) (b : ℕ) where
   pub lead-off : s .on ≡ false → leadPiece s n b ≡ s

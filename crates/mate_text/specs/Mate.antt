@@ -13,8 +13,11 @@ abbrev pub mateStart : ℤ → List ℕ → ℤ
 mateStart p s = clamp32 (p -ℤ capped (mateLeading s))
 
 -- "End: position less 1, plus reference length, plus S and H after the last reference letter", in this order
+abbrev pub endFrom : ℤ → ℤ → ℤ → ℤ
+endFrom p refs clips = clamp32 (clamp32 (clamp32 (p -ℤ pos 1) +ℤ refs) +ℤ clips)
+
 abbrev pub mateEnd : ℤ → List ℕ → ℤ
-mateEnd p s = clamp32 (clamp32 (clamp32 (p -ℤ pos 1) +ℤ capped (mateReference s)) +ℤ capped (mateTrailing s))
+mateEnd p s = endFrom p (capped (mateReference s)) (capped (mateTrailing s))
 
 -- the end of a reverse mate, the start of a forward one, counted as the position is
 unfoldable pub mateFivePrime : ℤ → Bool → List ℕ → ℤ

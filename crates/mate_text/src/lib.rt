@@ -3,8 +3,8 @@ ghost use mathlib.Core.Path.{_≡_};
 ghost use lib.IntN.{pos};
 ghost use Rattle.sam.specs.Text.{isDigit};
 ghost use Rattle.mate_rules.specs.Run.{countsAs, pushOf};
-ghost use Rattle.mate_rules.specs.Pieces.{isRefLetter, isClipLetter, mateLeading, mateReference, mateTrailing, capped};
-ghost use Rattle.mate_text.specs.Mate.{mateStart, mateEnd, mateFivePrime, saturatedOneBased, mateUnclipped, mateUnclipped1};
+ghost use Rattle.mate_rules.specs.Pieces.{mateLeading, mateReference, mateTrailing, capped};
+ghost use Rattle.mate_text.specs.Mate.{mateStart, endFrom, saturatedOneBased, mateUnclipped, mateUnclipped1};
 ghost use Rattle.mate_text.specs.InnerPiece.{leadPiece, trailPiece};
 use answers::Pos0;
 use answers::Pos1;
@@ -13,31 +13,6 @@ fn is_digit(b: u8) -> bool
     ensures { λ r. ⌜ r ≡ isDigit b ⌝ }
 {
     if b < 48 { false } else { b <= 57 }
-}
-
-// M D N = X.
-fn is_ref(b: u8) -> bool
-    ensures { λ r. ⌜ r ≡ isRefLetter b ⌝ }
-{
-    match b {
-        b'M' => true,
-        b'D' => true,
-        b'N' => true,
-        b'=' => true,
-        b'X' => true,
-        _ => false,
-    }
-}
-
-// S H.
-fn is_clip(b: u8) -> bool
-    ensures { λ r. ⌜ r ≡ isClipLetter b ⌝ }
-{
-    match b {
-        b'S' => true,
-        b'H' => true,
-        _ => false,
-    }
 }
 
 fn wide(b: u8) -> u64
@@ -117,7 +92,7 @@ fn lead_piece(s: Lead, number: i32, letter: u8) -> Lead
     if !s.on {
         return s;
     }
-    if !is_clip(letter) {
+    if !ops::is_clip(letters::coded(letter)) {
         return Lead {
             clips: s.clips,
             on: false,
@@ -160,14 +135,15 @@ struct Trail {
 fn trail_piece(s: Trail, number: i32, letter: u8) -> Trail
     ensures { λ r. ⌜ r ≡ trailPiece s number letter ⌝ }
 {
-    if is_ref(letter) {
+    let code = letters::coded(letter);
+    if ops::consumes_ref(code) {
         return Trail {
             refs: signed::saturating_add(s.refs, number),
             clips: 0,
             seen: true,
         };
     }
-    if !is_clip(letter) {
+    if !ops::is_clip(code) {
         return s;
     }
     if !s.seen {
@@ -209,24 +185,13 @@ fn unclipped_other_start(position: i32, text: &[u8]) -> i32
 }
 
 // The 1 goes first: taken last, it would bring a sum that saturated below 2^31 - 1.
-fn unclipped_other_end(position: i32, text: &[u8]) -> i32
-    ensures { λ r. ⌜ r ≡ mateEnd position (now (text .entry)) ⌝ }
+fn unclipped_other_end(position: i32, refs: i32, clips: i32) -> i32
+    ensures { λ r. ⌜ r ≡ endFrom position refs clips ⌝ }
 {
-    let t = parse_ref_len_and_trailing_clips(text);
     signed::saturating_add(
-        signed::saturating_add(signed::saturating_sub(position, 1), t.refs),
-        t.clips,
+        signed::saturating_add(signed::saturating_sub(position, 1), refs),
+        clips,
     )
-}
-
-// The mate's unclipped 5' position, counted as the position is: its start where it is forward, its end where it is reverse.
-fn five_prime(position: i32, reverse: bool, text: &[u8]) -> i32
-    ensures { λ r. ⌜ r ≡ mateFivePrime position reverse (now (text .entry)) ⌝ }
-{
-    if reverse {
-        return unclipped_other_end(position, text);
-    }
-    unclipped_other_start(position, text)
 }
 
 // A position counted from 1. It saturates, where `ends::one_based` refuses: this reader refuses nothing.
@@ -236,11 +201,16 @@ fn saturating_one_based(p: Pos0) -> Pos1
     Pos1(signed::saturating_add(p.0, 1))
 }
 
-// The mate's unclipped 5' position from its text.
+// The mate's unclipped 5' position from its text: its start where it is forward, its end where it is reverse. Each call has the scans within it: one
+// function for both would be a call of its own, 1 ns.
 pub fn mate_unclipped_5prime(position: Pos0, reverse: bool, text: &[u8]) -> Pos0
     ensures { λ r. ⌜ r ≡ mateUnclipped position reverse (now (text .entry)) ⌝ }
 {
-    Pos0(five_prime(position.0, reverse, text))
+    if reverse {
+        let t = parse_ref_len_and_trailing_clips(text);
+        return Pos0(unclipped_other_end(position.0, t.refs, t.clips));
+    }
+    Pos0(unclipped_other_start(position.0, text))
 }
 
 // The same, as an answer that counts from 1.
@@ -248,5 +218,9 @@ pub fn mate_unclipped_5prime_1based(position: Pos0, reverse: bool, text: &[u8]) 
     ensures { λ r. ⌜ r ≡ mateUnclipped1 position reverse (now (text .entry)) ⌝ }
 {
     let from = saturating_one_based(position);
-    Pos1(five_prime(from.0, reverse, text))
+    if reverse {
+        let t = parse_ref_len_and_trailing_clips(text);
+        return Pos1(unclipped_other_end(from.0, t.refs, t.clips));
+    }
+    Pos1(unclipped_other_start(from.0, text))
 }

@@ -3,12 +3,12 @@ use mathlib.Core.Path.{_≡_, refl}
 use Rattle.lists.specs.Lists.{splice, sumOf}
 use Rattle.lists.specs.Runs.{leading, afterLeading}
 use Rattle.signed.specs.Whole.{checked, sideOf}
-use Rattle.sam.specs.Op.{isRef, isQuery, refLen, queryLen}
+use Rattle.sam.specs.Op.{indexOf, letterCode, isRef, isQuery, refLen, queryLen}
 use Rattle.ops.specs.Ops.{isRead, readLen, isClip}
 use Rattle.clip_runs.specs.Clips.{outerHard, nextSoft, inside, leadingClips}
 use Rattle.clip_rules.specs.Clipping.{goes, ends, taking, softOf, upgraded, cutInto, clip}
 use Rattle.clip_rules.specs.Answer.{clippedOps, clippedCount, clippedInto, clippedUpTo}
-use Rattle.text_rules.specs.Text.{indexOf, letterCode, effectOf, rowFrom, opsFrom}
+use Rattle.text_rules.specs.Text.{effectOf, rowFrom, opsFrom}
 use Rattle.text_rules.specs.Valid.{isEmpty, allHard, anyRef, each, validMapped}
 use Rattle.text_rules.specs.Strict.{strict}
 use Rattle.strict_text.specs.Parsed.{parsed}

@@ -15,6 +15,7 @@ use Rattle.decimal.specs.Decimal.{decimal}
 use Rattle.print_rules.specs.Text.{opText, textOf, anyBad}
 use Rattle.decimal.proofs.Meaning.{decimal-one, decimal-more}
 use Rattle.print_rules.proofs.GrammarLaws.{print-spells}
+use Rattle.sam.proofs.LetterLaws.{letter-digit}
 use Rattle.sam.proofs.TextLaws.{is-digit}
 use Rattle.sam.specs.Text.{isDigit}
 use Rattle.text_rules.specs.Text.{textOps}
@@ -23,7 +24,7 @@ use Rattle.text_rules.specs.Strict.{strict}
 use Rattle.lists.specs.Lists.{Each}
 use Rattle.promises.specs.RoundTrip.{withoutZeros}
 use Rattle.text_rules.proofs.ValidLaws.{valid-mapped}
-use Rattle.text_rules.proofs.GrammarLaws.{letter-digit, accepts, accepted}
+use Rattle.text_rules.proofs.GrammarLaws.{accepts, accepted}
 
 -- a list with codes 0 to 8 is printed
 pub printable : (xs : List ℕ) → Each (λ o. codeOf o < 9) xs → anyBad xs ≡ false

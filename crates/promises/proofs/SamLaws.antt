@@ -14,6 +14,8 @@ use Rattle.sam.specs.Text.{Cigar}
 use Rattle.sam.specs.Bins.{SmallestBin}
 use Rattle.sam.proofs.LengthLaws as Length
 use Rattle.ops.specs.Ops.{letterOf}
+use Rattle.letters.specs.Letters.{entryOf}
+use Rattle.letters.proofs.Table as Table
 use Rattle.answers.specs.declared.Nat.the-variants.{Number}
 use Rattle.print_rules.specs.Text.{anyBad, textOf}
 use Rattle.print_rules.proofs.GrammarLaws as Printed
@@ -43,6 +45,11 @@ use Rattle.clip_laws.proofs.Drops as Dropped
 pub letter-is : (code : ℕ) → letterOf code ≡ getD letters code 0
 unfolding letterOf
 letter-is code = refl
+
+-- printing's letters and the table of both readers are inverse: at the letter of a code 0 to 8 the table has the code
+pub letter-read : (code : ℕ) → code < 9 → entryOf (letterOf code) ≡ code
+unfolding letterOf
+letter-read code h = Table.inverse code h
 
 -- lengths are numbers of columns
 pub query-length : (xs : List ℕ) → sumOf queryLen xs ≡ queries (columns xs)

@@ -3,8 +3,9 @@ use Prim.Native.Nat.{ℕ, _+_, _-_, _*_, _≤_, _<_}
 use mathlib.Core.Path.{_≡_}
 use mathlib.Core.Bool.{true, false, or-true}
 use borrow.Author.Tests.{lt-ltb, le-ltb, eq-eqb, ne-eqb}
+use Rattle.sam.specs.Op.{letterCode}
 use Rattle.sam.specs.Text.{isDigit}
-use Rattle.text_rules.specs.Text.{letterCode, Effect, Effect.Number, Effect.Letter, Effect.Bad, effectOf}
+use Rattle.text_rules.specs.Text.{Effect, Effect.Number, Effect.Letter, Effect.Bad, effectOf}
 
 module _ (num b : ℕ) where
   pub byte-digit : isDigit b ≡ true → num * 10 + (b - 48) ≤ 268435455 → effectOf num b ≡ Effect.Number (num * 10 + (b - 48))

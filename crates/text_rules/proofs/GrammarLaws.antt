@@ -1,48 +1,26 @@
 -- The reader's byte by byte account of a text is the specification's grammar, and what it takes is what the specification in-grammar.
-use Prim.Native.Nat.{ℕ, suc, _+_, _-_, _*_, _≤_, _<_}
+use Prim.Native.Nat.{ℕ, _+_, _-_, _*_, _≤_, _<_}
 use mathlib.Core.Path.{_≡_, refl, sym, ap, _∙_, subst}
-use mathlib.Core.Bool.{Bool, true, false, cond, not, _||_}
+use mathlib.Core.Bool.{Bool, true, false, cond, _||_}
 use mathlib.Core.List.{List, [], _∷_, _++_}
 use native.Mathlib.Omega.{arith}
-use lib.ListN.{length, getD}
+use lib.ListN.{getD}
 use lib.Dec.{ltb, eqb}
-use borrow.Author.Tests.{ltb-false, eqb-true, eqb-false, not-true}
+use borrow.Author.Tests.{ltb-false, eqb-false}
 use Rattle.lists.proofs.EachLaws.{each-map}
 use Rattle.lists.proofs.Absurd.{never}
-use Rattle.lists.proofs.Tables.{below-at}
-use Rattle.sam.specs.Op.{lenOf, opOf, letters}
+use Rattle.sam.specs.Op.{lenOf, opOf, letters, letterCode}
 use Rattle.sam.specs.Text.{Digit, Digits, value, Spells, Spells.end, Spells.op}
 use Rattle.sam.specs.Text.{isDigit}
-use Rattle.text_rules.specs.Text.{indexOf, letterCode, Effect, Effect.Number, Effect.Letter, Effect.Bad, effectOf, onEffect, rowFrom, isRow, opsFrom, textOps}
+use Rattle.text_rules.specs.Text.{Effect, Effect.Number, Effect.Letter, Effect.Bad, effectOf, onEffect, rowFrom, isRow, opsFrom, textOps}
 use Rattle.text_rules.specs.Valid.{validMapped}
 use Rattle.text_rules.specs.Strict.{strict}
 use Rattle.lists.specs.Lists.{Each}
 use Rattle.text_rules.specs.Meaning.{MappedText}
+use Rattle.sam.proofs.LetterLaws.{letter-code, letter-digit, code-letter}
 use Rattle.sam.proofs.TextLaws.{is-digit, a-digit}
 use Rattle.text_rules.proofs.ByteLaws.{byte-digit, byte-letter}
 use Rattle.text_rules.proofs.ValidLaws.{split-and, valid-mapped, mapped-valid}
-
--- ---- the letters are the specification's
-
-pub letter-code : (c : ℕ) → c < 9 → letterCode (getD letters c 0) ≡ c
-unfolding letterCode indexOf
-letter-code c h = eqb-true _ c (below-at (λ d. eqb (letterCode (getD letters d 0)) d) 9 c refl h)
-
-pub letter-digit : (c : ℕ) → c < 9 → isDigit (getD letters c 0) ≡ false
-letter-digit c h = not-true _ (below-at (λ d. not (isDigit (getD letters d 0))) 9 c refl h)
-
-index-at : (b : ℕ) (xs : List ℕ) → indexOf b xs < length xs → getD xs (indexOf b xs) 0 ≡ b
-unfolding indexOf
-index-at b [] h = absurd (omega arith)
-index-at b (x ∷ xs) h = go (eqb b x) refl h (index-at b xs)
-  where
-    go : (t : Bool) → eqb b x ≡ t → cond t 0 (suc (indexOf b xs)) < suc (length xs) → (indexOf b xs < length xs → getD xs (indexOf b xs) 0 ≡ b) → getD (x ∷ xs) (cond t 0 (suc (indexOf b xs))) 0 ≡ b
-    go true q k ih = sym (eqb-true b x q)
-    go false q k ih = ih (omega arith)
-
-pub code-letter : (b : ℕ) → letterCode b < 9 → getD letters (letterCode b) 0 ≡ b
-unfolding letterCode
-code-letter b h = index-at b letters h
 
 -- ---- a text of the grammar is read
 

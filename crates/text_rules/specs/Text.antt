@@ -1,20 +1,11 @@
 -- Document 01, module 5: "One or more digits and a letter, repeated. Refused: no digits, length 0 or above 268,435,455, unknown letter,
 -- digits at the end". The text, byte by byte from the left.
-use Prim.Native.Nat.{ℕ, suc, _+_, _-_, _*_}
+use Prim.Native.Nat.{ℕ, _+_, _-_, _*_}
 use mathlib.Core.Bool.{Bool, true, false, cond, not, _||_}
 use mathlib.Core.List.{List, [], _∷_}
 use lib.Dec.{ltb, eqb}
-use Rattle.sam.specs.Op.{opOf, letters}
+use Rattle.sam.specs.Op.{opOf, letterCode}
 use Rattle.sam.specs.Text.{isDigit}
-
--- where b first stands in a list, or the list's length
-unfoldable pub indexOf : ℕ → List ℕ → ℕ
-indexOf b [] = 0
-indexOf b (x ∷ xs) = cond (eqb b x) 0 (suc (indexOf b xs))
-
--- a letter's code, 0 to 8; 9 for any other byte
-unfoldable pub letterCode : ℕ → ℕ
-letterCode b = indexOf b letters
 
 -- what a byte does: the number that it makes of the digits so far, the op's code, or no CIGAR
 pub data Effect : Type 0 where

@@ -1,48 +1,22 @@
--- The code of a byte from the two words of sixteen codes, and an op of one-digit to three digits: antt computes the first for every byte.
-use Prim.Native.Nat.{ℕ, _+_, _-_, _*_, _/_, _%_, _^_, _≤_, _<_}
+-- An op of one to three digits and a letter, byte by byte.
+use Prim.Native.Nat.{ℕ, _+_, _-_, _*_, _≤_, _<_}
 use mathlib.Core.Path.{_≡_, refl, sym, ap, _∙_, subst}
 use mathlib.Core.Bool.{Bool, true, false, cond}
 use mathlib.Core.List.{List}
 use native.Mathlib.Omega.{arith}
-use lib.Dec.{eqb}
 use lib.ListN.{length, getD}
-use borrow.Author.Tests.{eqb-true}
-use Rattle.lists.proofs.Tables.{below-at}
+use Rattle.sam.specs.Op.{letterCode}
 use Rattle.sam.specs.Text.{isDigit}
-use Rattle.text_rules.specs.Text.{letterCode, indexOf, effectOf, Effect, Effect.Number, Effect.Letter}
-use Rattle.tokens.specs.InnerToken.{OpAt, codeWord}
+use Rattle.text_rules.specs.Text.{effectOf, Effect, Effect.Number, Effect.Letter}
+use Rattle.tokens.specs.InnerToken.{OpAt}
+use Rattle.sam.proofs.LetterLaws.{letter-digit, code-letter}
 use Rattle.sam.proofs.TextLaws.{a-digit}
 use Rattle.text_rules.proofs.ByteLaws.{byte-digit, byte-letter}
 use Rattle.tokens.proofs.TextLaws.{Reading, reading, read-digit, read-letter}
 
--- ---- the letters
-
-abbrev pub codesFrom : ℕ → ℕ
-codesFrom d = codeWord d / 2 ^ (d % 16 * 4) % 16
-
-pub code-below : (b : ℕ) → b < 61 → 9 ≡ letterCode b
-unfolding letterCode indexOf
-code-below b h = eqb-true 9 (letterCode b) (below-at (λ d. eqb 9 (letterCode d)) 61 b refl h)
-
-pub code-above : (b : ℕ) → 88 < b → b < 256 → 9 ≡ letterCode b
-unfolding letterCode indexOf
-code-above b l h =
-    eqb-true 9 (letterCode (89 + (b - 89))) (below-at (λ d. eqb 9 (letterCode (89 + d))) 167 (b - 89) refl (omega arith))
-    ∙ ap letterCode {x = 89 + (b - 89)} {y = b} (omega arith)
-
-pub code-between : (b : ℕ) → 61 ≤ b → b ≤ 88 → codesFrom (b - 61) ≡ letterCode b
-unfolding letterCode indexOf
-code-between b l h =
-    eqb-true (codesFrom (b - 61)) (letterCode (61 + (b - 61))) (below-at (λ d. eqb (codesFrom d) (letterCode (61 + d))) 28 (b - 61) refl (omega arith))
-    ∙ ap letterCode {x = 61 + (b - 61)} {y = b} (omega arith)
-
 -- a letter is no digit
 code-no-digit : (b : ℕ) → letterCode b ≤ 8 → isDigit b ≡ false
-code-no-digit b h = go (isDigit b) refl
-  where
-    go : (t : Bool) → isDigit b ≡ t → t ≡ false
-    go true d = let k = a-digit b d in let c = code-below b (omega arith) in absurd (omega arith)
-    go false d = refl
+code-no-digit b h = ap isDigit (sym (code-letter b (omega arith))) ∙ letter-digit (letterCode b) (omega arith)
 
 -- ---- a digit more, or the letter
 

@@ -1,10 +1,9 @@
 -- An op of a text at a place, as the inner functions of the reader tell it; no public contract cites it. Document 01's rules stand in `text_rules`.
 use Prim.Native.Nat.{ℕ, _≤_, _<_}
 use mathlib.Core.Path.{_≡_}
-use mathlib.Core.Bool.{false, cond}
+use mathlib.Core.Bool.{false}
 use mathlib.Core.List.{List, [], _∷_}
 use lib.ListN.{length, drop}
-use lib.Dec.{ltb}
 use Rattle.sam.specs.Op.{opOf}
 use Rattle.text_rules.specs.Text.{rowFrom, opsFrom}
 use Rattle.tokens.specs.declared.Token.{Token}
@@ -32,7 +31,3 @@ TokenAt s i Token.Bad = NoneAt s i
 abbrev pub ShortAt : List ℕ → ℕ → Token → Type 0
 ShortAt s i (Token.Op len code next) = OpAt s i len code next
 ShortAt s i Token.Bad = Unit {0}
-
--- sixteen codes, from the lowest four bits on: those of the bytes from 61 on, then from 77 on
-abbrev pub codeWord : ℕ → ℕ
-codeWord place = cond (ltb place 16) 11065724273788819863 11068028851955788080

@@ -4,8 +4,7 @@ ghost use mathlib.Core.Bool.{cond};
 ghost use Prim.Native.Nat.{_≤_, _<_};
 ghost use lib.ListN.{length};
 ghost use Rattle.sam.specs.Text.{isDigit};
-ghost use Rattle.text_rules.specs.Text.{letterCode};
-ghost use Rattle.tokens.specs.InnerToken.{codeWord, TokenAt, ShortAt};
+ghost use Rattle.tokens.specs.InnerToken.{TokenAt, ShortAt};
 
 // An op of a text: its length, its code, and the place after its letter.
 pub enum Token {
@@ -25,30 +24,6 @@ fn wide(b: u8) -> u32
     b as u32
 }
 
-// A word of sixteen codes: those of the bytes from 61 on, or from 77 on.
-fn codes(place: u64) -> u64
-    ensures { λ r. ⌜ r ≡ codeWord place ⌝ }
-{
-    if place < 16 {
-        return 11065724273788819863;
-    }
-    11068028851955788080
-}
-
-// The code of a letter; 9 for any other byte.
-fn cigar_op_code(b: u8) -> u32
-    ensures { λ r. ⌜ r ≡ letterCode b ⌝ }
-{
-    if b < 61 {
-        return 9;
-    }
-    if 88 < b {
-        return 9;
-    }
-    let place = (b - 61) as u64;
-    ((codes(place) >> (place % 16 * 4)) % 16) as u32
-}
-
 // The op at a place of a text, digit by digit.
 fn long_token(text: &[u8], at: usize) -> Token
     requires { ⌜ at < length (now text) ⌝ }
@@ -59,7 +34,7 @@ fn long_token(text: &[u8], at: usize) -> Token
     while i < text.len() {
         let b = text[i];
         if !is_digit(b) {
-            let code = cigar_op_code(b);
+            let code = letters::code_at(b);
             if num == 0 {
                 return Token::Bad;
             }
@@ -128,7 +103,7 @@ pub fn short_token(text: &[u8], at: usize) -> Token
     } else {
         a - 48
     };
-    let code = cigar_op_code(letter_of(two, three, second, third, fourth));
+    let code = letters::code_at(letter_of(two, three, second, third, fourth));
     if len == 0 {
         return Token::Bad;
     }

@@ -5,7 +5,8 @@ use denote.Ref.{now}
 use mir.Syntax.{w32}
 use mir.Val.{toZ, ofZ}
 use Rattle.answers.specs.declared.Pos1.{Pos1}
-use Rattle.mate_text.specs.Mate.{mateFivePrime, mateUnclipped1}
+use Rattle.mate_rules.specs.Pieces.{capped, mateReference}
+use Rattle.mate_text.specs.Mate.{mateStart, endFrom, mateEnd, mateFivePrime, mateUnclipped1}
 use borrow.Author.Needs.{needs}
 use Rattle.mate_text.proofs.mate_unclipped_5prime_1based.Statement.{statement}
 use Rattle.mate_text.proofs.mate_unclipped_5prime_1based.Tie as tie
@@ -13,19 +14,52 @@ use Rattle.mate_text.proofs.mate_unclipped_5prime_1based.Tie as tie
 saturating-one-based-requires : tie.Need-saturating-one-based-requires
 saturating-one-based-requires c κs = search needs
 
-five-prime-requires : tie.Need-five-prime-requires
-five-prime-requires c κs = search needs
+parse-ref-len-and-trailing-clips-requires : tie.Need-parse-ref-len-and-trailing-clips-requires
+parse-ref-len-and-trailing-clips-requires c κs = search needs
+
+unclipped-other-end-requires : tie.Need-unclipped-other-end-requires
+unclipped-other-end-requires c κs = search needs
 
 returns : tie.Need-returns
-unfolding mateUnclipped1
+unfolding mateUnclipped1 mateFivePrime
 returns c =
-    let a = c .before .before .before .before .args in
-    let s = c .before .before .saturating-one-based .result in
-    let q : toZ w32 (ofZ w32 (s .0)) ≡ s .0 = search needs in
-    let r : toZ w32 (ofZ w32 (c .five-prime .result)) ≡ c .five-prime .result = search needs in
-    let g : c .five-prime .result ≡ mateFivePrime (s .0) (a .reverse) (now (a .text)) = simp q at (c .five-prime .ensures) in
-    ap (λ (z : ℤ). record { 0 = z }) (r ∙ g ∙ ap (λ (p : Pos1). mateFivePrime (p .0) (a .reverse) (now (a .text))) (c .before .before .saturating-one-based .ensures))
+    let t = c .before .before .before .before in
+    let a = t .before .before .before .before .args in
+    let f = t .parse-ref-len-and-trailing-clips in
+    let e = c .unclipped-other-end in
+    let o = t .before .before .saturating-one-based in
+    let p : toZ w32 (ofZ w32 (o .result .0)) ≡ o .result .0 = search needs in
+    let u : toZ w32 (ofZ w32 (f .result .refs)) ≡ f .result .refs = search needs in
+    let v : toZ w32 (ofZ w32 (f .result .clips)) ≡ f .result .clips = search needs in
+    let r : toZ w32 (ofZ w32 (e .result)) ≡ e .result = search needs in
+    let g : e .result ≡ endFrom (o .result .0) (f .result .refs) (f .result .clips) = simp (p, u, v) at (e .ensures) in
+    rw (t .before .if1 .taken)
+    (ap (λ (z : ℤ). record { 0 = z })
+    (r ∙ g ∙ ap (λ (z : ℤ). endFrom (o .result .0) z (f .result .clips)) (f .ensures .0)
+    ∙ ap (λ (z : ℤ). endFrom (o .result .0) (capped (mateReference (now (a .text)))) z) (f .ensures .1) ∙ ap (λ (x : Pos1). mateEnd (x .0) (now (a .text))) (o .ensures)))
+
+unclipped-other-start-requires : tie.Need-unclipped-other-start-requires
+unclipped-other-start-requires c κs = search needs
+
+returns-2 : tie.Need-returns-2
+unfolding mateUnclipped1 mateFivePrime
+returns-2 c =
+    let t = c .before .before in
+    let a = t .before .before .before .args in
+    let e = c .unclipped-other-start in
+    let o = t .before .saturating-one-based in
+    let p : toZ w32 (ofZ w32 (o .result .0)) ≡ o .result .0 = search needs in
+    let r : toZ w32 (ofZ w32 (e .result)) ≡ e .result = search needs in
+    let g : e .result ≡ mateStart (o .result .0) (now (a .text)) = simp p at (e .ensures) in
+    rw (t .if1 .left) (ap (λ (z : ℤ). record { 0 = z }) (r ∙ g ∙ ap (λ (x : Pos1). mateStart (x .0) (now (a .text))) (o .ensures)))
 
 pub mate-unclipped-5prime-1based-spec : {M : Type 1} → statement M
 mate-unclipped-5prime-1based-spec =
-    tie.close (tie.spec saturating-one-based-requires five-prime-requires returns)
+    tie.close
+    (tie.spec
+    saturating-one-based-requires
+    parse-ref-len-and-trailing-clips-requires
+    unclipped-other-end-requires
+    returns
+    unclipped-other-start-requires
+    returns-2)

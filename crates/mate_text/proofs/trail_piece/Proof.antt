@@ -6,14 +6,26 @@ use mir.Syntax.{w32}
 use mir.Val.{toZ, ofZ}
 use borrow.Author.Tests.{not-true, not-false}
 use Rattle.signed.specs.Whole.{clamp32}
+use Rattle.sam.specs.Op.{isRef}
+use Rattle.ops.specs.Ops.{isClip}
 use Rattle.mate_rules.specs.Pieces.{isRefLetter, isClipLetter}
-use Rattle.mate_text.proofs.PieceSteps.{trail-ref, trail-other, trail-early, trail-clip}
+use Rattle.mate_text.proofs.PieceSteps.{ref-entry, clip-entry, trail-ref, trail-other, trail-early, trail-clip}
 use borrow.Author.Needs.{needs}
 use Rattle.mate_text.proofs.trail_piece.Statement.{statement}
 use Rattle.mate_text.proofs.trail_piece.Tie as tie
 
-is-ref-requires : tie.Need-is-ref-requires
-is-ref-requires c κs = search needs
+-- the tests of the code are those of the letter
+refs : (c : tie.After-consumes-ref) → isRefLetter (c .before .before .args .letter) ≡ c .consumes-ref .result
+refs c = sym (c .consumes-ref .ensures ∙ ap isRef (c .before .coded .ensures) ∙ ref-entry _ (search needs))
+
+clips : (c : tie.After-is-clip) → isClipLetter (c .before .before .before .before .args .letter) ≡ c .is-clip .result
+clips c = sym (c .is-clip .ensures ∙ ap isClip (c .before .before .before .coded .ensures) ∙ clip-entry _ (search needs))
+
+coded-requires : tie.Need-coded-requires
+coded-requires c κs = search needs
+
+consumes-ref-requires : tie.Need-consumes-ref-requires
+consumes-ref-requires c κs = search needs
 
 saturating-add-requires : tie.Need-saturating-add-requires
 saturating-add-requires c κs = search needs
@@ -21,12 +33,12 @@ saturating-add-requires c κs = search needs
 returns : tie.Need-returns
 returns c =
     let t = c .before .before in
-    let a = t .before .before .args in
+    let a = t .before .before .before .args in
     let e : toZ w32 (ofZ w32 (a .s .refs)) ≡ a .s .refs = search needs in
     let n : toZ w32 (ofZ w32 (a .number)) ≡ a .number = search needs in
     let r : toZ w32 (ofZ w32 (c .saturating-add .result)) ≡ c .saturating-add .result = search needs in
     let g : c .saturating-add .result ≡ clamp32 (a .s .refs +ℤ a .number) = simp (e, n) at (c .saturating-add .ensures) in
-    let k : isRefLetter (a .letter) ≡ true = sym (t .before .is-ref .ensures) ∙ t .if1 .taken in
+    let k : isRefLetter (a .letter) ≡ true = refs (t .before) ∙ t .if1 .taken in
     (ap (λ (z : ℤ). record { refs = z; clips = pos 0; seen = true }) (r ∙ g) ∙ sym (trail-ref (a .s) (a .number) (a .letter) k))
 
 is-clip-requires : tie.Need-is-clip-requires
@@ -35,17 +47,17 @@ is-clip-requires c κs = search needs
 returns-2 : tie.Need-returns-2
 returns-2 c =
     let t = c .before .before in
-    let a = t .before .before .args in
-    let k : isRefLetter (a .letter) ≡ false = sym (t .before .is-ref .ensures) ∙ t .if1 .left in
-    let l : isClipLetter (a .letter) ≡ false = sym (c .before .is-clip .ensures) ∙ not-true _ (c .if2 .taken) in
+    let a = t .before .before .before .args in
+    let k : isRefLetter (a .letter) ≡ false = refs (t .before) ∙ t .if1 .left in
+    let l : isClipLetter (a .letter) ≡ false = clips (c .before) ∙ not-true _ (c .if2 .taken) in
     (sym (trail-other (a .s) (a .number) (a .letter) k l))
 
 returns-3 : tie.Need-returns-3
 returns-3 c =
     let t = c .before .before .before .before in
-    let a = t .before .before .args in
-    let k : isRefLetter (a .letter) ≡ false = sym (t .before .is-ref .ensures) ∙ t .if1 .left in
-    let l : isClipLetter (a .letter) ≡ true = sym (c .before .before .before .is-clip .ensures) ∙ not-false _ (c .before .before .if2 .left) in
+    let a = t .before .before .before .args in
+    let k : isRefLetter (a .letter) ≡ false = refs (t .before) ∙ t .if1 .left in
+    let l : isClipLetter (a .letter) ≡ true = clips (c .before .before .before) ∙ not-false _ (c .before .before .if2 .left) in
     (sym (trail-early (a .s) (a .number) (a .letter) k l (not-true _ (c .if3 .taken))))
 
 saturating-add-requires-2 : tie.Need-saturating-add-requires-2
@@ -55,14 +67,14 @@ returns-4 : tie.Need-returns-4
 returns-4 c =
     let u = c .before .before .before in
     let t = u .before .before .before .before in
-    let a = t .before .before .args in
+    let a = t .before .before .before .args in
     let p : toZ w32 (ofZ w32 (a .s .refs)) ≡ a .s .refs = search needs in
     let e : toZ w32 (ofZ w32 (a .s .clips)) ≡ a .s .clips = search needs in
     let n : toZ w32 (ofZ w32 (a .number)) ≡ a .number = search needs in
     let r : toZ w32 (ofZ w32 (c .before .saturating-add2 .result)) ≡ c .before .saturating-add2 .result = search needs in
     let g : c .before .saturating-add2 .result ≡ clamp32 (a .s .clips +ℤ a .number) = simp (e, n) at (c .before .saturating-add2 .ensures) in
-    let k : isRefLetter (a .letter) ≡ false = sym (t .before .is-ref .ensures) ∙ t .if1 .left in
-    let l : isClipLetter (a .letter) ≡ true = sym (u .before .before .before .is-clip .ensures) ∙ not-false _ (u .before .before .if2 .left) in
+    let k : isRefLetter (a .letter) ≡ false = refs (t .before) ∙ t .if1 .left in
+    let l : isClipLetter (a .letter) ≡ true = clips (u .before .before .before) ∙ not-false _ (u .before .before .if2 .left) in
     (ap (λ (z : ℤ). record { refs = z; clips = toZ w32 (ofZ w32 (c .before .saturating-add2 .result)); seen = true }) p
     ∙ ap (λ (z : ℤ). record { refs = a .s .refs; clips = z; seen = true }) (r ∙ g)
     ∙ sym (trail-clip (a .s) (a .number) (a .letter) k l (not-false _ (u .if3 .left))))
@@ -71,7 +83,8 @@ pub trail-piece-spec : {M : Type 1} → statement M
 trail-piece-spec =
     tie.close
     (tie.spec
-    is-ref-requires
+    coded-requires
+    consumes-ref-requires
     saturating-add-requires
     returns
     is-clip-requires

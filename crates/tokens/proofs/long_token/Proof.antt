@@ -5,9 +5,11 @@ use mathlib.Core.Bool.{true, false}
 use native.Mathlib.Omega.{arith}
 use borrow.Author.Tests.{not-true, not-false}
 use lib.ListN.{length, getD}
+use Rattle.sam.specs.Op.{letterCode}
 use Rattle.sam.specs.Text.{isDigit}
 use Rattle.text_rules.specs.Text.{Effect, Effect.Letter}
 use Rattle.sam.proofs.TextLaws.{a-digit}
+use Rattle.letters.proofs.Table.{known, unknown}
 use Rattle.text_rules.proofs.ByteLaws.{byte-digit, byte-over, byte-letter, byte-zero, byte-unknown}
 use Rattle.tokens.proofs.TextLaws.{Reading, reading, read-bad, read-digit, read-letter, read-end}
 use Rattle.tokens.proofs.long_token.Statement.{statement}
@@ -38,8 +40,8 @@ shared-slice-read-b c = omega arith
 is-digit-requires : tie.Need-is-digit-requires Inv-loop μ-loop
 is-digit-requires c κs = tt
 
-cigar-op-code-requires : tie.Need-cigar-op-code-requires Inv-loop μ-loop
-cigar-op-code-requires c κs = tt
+code-at-requires : tie.Need-code-at-requires Inv-loop μ-loop
+code-at-requires c κs = tt
 
 returns : tie.Need-returns Inv-loop μ-loop
 returns c =
@@ -54,9 +56,9 @@ returns-2 c =
     let t = c .before .before .before in
     let l = t .before .before .before .before in
     let a = l .before .before .args in
-    let k = c .before .before .cigar-op-code .ensures in
+    let k = c .before .before .code-at .ensures in
     read-bad (a .text .now) (a .at) (l .loop .i) (l .loop .num) (l .loop .inv .3) (t .before .before .before .loop-test .taken)
-    (byte-unknown (l .loop .num) (here l) (letter t) (omega (arith, k, c .if3 .taken)))
+    (byte-unknown (l .loop .num) (here l) (letter t) (unknown (here l) (omega (arith, k, c .if3 .taken))))
 
 add-t13 : tie.Need-add-t13 Inv-loop μ-loop
 add-t13 c = omega arith
@@ -66,11 +68,12 @@ returns-3 c =
     let t = c .before .before .before in
     let l = t .before .before .before .before in
     let a = l .before .before .args in
-    let k = c .before .before .cigar-op-code in
+    let k = c .before .before .code-at in
     let z = c .before .if2 .left in
+    let q : k .result ≡ letterCode (here l) = k .ensures ∙ known (here l) (omega (arith, k .ensures)) in
     read-letter (a .text .now) (a .at) (l .loop .i) (l .loop .num) (l .loop .inv .3) (k .result) (t .before .before .before .loop-test .taken)
     (omega arith) (omega arith) (omega arith) (omega arith)
-    (byte-letter (l .loop .num) (here l) (letter t) z (omega (arith, k .ensures)) ∙ ap Effect.Letter (sym (k .ensures)))
+    (byte-letter (l .loop .num) (here l) (letter t) z (omega (arith, q)) ∙ ap Effect.Letter (sym q))
 
 mul-num : tie.Need-mul-num Inv-loop μ-loop
 mul-num c = omega arith
@@ -131,7 +134,7 @@ long-token-spec =
     loop-holds
     shared-slice-read-b
     is-digit-requires
-    cigar-op-code-requires
+    code-at-requires
     returns
     returns-2
     add-t13

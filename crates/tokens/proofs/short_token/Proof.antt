@@ -1,14 +1,15 @@
 -- The four bytes tell the op: which of them are digits, and which is the letter.
-use Prim.Native.Nat.{_+_, _-_, _*_, _≤_, _<_}
-use mathlib.Core.Path.{_≡_, sym, ap, _∙_}
+use Prim.Native.Nat.{ℕ, _+_, _-_, _*_, _≤_, _<_}
+use mathlib.Core.Path.{_≡_, sym, ap, _∙_, subst}
 use mathlib.Core.Bool.{true, cond}
 use mathlib.Core.Logic.{⊎-elim}
 use native.Mathlib.Omega.{arith}
 use borrow.Author.Needs.{needs}
 use borrow.Author.Tests.{not-false}
+use Rattle.sam.specs.Op.{letterCode}
 use Rattle.sam.specs.Text.{isDigit}
-use Rattle.text_rules.specs.Text.{letterCode}
 use Rattle.sam.proofs.TextLaws.{a-digit}
+use Rattle.letters.proofs.Table.{known}
 use Rattle.tokens.proofs.LetterLaws.{short-op}
 use Rattle.tokens.proofs.short_token.Statement.{statement}
 use Rattle.tokens.proofs.short_token.Tie as tie
@@ -128,8 +129,8 @@ sub-len-3 c =
 letter-of-requires : tie.Need-letter-of-requires
 letter-of-requires c κs = search needs
 
-cigar-op-code-requires : tie.Need-cigar-op-code-requires
-cigar-op-code-requires c κs = search needs
+code-at-requires : tie.Need-code-at-requires
+code-at-requires c κs = search needs
 
 returns-3 : tie.Need-returns-3
 returns-3 c = search needs
@@ -151,10 +152,12 @@ returns-5 c =
     let t = w .before .before .before .before .before .before .before .before in
     let e = t .before .before .before in
     let a = e .before .before .args in
+    let e₄ = k .code-at .ensures in
+    let o : k .code-at .result ≤ 8 = c .before .if6 .left in
     short-op (a .text .now) (a .at) (w .before .before .wide .result) (w .before .wide2 .result) (w .wide3 .result) (omega arith)
     (w .before .before .wide .ensures .0) (w .before .wide2 .ensures .0) (w .wide3 .ensures .0) (first (w .before .before))
-    _ _ (second (w .before)) (third w) (j .if3 .len) (k .cigar-op-code .result) _ (number j) (c .before .before .if5 .left)
-    (k .cigar-op-code .ensures ∙ ap letterCode (k .before .letter-of .ensures)) (c .before .if6 .left) (ap (λ n. a .at + n) (c .width-of .ensures .0))
+    _ _ (second (w .before)) (third w) (j .if3 .len) (k .code-at .result) _ (number j) (c .before .before .if5 .left)
+    (e₄ ∙ known _ (subst (λ (n : ℕ). n ≤ 8) e₄ o) ∙ ap letterCode (k .before .letter-of .ensures)) o (ap (λ n. a .at + n) (c .width-of .ensures .0))
 
 pub short-token-spec : {M : Type 1} → statement M
 short-token-spec =
@@ -184,7 +187,7 @@ short-token-spec =
     sub-len-2
     sub-len-3
     letter-of-requires
-    cigar-op-code-requires
+    code-at-requires
     returns-3
     returns-4
     width-of-requires
