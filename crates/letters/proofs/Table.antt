@@ -1,39 +1,28 @@
--- The rule of a table of 256 in rows of eight is one test that antt computes over all entries; what is read at each byte is then the byte's entry.
+-- The rule of a table of 256 entries, sixteen to a number, is one test that antt computes over all entries; what is read at each byte is then the byte's entry.
 use Prim.Native.Nat.{ℕ, _/_, _%_, _*_, _^_, _≤_, _<_}
 use mathlib.Core.Path.{_≡_, refl, ap, _∙_}
-use mathlib.Core.Bool.{Bool, true, false, cond, _&&_}
-use mathlib.Core.List.{List, []}
+use mathlib.Core.Bool.{Bool, true, false, cond}
+use mathlib.Core.List.{List}
 use native.Mathlib.Omega.{arith}
 use lib.ListN.{getD}
 use lib.Dec.{ltb, eqb}
 use borrow.Author.Tests.{ltb-true, eqb-true}
-use Rattle.lists.proofs.Absurd.{false-true}
 use Rattle.lists.proofs.Tables.{below, below-at}
 use Rattle.sam.specs.Op.{letters, indexOf, letterCode}
 use Rattle.letters.specs.Letters.{entryOf}
-use Rattle.letters.specs.InnerWord.{wordOf}
+use Rattle.letters.specs.InnerRow.{rowOf}
 
--- the entry at a byte
-abbrev entryIn : List (List ℕ) → ℕ → ℕ
-entryIn rows b = getD (getD rows (b / 8) []) (b % 8) 0
+-- what stands at a byte
+abbrev entryIn : List ℕ → ℕ → ℕ
+entryIn codes b = rowOf codes (b / 16) / 2 ^ (b % 16 * 4) % 16
 
--- what is read at a byte: four bits of the number that its row and the one beside it are packed into
-abbrev readAt : List (List ℕ) → ℕ → ℕ
-readAt rows b = wordOf rows (b / 16) / 2 ^ (b % 16 * 4) % 16
+-- THE RULE: it is the code of the letter, or the mark
+abbrev pub right : List ℕ → ℕ → Bool
+right codes b = eqb (entryIn codes b) (entryOf b)
 
--- THE RULE: the entry is the code of the letter, or the mark, and so is what is read
-abbrev pub right : List (List ℕ) → ℕ → Bool
-right rows b = eqb (entryIn rows b) (entryOf b) && eqb (readAt rows b) (entryOf b)
-
-second : (t u : Bool) → (t && u) ≡ true → u ≡ true
-second true u e = e
-second false u e = false-true e
-
-pub at-byte : (rows : List (List ℕ)) (b word : ℕ) → word ≡ wordOf rows (b / 16) → b < 256 → below (right rows) 256 ≡ true
-    → word / 2 ^ (b % 16 * 4) % 16 ≡ entryOf b
-at-byte rows b word p h e =
-    ap (λ (w : ℕ). w / 2 ^ (b % 16 * 4) % 16) p
-    ∙ eqb-true (readAt rows b) (entryOf b) (second (eqb (entryIn rows b) (entryOf b)) _ (below-at (right rows) 256 b e h))
+pub at-byte : (codes : List ℕ) (b row : ℕ) → row ≡ rowOf codes (b / 16) → b < 256 → below (right codes) 256 ≡ true → row / 2 ^ (b % 16 * 4) % 16 ≡ entryOf b
+at-byte codes b row p h e =
+    ap (λ (w : ℕ). w / 2 ^ (b % 16 * 4) % 16) p ∙ eqb-true (entryIn codes b) (entryOf b) (below-at (right codes) 256 b e h)
 
 -- the table and the letters of codes are inverse
 pub inverse : (c : ℕ) → c < 9 → entryOf (getD letters c 0) ≡ c

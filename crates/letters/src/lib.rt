@@ -1,107 +1,60 @@
 // Document 02, item 4: one table of letters, from which both readers of text read. An inner crate.
 ghost use mathlib.Core.Path.{_≡_};
-ghost use Prim.Native.Nat.{_+_, _*_, _%_, _<_};
+ghost use Prim.Native.Nat.{_<_};
 ghost use Rattle.letters.specs.Letters.{entryOf};
-ghost use Rattle.letters.specs.InnerWord.{packedOf, wordOf};
+ghost use Rattle.letters.specs.InnerRow.{rowOf};
 
-// At each byte the code of the op whose letter it is, 15 where it is none: 32 rows of eight.
-const CODES: [[u8; 8]; 32] = [
-    [15, 15, 15, 15, 15, 15, 15, 15],
-    [15, 15, 15, 15, 15, 15, 15, 15],
-    [15, 15, 15, 15, 15, 15, 15, 15],
-    [15, 15, 15, 15, 15, 15, 15, 15],
-    [15, 15, 15, 15, 15, 15, 15, 15],
-    [15, 15, 15, 15, 15, 15, 15, 15],
-    [15, 15, 15, 15, 15, 15, 15, 15],
-    [15, 15, 15, 15, 15, 7, 15, 15], // 8 9 : ; < = > ?
-    [15, 15, 15, 15, 2, 15, 15, 15], // @ A B C D E F G
-    [5, 1, 15, 15, 15, 0, 3, 15], // H I J K L M N O
-    [6, 15, 15, 4, 15, 15, 15, 15], // P Q R S T U V W
-    [8, 15, 15, 15, 15, 15, 15, 15], // X Y Z [ \ ] ^ _
-    [15, 15, 15, 15, 15, 15, 15, 15], // ` a b c d e f g
-    [15, 15, 15, 15, 15, 15, 15, 15], // h i j k l m n o
-    [15, 15, 15, 15, 15, 15, 15, 15], // p q r s t u v w
-    [15, 15, 15, 15, 15, 15, 15, 15], // x y z { | } ~ DEL
-    [15, 15, 15, 15, 15, 15, 15, 15],
-    [15, 15, 15, 15, 15, 15, 15, 15],
-    [15, 15, 15, 15, 15, 15, 15, 15],
-    [15, 15, 15, 15, 15, 15, 15, 15],
-    [15, 15, 15, 15, 15, 15, 15, 15],
-    [15, 15, 15, 15, 15, 15, 15, 15],
-    [15, 15, 15, 15, 15, 15, 15, 15],
-    [15, 15, 15, 15, 15, 15, 15, 15],
-    [15, 15, 15, 15, 15, 15, 15, 15],
-    [15, 15, 15, 15, 15, 15, 15, 15],
-    [15, 15, 15, 15, 15, 15, 15, 15],
-    [15, 15, 15, 15, 15, 15, 15, 15],
-    [15, 15, 15, 15, 15, 15, 15, 15],
-    [15, 15, 15, 15, 15, 15, 15, 15],
-    [15, 15, 15, 15, 15, 15, 15, 15],
-    [15, 15, 15, 15, 15, 15, 15, 15],
+// Sixteen bytes of which none is a letter.
+const NONE: u64 = 0xffff_ffff_ffff_ffff;
+
+// At each byte the code of the op whose letter it is, 15 where it is none: 256 entries of one hexadecimal digit, sixteen to a number, the first one on the right.
+const CODES: [u64; 16] = [
+    NONE,
+    NONE,
+    NONE, // / . - , + * ) ( ' & % $ # " ! space
+    0xff7f_ffff_ffff_ffff, // ? > = < ; : 9 8 7 6 5 4 3 2 1 0
+    0xf30f_ff15_fff2_ffff, // O N M L K J I H G F E D C B A @
+    0xffff_fff8_ffff_4ff6, // _ ^ ] \ [ Z Y X W V U T S R Q P
+    NONE, // o n m l k j i h g f e d c b a `
+    NONE, // DEL ~ } | { z y x w v u t s r q p
+    NONE,
+    NONE,
+    NONE,
+    NONE,
+    NONE,
+    NONE,
+    NONE,
+    NONE,
 ];
 
-fn four_bits(b: u8) -> u64
-    ensures { λ r. ⌜ (r ≡ b % 16) × (r < 16) ⌝ }
-{
-    (b % 16) as u64
-}
-
-// A row as one number, four bits an entry, the first one lowest.
-fn packed(row: [u8; 8]) -> u64
-    ensures { λ r. ⌜ (r ≡ packedOf row) × (r < 4294967296) ⌝ }
-{
-    four_bits(row[0])
-        + four_bits(row[1]) * 16
-        + four_bits(row[2]) * 256
-        + four_bits(row[3]) * 4096
-        + four_bits(row[4]) * 65536
-        + four_bits(row[5]) * 1048576
-        + four_bits(row[6]) * 16777216
-        + four_bits(row[7]) * 268435456
-}
-
-fn joined(first: [u8; 8], second: [u8; 8]) -> u64
-    ensures { λ r. ⌜ r ≡ packedOf first + packedOf second * 4294967296 ⌝ }
-{
-    packed(first) + packed(second) * 4294967296
-}
-
 // The sixteen entries of a table from byte 16 n on. The places are constants: so no array is built, and the compiler makes one load of it.
-fn word(rows: [[u8; 8]; 32], n: u8) -> u64
+fn row(codes: [u64; 16], n: u8) -> u64
     requires { ⌜ n < 16 ⌝ }
-    ensures { λ r. ⌜ r ≡ wordOf rows n ⌝ }
+    ensures { λ r. ⌜ r ≡ rowOf codes n ⌝ }
 {
     match n {
-        0 => joined(rows[0], rows[1]),
-        1 => joined(rows[2], rows[3]),
-        2 => joined(rows[4], rows[5]),
-        3 => joined(rows[6], rows[7]),
-        4 => joined(rows[8], rows[9]),
-        5 => joined(rows[10], rows[11]),
-        6 => joined(rows[12], rows[13]),
-        7 => joined(rows[14], rows[15]),
-        8 => joined(rows[16], rows[17]),
-        9 => joined(rows[18], rows[19]),
-        10 => joined(rows[20], rows[21]),
-        11 => joined(rows[22], rows[23]),
-        12 => joined(rows[24], rows[25]),
-        13 => joined(rows[26], rows[27]),
-        14 => joined(rows[28], rows[29]),
-        _ => joined(rows[30], rows[31]),
+        0 => codes[0],
+        1 => codes[1],
+        2 => codes[2],
+        3 => codes[3],
+        4 => codes[4],
+        5 => codes[5],
+        6 => codes[6],
+        7 => codes[7],
+        8 => codes[8],
+        9 => codes[9],
+        10 => codes[10],
+        11 => codes[11],
+        12 => codes[12],
+        13 => codes[13],
+        14 => codes[14],
+        _ => codes[15],
     }
-}
-
-// A number whose lowest four bits are the entry at a byte, as those of an op are its code: for tests that take it modulo 16.
-pub fn coded(b: u8) -> u32
-    ensures { λ r. ⌜ r % 16 ≡ entryOf b ⌝ }
-{
-    let place = four_bits(b);
-    ((word(CODES, b / 16) >> (place * 4)) % 4294967296) as u32
 }
 
 // The code of a letter; 15 for any other byte.
 pub fn code_at(b: u8) -> u32
     ensures { λ r. ⌜ r ≡ entryOf b ⌝ }
 {
-    coded(b) % 16
+    ((row(CODES, b / 16) >> (b % 16 * 4)) % 16) as u32
 }

@@ -6,7 +6,7 @@ use Prim.Native.Nat.{ℕ, _<_}
 use lib.IntN.{ℤ, pos, _+ℤ_}
 use Rattle.lists.proofs.Tables.{below-same}
 use Rattle.signed.specs.Whole.{clamp32}
-use Rattle.sam.specs.Op.{isRef, indexOf, letterCode}
+use Rattle.sam.specs.Op.{codeOf, isRef, indexOf, letterCode}
 use Rattle.sam.specs.Text.{isDigit}
 use Rattle.ops.specs.Ops.{isClip}
 use Rattle.letters.specs.Letters.{entryOf}
@@ -21,13 +21,13 @@ use Rattle.mate_text.specs.declared.Trail.{Trail}
 
 -- a letter's class is that of its entry in the table, whose mark is of none
 module _ (b : ℕ) (h : b < 256) where
-  pub ref-entry : isRef (entryOf b) ≡ isRefLetter b
+  pub ref-entry : isRef (codeOf (entryOf b)) ≡ isRefLetter b
   unfolding isRefLetter isRef entryOf letterCode indexOf
-  ref-entry = below-same (λ d. isRef (entryOf d)) isRefLetter 256 b refl h
+  ref-entry = below-same (λ d. isRef (codeOf (entryOf d))) isRefLetter 256 b refl h
 
-  pub clip-entry : isClip (entryOf b) ≡ isClipLetter b
+  pub clip-entry : isClip (codeOf (entryOf b)) ≡ isClipLetter b
   unfolding isClipLetter isClip entryOf letterCode indexOf
-  clip-entry = below-same (λ d. isClip (entryOf d)) isClipLetter 256 b refl h
+  clip-entry = below-same (λ d. isClip (codeOf (entryOf d))) isClipLetter 256 b refl h
 
 module _ (s : Lead) (n : ℤ) (b : ℕ) where
   pub lead-off : s .on ≡ false → leadPiece s n b ≡ s

@@ -92,7 +92,7 @@ fn lead_piece(s: Lead, number: i32, letter: u8) -> Lead
     if !s.on {
         return s;
     }
-    if !ops::is_clip(letters::coded(letter)) {
+    if !ops::is_clip(letters::code_at(letter)) {
         return Lead {
             clips: s.clips,
             on: false,
@@ -135,7 +135,7 @@ struct Trail {
 fn trail_piece(s: Trail, number: i32, letter: u8) -> Trail
     ensures { λ r. ⌜ r ≡ trailPiece s number letter ⌝ }
 {
-    let code = letters::coded(letter);
+    let code = letters::code_at(letter);
     if ops::consumes_ref(code) {
         return Trail {
             refs: signed::saturating_add(s.refs, number),

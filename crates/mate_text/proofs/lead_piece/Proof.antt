@@ -1,11 +1,13 @@
 -- `mate_text::lead_piece` meets its contract: each way out is one case of the definition.
 use mathlib.Core.Path.{_≡_, sym, ap, _∙_}
 use mathlib.Core.Bool.{true, false}
+use Prim.Native.Nat.{ℕ}
 use lib.IntN.{ℤ, _+ℤ_}
 use mir.Syntax.{w32}
 use mir.Val.{toZ, ofZ}
 use borrow.Author.Tests.{not-true, not-false}
 use Rattle.signed.specs.Whole.{clamp32}
+use Rattle.sam.specs.Op.{codeOf}
 use Rattle.ops.specs.Ops.{isClip}
 use Rattle.mate_rules.specs.Pieces.{isClipLetter}
 use Rattle.mate_text.proofs.PieceSteps.{clip-entry, lead-off, lead-stop, lead-clip}
@@ -15,15 +17,15 @@ use Rattle.mate_text.proofs.lead_piece.Tie as tie
 
 -- the test of the code is that of the letter
 clips : (c : tie.After-is-clip) → isClipLetter (c .before .before .before .before .args .letter) ≡ c .is-clip .result
-clips c = sym (c .is-clip .ensures ∙ ap isClip (c .before .coded .ensures) ∙ clip-entry _ (search needs))
+clips c = sym (c .is-clip .ensures ∙ ap (λ (n : ℕ). isClip (codeOf n)) (c .before .code-at .ensures) ∙ clip-entry _ (search needs))
 
 returns : tie.Need-returns
 returns c =
     let a = c .before .before .args in
     (sym (lead-off (a .s) (a .number) (a .letter) (not-true _ (c .if1 .taken))))
 
-coded-requires : tie.Need-coded-requires
-coded-requires c κs = search needs
+code-at-requires : tie.Need-code-at-requires
+code-at-requires c κs = search needs
 
 is-clip-requires : tie.Need-is-clip-requires
 is-clip-requires c κs = search needs
@@ -53,4 +55,4 @@ returns-3 c =
 pub lead-piece-spec : {M : Type 1} → statement M
 lead-piece-spec =
     tie.close
-    (tie.spec returns coded-requires is-clip-requires returns-2 saturating-add-requires returns-3)
+    (tie.spec returns code-at-requires is-clip-requires returns-2 saturating-add-requires returns-3)

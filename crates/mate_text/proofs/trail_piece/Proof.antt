@@ -1,12 +1,13 @@
 -- `mate_text::trail_piece` meets its contract: each way out is one case of the definition.
 use mathlib.Core.Path.{_≡_, sym, ap, _∙_}
 use mathlib.Core.Bool.{true, false}
+use Prim.Native.Nat.{ℕ}
 use lib.IntN.{ℤ, pos, _+ℤ_}
 use mir.Syntax.{w32}
 use mir.Val.{toZ, ofZ}
 use borrow.Author.Tests.{not-true, not-false}
 use Rattle.signed.specs.Whole.{clamp32}
-use Rattle.sam.specs.Op.{isRef}
+use Rattle.sam.specs.Op.{codeOf, isRef}
 use Rattle.ops.specs.Ops.{isClip}
 use Rattle.mate_rules.specs.Pieces.{isRefLetter, isClipLetter}
 use Rattle.mate_text.proofs.PieceSteps.{ref-entry, clip-entry, trail-ref, trail-other, trail-early, trail-clip}
@@ -16,13 +17,13 @@ use Rattle.mate_text.proofs.trail_piece.Tie as tie
 
 -- the tests of the code are those of the letter
 refs : (c : tie.After-consumes-ref) → isRefLetter (c .before .before .args .letter) ≡ c .consumes-ref .result
-refs c = sym (c .consumes-ref .ensures ∙ ap isRef (c .before .coded .ensures) ∙ ref-entry _ (search needs))
+refs c = sym (c .consumes-ref .ensures ∙ ap (λ (n : ℕ). isRef (codeOf n)) (c .before .code-at .ensures) ∙ ref-entry _ (search needs))
 
 clips : (c : tie.After-is-clip) → isClipLetter (c .before .before .before .before .args .letter) ≡ c .is-clip .result
-clips c = sym (c .is-clip .ensures ∙ ap isClip (c .before .before .before .coded .ensures) ∙ clip-entry _ (search needs))
+clips c = sym (c .is-clip .ensures ∙ ap (λ (n : ℕ). isClip (codeOf n)) (c .before .before .before .code-at .ensures) ∙ clip-entry _ (search needs))
 
-coded-requires : tie.Need-coded-requires
-coded-requires c κs = search needs
+code-at-requires : tie.Need-code-at-requires
+code-at-requires c κs = search needs
 
 consumes-ref-requires : tie.Need-consumes-ref-requires
 consumes-ref-requires c κs = search needs
@@ -83,7 +84,7 @@ pub trail-piece-spec : {M : Type 1} → statement M
 trail-piece-spec =
     tie.close
     (tie.spec
-    coded-requires
+    code-at-requires
     consumes-ref-requires
     saturating-add-requires
     returns
