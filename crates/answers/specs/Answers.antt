@@ -67,15 +67,10 @@ abbrev pub tellFlag : Flag → Told
 tellFlag (Flag.Is b) = answered (flagValue b ∷ [])
 tellFlag (Flag.Refused r) = refused r
 
--- a place as a plain number; one that its call always finds is told so
+-- a place that its call always finds is told as a plain number
 abbrev pub bare0 : Place0 → Int
 bare0 (Place0.At p) = Int.Number (p .0)
 bare0 (Place0.Refused r) = Int.Refused r
-
-abbrev pub bare1 : Place1 → Int
-bare1 (Place1.At p) = Int.Number (p .0)
-bare1 Place1.Nothing = Int.Number (pos 0)
-bare1 (Place1.Refused r) = Int.Refused r
 
 abbrev pub tellPlace0 : Place0 → Told
 tellPlace0 p = tellInt (bare0 p)

@@ -1,6 +1,6 @@
 // What calls answer: a value, "none", or the refusal. Document 01, "Numbers and their bounds".
 ghost use mathlib.Core.Path.{_≡_};
-ghost use Rattle.answers.specs.Answers.{numberOf, bare0, bare1};
+ghost use Rattle.answers.specs.Answers.{numberOf, bare0};
 
 // Why a call answers no value: one variant for each of the ten numbers, in their order.
 pub enum Refusal {
@@ -84,16 +84,5 @@ pub fn bare0(place: Place0) -> Int
     match place {
         Place0::At(p) => Int::Number(p.0),
         Place0::Refused(why) => Int::Refused(why),
-    }
-}
-
-// The same; none is 0.
-pub fn bare1(place: Place1) -> Int
-    ensures { λ r. ⌜ r ≡ bare1 place ⌝ }
-{
-    match place {
-        Place1::At(p) => Int::Number(p.0),
-        Place1::Nothing => Int::Number(0),
-        Place1::Refused(why) => Int::Refused(why),
     }
 }

@@ -13,6 +13,7 @@ use Rattle.border.specs.declared.ToldCount.{ToldCount}
 use Rattle.border.specs.declared.ToldFlag.{ToldFlag}
 use Rattle.border.specs.declared.ToldFound.{ToldFound}
 use Rattle.border.specs.declared.ToldLookup.{ToldLookup}
+use Rattle.border.specs.declared.ToldPosition.{ToldPosition}
 use Rattle.border.specs.declared.ToldTwo.{ToldTwo}
 use Rattle.border.specs.declared.ToldLengths.{ToldLengths}
 
@@ -43,6 +44,10 @@ foundOf t = record { refusal = t .number; found = isSet (valueAt 0 t); value = n
 -- the same, and a number that is never negative
 abbrev pub lookupOf : Told → ToldLookup
 lookupOf t = record { refusal = t .number; found = isSet (valueAt 0 t); value = natural (valueAt 1 t); examined = natural (valueAt 2 t) }
+
+-- which of three answers, and a signed number
+abbrev pub positionOf : Told → ToldPosition
+positionOf t = record { refusal = t .number; which = natural (valueAt 0 t); value = valueAt 1 t }
 
 -- two numbers that are never negative
 abbrev pub twoOf : Told → ToldTwo

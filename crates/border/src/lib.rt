@@ -48,6 +48,14 @@ pub struct ToldLookup {
     pub value: u64,
 }
 
+// A position, or why there is none: which of three answers it is.
+#[repr(C)]
+pub struct ToldPosition {
+    pub refusal: u32,
+    pub which: u32,
+    pub value: i32,
+}
+
 // Two numbers that are never negative.
 #[repr(C)]
 pub struct ToldTwo {

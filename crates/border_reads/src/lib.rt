@@ -1,14 +1,45 @@
-// How the answers of clipping, lookup and the overhang by text cross the C border. An inner crate of the static library `exports_reads`.
+// How the answers of the unclipped position, clipping, lookup and the overhang by text cross the C border. An inner crate of the static library `exports_reads`.
 ghost use mathlib.Core.Path.{_≡_};
+ghost use Rattle.ends_rules.specs.Ends.{tellUnclipped};
 ghost use Rattle.clip_rules.specs.Answer.{tellClipped};
 ghost use Rattle.lookup_rules.specs.Lookup.{tellFound};
 ghost use Rattle.overlap_rules.specs.Overlap.{tellOverhang};
-ghost use Rattle.border.specs.Border.{twoOf, lookupOf};
+ghost use Rattle.border.specs.Border.{positionOf, twoOf, lookupOf};
 use border::ToldLookup;
+use border::ToldPosition;
 use border::ToldTwo;
 use clip_rules::Clipped;
+use ends_rules::Unclipped;
 use lookup_rules::Found;
 use overlap_rules::Overhang;
+
+// A position, unmapped, or no ops.
+pub fn told_unclipped(answer: Unclipped) -> ToldPosition
+    ensures { λ r. ⌜ r ≡ positionOf (tellUnclipped answer) ⌝ }
+{
+    match answer {
+        Unclipped::At(p) => ToldPosition {
+            refusal: 0,
+            which: 0,
+            value: p.0,
+        },
+        Unclipped::Unmapped => ToldPosition {
+            refusal: 0,
+            which: 1,
+            value: 0,
+        },
+        Unclipped::NoOps => ToldPosition {
+            refusal: 0,
+            which: 2,
+            value: 0,
+        },
+        Unclipped::Refused(why) => ToldPosition {
+            refusal: answers::number(why),
+            which: 0,
+            value: 0,
+        },
+    }
+}
 
 // The ops written and the count.
 pub fn told_clipped(answer: Clipped) -> ToldTwo

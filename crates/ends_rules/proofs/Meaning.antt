@@ -1,19 +1,23 @@
--- What a place is that was not refused: the plain sum, since each step on the way was in the range of an i32.
+-- What a place is that was not refused: the plain sum, since each step on the way was in the range of an i32. And of what records the unclipped position is told, unmapped, and no ops.
 use Prim.Native.Nat.{ℕ}
 use mathlib.Core.Path.{_≡_, refl, sym, ap, _∙_}
-use mathlib.Core.Bool.{Bool, true, false, cond}
-use mathlib.Core.List.{List}
+use mathlib.Core.Bool.{Bool, true, false, cond, _||_}
+use mathlib.Core.List.{List, []}
 use lib.IntN.{ℤ, pos, negsuc, _+ℤ_, _-ℤ_}
-use lib.Dec.{eqb}
+use lib.Dec.{eqb, leb, ltb}
+use lib.ListN.{length}
 use lib.Signed.{ltZ}
-use Rattle.lists.proofs.Absurd.{never}
+use borrow.Author.Tests.{leb-true, leb-false, le-ltb, lt-ltb}
+use Rattle.lists.proofs.Absurd.{never, false-true}
 use Rattle.signed.specs.Whole.{sideOf, sumAt, checked, natural}
 use Rattle.signed.specs.declared.Side.the-variants.{Below, Within, Above}
 use Rattle.signed.specs.declared.Sum.{Sum}
 use Rattle.signed.specs.declared.Sum.the-variants.{Number, Over}
 use Rattle.sam.specs.Columns.{columns, refs}
-use Rattle.sam.specs.Record.{isShort, posOf}
+use Rattle.sam.specs.Record.{isShort, posOf, flagsOf, isUnmapped, isReverse, opCountOf, opsStart, opsEnd, opsIn}
 use Rattle.sam.proofs.LengthLaws.{reference-length}
+use Rattle.oplist.specs.Ops.{recordOps}
+use Rattle.oplist.proofs.OpsLaws.{length-opsIn}
 use Rattle.answers.specs.declared.Pos0.{Pos0}
 use Rattle.answers.specs.declared.Pos1.{Pos1}
 use Rattle.answers.specs.declared.Int.the-variants as Int
@@ -22,9 +26,11 @@ use Rattle.answers.specs.declared.Place1.the-variants as Place1
 use Rattle.answers.specs.declared.Refusal.the-variants.{ShortRecord}
 use Rattle.lengths.specs.Lengths.{checkedRefLength}
 use Rattle.clip_runs.specs.Clips.{leadingClips, clipsAfterReference}
+use Rattle.ends_rules.specs.declared.Unclipped.{Unclipped}
+use Rattle.ends_rules.specs.declared.Unclipped.the-variants as Unclipped
 use Rattle.ends_rules.specs.Sums.{both, summed}
 use Rattle.ends_rules.specs.Tails.{greatestRun}
-use Rattle.ends_rules.specs.Ends.{unclippedStart, provided, trailingSum, unclippedEnd, toPlace1, plusOne, alignmentStart, endAt, alignmentEnd}
+use Rattle.ends_rules.specs.Ends.{unclippedStart, provided, trailingSum, unclippedEnd, fivePrime, toPlace1, plusOne, noOps, asUnclipped, unclippedAt, unclippedOf, alignmentStart, endAt, alignmentEnd}
 
 checked-is : (z y : ℤ) → checked z ≡ Number y → z ≡ y
 unfolding checked sideOf
@@ -131,3 +137,96 @@ module _ (b : List ℕ) (p : Pos1) where
       go true t h = never (cc)
       go false true h = never (cc)
       go false false h = last-at n h
+
+-- ---- the three answers of the unclipped position
+
+-- "no ops, which an overrun area also gives": the record counts none, or its op area ends past it
+pub no-ops-is : (b : List ℕ) → noOps b ≡ (eqb (opCountOf b) 0 || ltb (length b) (opsEnd b))
+unfolding recordOps
+no-ops-is b = go (leb (opsEnd b) (length b)) refl
+  where
+    either : (t : Bool) → true ≡ (t || true)
+    either true = refl
+    either false = refl
+
+    alone : (t : Bool) → t ≡ (t || false)
+    alone true = refl
+    alone false = refl
+
+    go : (t : Bool) → leb (opsEnd b) (length b) ≡ t → eqb (length (cond t (opsIn b (opsStart b) (opCountOf b)) [])) 0 ≡ (eqb (opCountOf b) 0 || ltb (length b) (opsEnd b))
+    go true e = rw (length-opsIn b (opsStart b) (opCountOf b), le-ltb (length b) (opsEnd b) (leb-true (opsEnd b) (length b) e)) (alone (eqb (opCountOf b) 0))
+    go false e = rw (lt-ltb (length b) (opsEnd b) (leb-false (opsEnd b) (length b) e)) (either (eqb (opCountOf b) 0))
+
+-- the sums come to a position or to 4, and to neither of the other two answers
+abbrev isSummed : Unclipped → Bool
+isSummed (Unclipped.At p) = true
+isSummed Unclipped.Unmapped = false
+isSummed Unclipped.NoOps = false
+isSummed (Unclipped.Refused r) = true
+
+sums-end : (s : Sum) → isSummed (asUnclipped s) ≡ true
+sums-end (Number z) = refl
+sums-end Over = refl
+
+sums-only : (s : Sum) (reverse : Bool) (xs : List ℕ) → isSummed (unclippedAt s reverse xs) ≡ true
+sums-only (Number at) reverse xs = sums-end (fivePrime reverse at xs)
+sums-only Over reverse xs = refl
+
+position-is : (s : Sum) (p : Pos1) → asUnclipped s ≡ Unclipped.At p → s ≡ Number (p .0)
+position-is (Number z) p e = let f : record { 0 = z } ≡ p = cc in ap (λ (q : Pos1). Number (q .0)) f
+position-is Over p e = never (cc)
+
+module _ (b : List ℕ) where
+  abbrev rest : Unclipped
+  rest = unclippedAt (plusOne (record { 0 = posOf b })) (isReverse (flagsOf b)) (recordOps b)
+
+  rest-summed : isSummed rest ≡ true
+  rest-summed = sums-only (plusOne (record { 0 = posOf b })) (isReverse (flagsOf b)) (recordOps b)
+
+  pub unmapped-only : unclippedOf b ≡ Unclipped.Unmapped → (isShort b ≡ false) × (isUnmapped (flagsOf b) ≡ true)
+  unfolding unclippedOf
+  unmapped-only e = go (isShort b) refl (isUnmapped (flagsOf b)) refl (noOps b) e
+    where
+      go : (s : Bool) → isShort b ≡ s → (t : Bool) → isUnmapped (flagsOf b) ≡ t → (u : Bool) → cond s (Unclipped.Refused ShortRecord) (cond t Unclipped.Unmapped (cond u Unclipped.NoOps rest)) ≡ Unclipped.Unmapped
+          → (isShort b ≡ false) × (isUnmapped (flagsOf b) ≡ true)
+      go true p t q u h = never (cc)
+      go false p true q u h = (p, q)
+      go false p false q true h = never (cc)
+      go false p false q false h = false-true (sym (ap isSummed h) ∙ rest-summed)
+
+  pub no-ops-only : unclippedOf b ≡ Unclipped.NoOps → (isShort b ≡ false) × (isUnmapped (flagsOf b) ≡ false) × (noOps b ≡ true)
+  unfolding unclippedOf
+  no-ops-only e = go (isShort b) refl (isUnmapped (flagsOf b)) refl (noOps b) refl e
+    where
+      go : (s : Bool) → isShort b ≡ s → (t : Bool) → isUnmapped (flagsOf b) ≡ t → (u : Bool) → noOps b ≡ u → cond s (Unclipped.Refused ShortRecord) (cond t Unclipped.Unmapped (cond u Unclipped.NoOps rest)) ≡ Unclipped.NoOps
+          → (isShort b ≡ false) × (isUnmapped (flagsOf b) ≡ false) × (noOps b ≡ true)
+      go true p t q u r h = never (cc)
+      go false p true q u r h = never (cc)
+      go false p false q true r h = (p, q, r)
+      go false p false q false r h = false-true (sym (ap isSummed h) ∙ rest-summed)
+
+  module _ (p : Pos1) where
+    pub position-only : unclippedOf b ≡ Unclipped.At p → (isUnmapped (flagsOf b) ≡ false) × (noOps b ≡ false) × (rest ≡ Unclipped.At p)
+    unfolding unclippedOf
+    position-only e = go (isShort b) (isUnmapped (flagsOf b)) refl (noOps b) refl e
+      where
+        go : (s t : Bool) → isUnmapped (flagsOf b) ≡ t → (u : Bool) → noOps b ≡ u → cond s (Unclipped.Refused ShortRecord) (cond t Unclipped.Unmapped (cond u Unclipped.NoOps rest)) ≡ Unclipped.At p
+            → (isUnmapped (flagsOf b) ≡ false) × (noOps b ≡ false) × (rest ≡ Unclipped.At p)
+        go true t q u r h = never (cc)
+        go false true q u r h = never (cc)
+        go false false q true r h = never (cc)
+        go false false q false r h = (q, r, h)
+
+    -- "from `pos` + 1"
+    from-next : (s : Sum) → plusOne (record { 0 = posOf b }) ≡ s → unclippedAt s (isReverse (flagsOf b)) (recordOps b) ≡ Unclipped.At p
+        → fivePrime (isReverse (flagsOf b)) (posOf b +ℤ pos 1) (recordOps b) ≡ Number (p .0)
+    from-next (Number z) e h = ap (λ (y : ℤ). fivePrime (isReverse (flagsOf b)) y (recordOps b)) (plus-one-is (record { 0 = posOf b }) z e) ∙ position-is _ p h
+    from-next Over e h = never (cc)
+
+    pub forward-is : isReverse (flagsOf b) ≡ false → unclippedOf b ≡ Unclipped.At p → posOf b +ℤ pos 1 -ℤ pos (leadingClips (recordOps b)) ≡ p .0
+    unfolding fivePrime
+    forward-is r e = start-is _ _ (p .0) (rw r at (from-next _ refl (position-only e .2)))
+
+    pub reverse-is : isReverse (flagsOf b) ≡ true → unclippedOf b ≡ Unclipped.At p → posOf b +ℤ pos 1 +ℤ pos (refs (columns (recordOps b))) +ℤ pos (clipsAfterReference (recordOps b)) -ℤ pos 1 ≡ p .0
+    unfolding fivePrime
+    reverse-is r e = end-is _ _ (p .0) (rw r at (from-next _ refl (position-only e .2)))

@@ -1,8 +1,9 @@
--- Document 01, module 7: "`unclipped_5prime_from_raw_bam`: unmapped 0; no ops or overrun 2,147,483,647; else from `pos` + 1, forward less the leading S and H,
--- reverse plus reference length plus clips after the last reference op, less 1. `unclipped_5prime_raw` returns the given position for no ops or overrun."
+-- Document 01, module 7: "`unclipped_5prime_from_raw_bam`: [..] from `pos` + 1, forward less the leading S and H, reverse plus reference length plus clips after the last
+-- reference op, less 1. `unclipped_5prime_raw` returns the given position for no ops or overrun."
+-- Document 02, item 3: "The family builder wants three answers: a position, unmapped, or no ops, which an overrun area also gives."
 use Prim.Native.Nat.{ℕ}
 use mathlib.Core.Bool.{Bool, cond}
-use mathlib.Core.List.{List}
+use mathlib.Core.List.{List, [], _∷_}
 use lib.Dec.{eqb}
 use lib.IntN.{ℤ, pos}
 use lib.ListN.{length}
@@ -16,6 +17,7 @@ use Rattle.sam.specs.Record.{isShort, posOf, flagsOf, isUnmapped, isReverse}
 use Rattle.oplist.specs.Ops.{recordOps}
 use Rattle.clip_runs.specs.Clips.{leadingClips, clipsAfterReference}
 use Rattle.lengths.specs.Lengths.{checkedRefLength}
+use Rattle.answers.specs.Answers.{Told, answered, refused}
 use Rattle.answers.specs.declared.Pos0.{Pos0}
 use Rattle.answers.specs.declared.Int.{Int}
 use Rattle.answers.specs.declared.Int.the-variants as Int
@@ -73,7 +75,7 @@ oneBased p = toPlace1 (plusOne p)
 abbrev pub noOps : List ℕ → Bool
 noOps b = eqb (length (recordOps b)) 0
 
--- the three cases of a record: a place, unmapped, no ops; 1, and 4
+-- a position, or 4
 abbrev pub asUnclipped : Sum → Unclipped
 asUnclipped (Sum.Number z) = Unclipped.At (record { 0 = z })
 asUnclipped Sum.Over = Unclipped.Refused Overflow
@@ -83,6 +85,7 @@ abbrev pub unclippedAt : Sum → Bool → List ℕ → Unclipped
 unclippedAt (Sum.Number at) reverse xs = asUnclipped (fivePrime reverse at xs)
 unclippedAt Sum.Over reverse xs = Unclipped.Refused Overflow
 
+-- "a position, unmapped, or no ops", unmapped first, as the Rust asks; 1, and 4
 unfoldable pub unclippedOf : List ℕ → Unclipped
 unclippedOf b =
     cond (isShort b) (Unclipped.Refused ShortRecord)
@@ -90,12 +93,12 @@ unclippedOf b =
     (cond (noOps b) Unclipped.NoOps
     (unclippedAt (plusOne (record { 0 = posOf b })) (isReverse (flagsOf b)) (recordOps b))))
 
--- "unmapped 0; no ops or overrun 2,147,483,647"
-abbrev pub asRust : Unclipped → Place1
-asRust (Unclipped.At p) = Place1.At p
-asRust Unclipped.Unmapped = Place1.At (record { 0 = pos 0 })
-asRust Unclipped.NoOps = Place1.At (record { 0 = pos 2147483647 })
-asRust (Unclipped.Refused r) = Place1.Refused r
+-- told as which of the three it is, 0, 1 or 2, and the position, 0 where there is none
+abbrev pub tellUnclipped : Unclipped → Told
+tellUnclipped (Unclipped.At p) = answered (pos 0 ∷ p .0 ∷ [])
+tellUnclipped Unclipped.Unmapped = answered (pos 1 ∷ pos 0 ∷ [])
+tellUnclipped Unclipped.NoOps = answered (pos 2 ∷ pos 0 ∷ [])
+tellUnclipped (Unclipped.Refused r) = refused r
 
 -- "returns the given position for no ops or overrun": 1, 4
 unfoldable pub unclippedFrom : List ℕ → Pos0 → Bool → Place0

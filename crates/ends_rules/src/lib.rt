@@ -2,7 +2,7 @@
 use answers::Pos1;
 use answers::Refusal;
 
-// A record's unclipped 5' position, before it is folded to the Rust's number.
+// A record's unclipped 5' position: one of three answers, or the refusal.
 pub enum Unclipped {
     At(Pos1),
     Unmapped,

@@ -1,12 +1,13 @@
 // Unclipped ends, start and end.
 ghost use mathlib.Core.Path.{_≡_};
-ghost use Rattle.answers.specs.Answers.{bare1, tellInt, tellPlace0, tellPlace1};
-ghost use Rattle.ends_rules.specs.Ends.{asRust, unclippedOf, unclippedFrom, alignmentStart, alignmentEnd};
-ghost use Rattle.border.specs.Border.{intOf, foundOf, flagged};
+ghost use Rattle.answers.specs.Answers.{tellPlace0, tellPlace1};
+ghost use Rattle.ends_rules.specs.Ends.{unclippedOf, tellUnclipped, unclippedFrom, alignmentStart, alignmentEnd};
+ghost use Rattle.border.specs.Border.{intOf, foundOf, positionOf, flagged};
 use answers::Place1;
 use answers::Pos0;
 use border::ToldFound;
 use border::ToldInt;
+use border::ToldPosition;
 
 fn told_place1(answer: Place1) -> ToldFound
     ensures { λ r. ⌜ r ≡ foundOf (tellPlace1 answer) ⌝ }
@@ -19,10 +20,10 @@ fn told_place1(answer: Place1) -> ToldFound
 }
 
 #[no_mangle]
-pub extern "C" fn cigar_unclipped_5prime_from_raw_bam(rec: &[u8]) -> ToldInt
-    ensures { λ r. ⌜ r ≡ intOf (tellInt (bare1 (asRust (unclippedOf (now (rec .entry)))))) ⌝ }
+pub extern "C" fn cigar_unclipped_5prime_from_raw_bam(rec: &[u8]) -> ToldPosition
+    ensures { λ r. ⌜ r ≡ positionOf (tellUnclipped (unclippedOf (now (rec .entry)))) ⌝ }
 {
-    border::told_int(answers::bare1(unclipped::unclipped_5prime_from_raw_bam(rec)))
+    border_reads::told_unclipped(unclipped::unclipped_5prime_from_raw_bam(rec))
 }
 
 #[no_mangle]

@@ -4,7 +4,7 @@ use mathlib.Core.Path.{_≡_, refl, sym, ap, _∙_}
 use mathlib.Core.Bool.{Bool, true, false}
 use mathlib.Core.List.{List, [], _∷_, _++_, append-assoc}
 use native.Mathlib.Omega.{arith}
-use lib.IntN.{pos}
+use lib.IntN.{ℤ, pos}
 use lib.ListN.{length, take, drop, length-append, length-take, length-drop}
 use lib.Seq.{take-at, length-take-le}
 use borrow.Author.Tests.{ltb-false, le-ltb, lt-ltb, eq-eqb, ne-eqb}
@@ -15,10 +15,11 @@ use Rattle.lists.proofs.ListLaws.{length-splice}
 use Rattle.sam.specs.Op.{refLen, queryLen}
 use Rattle.sam.specs.Record.{opsEnd, seqLenOf, isShort}
 use Rattle.oplist.specs.Ops.{recordOps}
-use Rattle.answers.specs.Answers.{numberOf, bare1, tellCount, tellInt, tellNat}
+use Rattle.answers.specs.Answers.{numberOf, tellCount, tellInt, tellNat}
 use Rattle.answers.specs.Settled.{Settled}
 use Rattle.answers.specs.declared.Refusal.{Refusal}
 use Rattle.answers.specs.declared.Refusal.the-variants.{ShortRecord, AreaOverrun, Overflow}
+use Rattle.answers.specs.declared.Pos1.{Pos1}
 use Rattle.answers.specs.declared.Int.{Int}
 use Rattle.answers.specs.declared.Int.the-variants as Int
 use Rattle.answers.specs.declared.Nat.{Nat}
@@ -28,12 +29,14 @@ use Rattle.answers.specs.declared.Count.the-variants as Count
 use Rattle.decimal.specs.Decimal.{decimal}
 use Rattle.print_rules.specs.Text.{textOf, printed}
 use Rattle.lengths.specs.Lengths.{asInt, checkedRefLength}
-use Rattle.ends_rules.specs.Ends.{asRust, unclippedOf}
+use Rattle.ends_rules.specs.Ends.{unclippedOf, tellUnclipped}
+use Rattle.ends_rules.specs.declared.Unclipped.{Unclipped}
+use Rattle.ends_rules.specs.declared.Unclipped.the-variants as Unclipped
 use Rattle.bin_rules.specs.Bin.{recordBin}
 use Rattle.put_text.specs.Puts.{Put, signedDecimal}
 use Rattle.put_text.proofs.PutLaws.{put-then, put-as, put-dropped}
-use Rattle.line_rules.specs.Line.{textRoom, textTold, refsTold, fiveTold, binTold, refusalOf, shown, orStar, lengthMark, tabbed, refusedFields, lineOf}
-use Rattle.line_rules.specs.Inner.{rowOf, figuresOf, rowFields}
+use Rattle.line_rules.specs.Line.{textRoom, textTold, refsTold, fiveTold, binTold, refusalOf, shown, orStar, orDot, lengthMark, tabbed, refusedFields, lineOf}
+use Rattle.line_rules.specs.Inner.{withBin, rowOf, figuresOf, rowFields}
 use Rattle.line_rules.specs.declared.LineRow.{LineRow}
 use Rattle.line_rules.specs.declared.Figures.the-variants as Figures
 use Rattle.answers.proofs.Numbers.{not-zero}
@@ -49,6 +52,23 @@ same-length n h = rw (ne-eqb n 0 (λ (e : n ≡ 0). omega arith), eq-eqb n n ref
 
 pub other-length : (q n : ℕ) → 1 ≤ n → (q ≡ n → ⊥) → lengthMark q n ≡ 48
 other-length q n h d = rw (ne-eqb n 0 (λ (e : n ≡ 0). omega arith), ne-eqb q n d) refl
+
+-- ---- the fifth field: "`.` for the latter two", unmapped and no ops
+
+pub position-shown : (p : Pos1) → orDot (Unclipped.At p) ≡ signedDecimal (p .0)
+position-shown p = refl
+
+pub unmapped-shown : orDot Unclipped.Unmapped ≡ 46 ∷ []
+unmapped-shown = refl
+
+pub no-ops-shown : orDot Unclipped.NoOps ≡ 46 ∷ []
+no-ops-shown = refl
+
+pub no-place : (u : Unclipped) → ((p : Pos1) → u ≡ Unclipped.At p → ⊥) → 46 ∷ [] ≡ orDot u
+no-place (Unclipped.At p) h = absurd (h p refl)
+no-place Unclipped.Unmapped h = refl
+no-place Unclipped.NoOps h = refl
+no-place (Unclipped.Refused r) h = refl
 
 -- ---- the text, where a part of memory was printed into
 
@@ -154,35 +174,61 @@ module _ (b : List ℕ) (h : 32 ≤ length b) where
   unfolding checkedRefLength asInt
   refs-are k o = simp (le-ltb _ _ h, le-ltb (length b) (opsEnd b) k, le-ltb 2147483647 (sumOf refLen (recordOps b)) o)
 
-pub figures-are : (b : List ℕ) (i : Int) (q : ℕ) (u : Int) (k : Nat) (l : ℕ) → checkedRefLength b ≡ i → sumOf queryLen (recordOps b) ≡ q → bare1 (asRust (unclippedOf b)) ≡ u → recordBin b ≡ k → seqLenOf b ≡ l
+pub figures-are : (b : List ℕ) (i : Int) (q : ℕ) (u : Unclipped) (k : Nat) (l : ℕ) → checkedRefLength b ≡ i → sumOf queryLen (recordOps b) ≡ q → unclippedOf b ≡ u → recordBin b ≡ k → seqLenOf b ≡ l
     → figuresOf b ≡ rowOf i q u k (lengthMark q l)
 unfolding figuresOf
 figures-are b i q u k l e f g h m = cc
 
-row-refused : (i : Int) (q : ℕ) (u : Int) (k : Nat) (s : ℕ) (w : Refusal) → rowOf i q u k s ≡ Figures.Refused w
-    → firstGiven 0 (tellInt i .number) (tellInt u .number) (tellNat k .number) ≡ numberOf w
+-- past the position only the bin can refuse
+module _ (z : ℤ) (q : ℕ) (u : Unclipped) (s : ℕ) where
+  bin-refused : (k : Nat) (w : Refusal) → withBin z q u k s ≡ Figures.Refused w → tellNat k .number ≡ numberOf w
+  bin-refused (Nat.Refused r) w e = let g : r ≡ w = cc in ap numberOf g
+  bin-refused (Nat.Number m) w e = never (cc)
+
+  bin-given : (k : Nat) (w : LineRow) → withBin z q u k s ≡ Figures.Row w → tellNat k .number ≡ 0
+  bin-given (Nat.Refused r) w e = never (cc)
+  bin-given (Nat.Number m) w e = refl
+
+  bin-shown : (k : Nat) (w : LineRow) → withBin z q u k s ≡ Figures.Row w → signedDecimal z ∷ decimal q ∷ orDot u ∷ shown (tellNat k) ∷ (s ∷ []) ∷ [] ≡ rowFields w
+  unfolding signedDecimal
+  bin-shown (Nat.Refused r) w e = never (cc)
+  bin-shown (Nat.Number m) w e =
+      let g : _≡_ {A = LineRow} (record { refs = z; query = q; five = u; bin = m; mark = s }) w = cc in ap rowFields g
+
+row-refused : (i : Int) (q : ℕ) (u : Unclipped) (k : Nat) (s : ℕ) (w : Refusal) → rowOf i q u k s ≡ Figures.Refused w
+    → firstGiven 0 (tellInt i .number) (tellUnclipped u .number) (tellNat k .number) ≡ numberOf w
 unfolding rowOf
 row-refused (Int.Refused r) q u k s w e = let g : r ≡ w = cc in rw (not-zero r) (ap numberOf g)
-row-refused (Int.Number z) q (Int.Refused r) k s w e = let g : r ≡ w = cc in rw (not-zero r) (ap numberOf g)
-row-refused (Int.Number z) q (Int.Number p) (Nat.Refused r) s w e = let g : r ≡ w = cc in ap numberOf g
-row-refused (Int.Number z) q (Int.Number p) (Nat.Number m) s w e = never (cc)
+row-refused (Int.Number z) q (Unclipped.Refused r) k s w e = let g : r ≡ w = cc in rw (not-zero r) (ap numberOf g)
+row-refused (Int.Number z) q (Unclipped.At p) k s w e = bin-refused z q (Unclipped.At p) s k w e
+row-refused (Int.Number z) q Unclipped.Unmapped k s w e = bin-refused z q Unclipped.Unmapped s k w e
+row-refused (Int.Number z) q Unclipped.NoOps k s w e = bin-refused z q Unclipped.NoOps s k w e
 
-row-given : (i : Int) (q : ℕ) (u : Int) (k : Nat) (s : ℕ) (w : LineRow) → rowOf i q u k s ≡ Figures.Row w
-    → firstGiven 0 (tellInt i .number) (tellInt u .number) (tellNat k .number) ≡ 0
+row-given : (i : Int) (q : ℕ) (u : Unclipped) (k : Nat) (s : ℕ) (w : LineRow) → rowOf i q u k s ≡ Figures.Row w
+    → firstGiven 0 (tellInt i .number) (tellUnclipped u .number) (tellNat k .number) ≡ 0
 unfolding rowOf
 row-given (Int.Refused r) q u k s w e = never (cc)
-row-given (Int.Number z) q (Int.Refused r) k s w e = never (cc)
-row-given (Int.Number z) q (Int.Number p) (Nat.Refused r) s w e = never (cc)
-row-given (Int.Number z) q (Int.Number p) (Nat.Number m) s w e = refl
+row-given (Int.Number z) q (Unclipped.Refused r) k s w e = never (cc)
+row-given (Int.Number z) q (Unclipped.At p) k s w e = bin-given z q (Unclipped.At p) s k w e
+row-given (Int.Number z) q Unclipped.Unmapped k s w e = bin-given z q Unclipped.Unmapped s k w e
+row-given (Int.Number z) q Unclipped.NoOps k s w e = bin-given z q Unclipped.NoOps s k w e
 
-row-shown : (i : Int) (q : ℕ) (u : Int) (k : Nat) (s : ℕ) (w : LineRow) → rowOf i q u k s ≡ Figures.Row w
-    → shown (tellInt i) ∷ decimal q ∷ shown (tellInt u) ∷ shown (tellNat k) ∷ (s ∷ []) ∷ [] ≡ rowFields w
-unfolding rowOf signedDecimal
+row-shown : (i : Int) (q : ℕ) (u : Unclipped) (k : Nat) (s : ℕ) (w : LineRow) → rowOf i q u k s ≡ Figures.Row w
+    → shown (tellInt i) ∷ decimal q ∷ orDot u ∷ shown (tellNat k) ∷ (s ∷ []) ∷ [] ≡ rowFields w
+unfolding rowOf
 row-shown (Int.Refused r) q u k s w e = never (cc)
-row-shown (Int.Number z) q (Int.Refused r) k s w e = never (cc)
-row-shown (Int.Number z) q (Int.Number p) (Nat.Refused r) s w e = never (cc)
-row-shown (Int.Number z) q (Int.Number p) (Nat.Number m) s w e =
-    let g : _≡_ {A = LineRow} (record { refs = z; query = q; five = p; bin = m; mark = s }) w = cc in ap rowFields g
+row-shown (Int.Number z) q (Unclipped.Refused r) k s w e = never (cc)
+row-shown (Int.Number z) q (Unclipped.At p) k s w e = bin-shown z q (Unclipped.At p) s k w e
+row-shown (Int.Number z) q Unclipped.Unmapped k s w e = bin-shown z q Unclipped.Unmapped s k w e
+row-shown (Int.Number z) q Unclipped.NoOps k s w e = bin-shown z q Unclipped.NoOps s k w e
+
+-- past the test for a refusal
+pub row-past : (z : ℤ) (q : ℕ) (u : Unclipped) (k : Nat) (s : ℕ) → ((r : Refusal) → u ≡ Unclipped.Refused r → ⊥) → withBin z q u k s ≡ rowOf (Int.Number z) q u k s
+unfolding rowOf
+row-past z q (Unclipped.At p) k s h = refl
+row-past z q Unclipped.Unmapped k s h = refl
+row-past z q Unclipped.NoOps k s h = refl
+row-past z q (Unclipped.Refused r) k s h = absurd (h r refl)
 
 module _ (n : ℕ) (b : List ℕ) (h : 32 ≤ length b) (k : ℕ) (e : printed b textRoom .answer ≡ Count.Number k) where
   given : refusalOf b ≡ firstGiven 0 (refsTold b .number) (fiveTold b .number) (binTold b .number)
@@ -191,11 +237,11 @@ module _ (n : ℕ) (b : List ℕ) (h : 32 ≤ length b) (k : ℕ) (e : printed b
 
   pub line-no-row : (w : Refusal) → figuresOf b ≡ Figures.Refused w → lineOf n b ≡ decimal n ++ tabbed (refusedFields (numberOf w))
   unfolding figuresOf
-  line-no-row w f = refused-line n b w (given ∙ row-refused (checkedRefLength b) _ (bare1 (asRust (unclippedOf b))) (recordBin b) _ w f)
+  line-no-row w f = refused-line n b w (given ∙ row-refused (checkedRefLength b) _ (unclippedOf b) (recordBin b) _ w f)
 
   pub line-row : (w : LineRow) → figuresOf b ≡ Figures.Row w → lineOf n b ≡ decimal n ++ ((9 ∷ orStar (textOf (recordOps b))) ++ tabbed (rowFields w))
   unfolding figuresOf lineOf tabbed signedDecimal
   line-row w f =
-      let z : refusalOf b ≡ 0 = given ∙ row-given (checkedRefLength b) _ (bare1 (asRust (unclippedOf b))) (recordBin b) _ w f in
+      let z : refusalOf b ≡ 0 = given ∙ row-given (checkedRefLength b) _ (unclippedOf b) (recordBin b) _ w f in
       rw (z, query-is b h)
-      (ap (λ (fs : List (List ℕ)). decimal n ++ tabbed (orStar (textOf (recordOps b)) ∷ fs)) (row-shown (checkedRefLength b) _ (bare1 (asRust (unclippedOf b))) (recordBin b) _ w f))
+      (ap (λ (fs : List (List ℕ)). decimal n ++ tabbed (orStar (textOf (recordOps b)) ∷ fs)) (row-shown (checkedRefLength b) _ (unclippedOf b) (recordBin b) _ w f))

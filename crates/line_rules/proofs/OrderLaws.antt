@@ -18,7 +18,7 @@ use Rattle.signed.specs.declared.Sum.the-variants as Sum
 use Rattle.sam.specs.Op.{refLen, queryLen}
 use Rattle.sam.specs.Record.{opsEnd, posOf, flagsOf, isUnmapped, isReverse, isShort}
 use Rattle.oplist.specs.Ops.{recordOps}
-use Rattle.answers.specs.Answers.{bare1, tellCount, tellInt, tellNat}
+use Rattle.answers.specs.Answers.{tellCount, tellInt, tellNat}
 use Rattle.answers.specs.Settled.{Outcome, keeps}
 use Rattle.answers.specs.declared.Refusal.{Refusal}
 use Rattle.answers.specs.declared.Refusal.the-variants.{ShortRecord, AreaOverrun, Overflow, NoRoom, BadCode}
@@ -30,7 +30,7 @@ use Rattle.answers.specs.declared.Count.the-variants as Count
 use Rattle.print_rules.specs.Text.{textOf, anyBad, printed}
 use Rattle.lengths.specs.Lengths.{asInt, checkedRefLength, recordQueryLength}
 use Rattle.ends_rules.specs.Sums.{_⊕_}
-use Rattle.ends_rules.specs.Ends.{plusOne, fivePrime, noOps, asUnclipped, unclippedAt, unclippedOf, asRust}
+use Rattle.ends_rules.specs.Ends.{plusOne, fivePrime, noOps, asUnclipped, unclippedAt, unclippedOf, tellUnclipped}
 use Rattle.ends_rules.specs.declared.Unclipped.{Unclipped}
 use Rattle.ends_rules.specs.declared.Unclipped.the-variants as Unclipped
 use Rattle.bin_rules.specs.Bin.{binTo, reg2bin, binUpTo, spanOf, recordBin, binFrom}
@@ -152,12 +152,12 @@ module _ (b : List ℕ) (h : 32 ≤ length b) where
   unfolding recordQueryLength
   query-is = rw (le-ltb (length b) 32 h)
 
-five-sum : (s : Sum) → Among (tellInt (bare1 (asRust (asUnclipped s))) .number) (0 ∷ 4 ∷ [])
+five-sum : (s : Sum) → Among (tellUnclipped (asUnclipped s) .number) (0 ∷ 4 ∷ [])
 unfolding holds
 five-sum (Sum.Number z) = refl
 five-sum Sum.Over = refl
 
-five-at : (s : Sum) (r : Bool) (xs : List ℕ) → Among (tellInt (bare1 (asRust (unclippedAt s r xs))) .number) (0 ∷ 4 ∷ [])
+five-at : (s : Sum) (r : Bool) (xs : List ℕ) → Among (tellUnclipped (unclippedAt s r xs) .number) (0 ∷ 4 ∷ [])
 unfolding holds
 five-at (Sum.Number z) r xs = five-sum (fivePrime r z xs)
 five-at Sum.Over r xs = refl
@@ -166,7 +166,7 @@ five-among : (b : List ℕ) → 32 ≤ length b → Among (fiveTold b .number) (
 unfolding holds unclippedOf plusOne
 five-among b h = rw (le-ltb (length b) 32 h) (go (isUnmapped (flagsOf b)) (noOps b))
   where
-    go : (t u : Bool) → Among (tellInt (bare1 (asRust (cond t Unclipped.Unmapped (cond u Unclipped.NoOps (unclippedAt (plusOne (record { 0 = posOf b })) (isReverse (flagsOf b)) (recordOps b)))))) .number) (0 ∷ 4 ∷ [])
+    go : (t u : Bool) → Among (tellUnclipped (cond t Unclipped.Unmapped (cond u Unclipped.NoOps (unclippedAt (plusOne (record { 0 = posOf b })) (isReverse (flagsOf b)) (recordOps b)))) .number) (0 ∷ 4 ∷ [])
     go true u = refl
     go false true = refl
     go false false = five-at (Sum.Number (posOf b) ⊕ Sum.Number (pos 1)) (isReverse (flagsOf b)) (recordOps b)

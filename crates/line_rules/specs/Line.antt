@@ -1,6 +1,6 @@
 -- Document 01, "Program": "Output lines are tab-separated: record number from 1; text, or `*` if empty; checked reference length; query length; unclipped 5' position; bin;
 -- 1 if query length equals l_seq, else 0. A refused record prints its number, `refused`, the refusal; the first of 1, 7, 6, 2, 4. Text room is 65,536 bytes."
--- Document 02, item 2: "Document 01's field becomes `-` where l_seq is 0. Its other cases stay."
+-- Document 02, item 2: "Document 01's field becomes `-` where l_seq is 0. Its other cases stay." Item 3: "`.` for the latter two", unmapped and no ops.
 use Prim.Native.Nat.{ℕ}
 use mathlib.Core.Bool.{cond}
 use mathlib.Core.List.{List, [], _∷_, _++_}
@@ -11,11 +11,13 @@ use Rattle.lists.specs.Runs.{holds}
 use Rattle.signed.specs.Whole.{natural}
 use Rattle.sam.specs.Record.{seqLenOf}
 use Rattle.oplist.specs.Ops.{recordOps}
-use Rattle.answers.specs.Answers.{Told, bare1, tellInt, tellCount, tellNat}
+use Rattle.answers.specs.Answers.{Told, tellInt, tellCount, tellNat}
 use Rattle.decimal.specs.Decimal.{decimal}
 use Rattle.print_rules.specs.Text.{textOf, printed}
 use Rattle.lengths.specs.Lengths.{checkedRefLength, recordQueryLength}
-use Rattle.ends_rules.specs.Ends.{asRust, unclippedOf}
+use Rattle.ends_rules.specs.Ends.{unclippedOf, tellUnclipped}
+use Rattle.ends_rules.specs.declared.Unclipped.{Unclipped}
+use Rattle.ends_rules.specs.declared.Unclipped.the-variants as Unclipped
 use Rattle.bin_rules.specs.Bin.{recordBin}
 use Rattle.put_text.specs.Puts.{signedDecimal}
 
@@ -35,7 +37,7 @@ abbrev pub queryTold : List ℕ → Told
 queryTold b = tellCount (recordQueryLength b)
 
 abbrev pub fiveTold : List ℕ → Told
-fiveTold b = tellInt (bare1 (asRust (unclippedOf b)))
+fiveTold b = tellUnclipped (unclippedOf b)
 
 abbrev pub binTold : List ℕ → Told
 binTold b = tellNat (recordBin b)
@@ -69,6 +71,13 @@ abbrev pub orStar : List ℕ → List ℕ
 orStar [] = 42 ∷ []
 orStar (x ∷ xs) = x ∷ xs
 
+-- the position, or `.` where there is none
+abbrev pub orDot : Unclipped → List ℕ
+orDot (Unclipped.At p) = signedDecimal (p .0)
+orDot Unclipped.Unmapped = 46 ∷ []
+orDot Unclipped.NoOps = 46 ∷ []
+orDot (Unclipped.Refused r) = 46 ∷ []
+
 -- `-` where no sequence is stored; else "1 if query length equals l_seq, else 0"
 abbrev pub lengthMark : ℕ → ℕ → ℕ
 lengthMark query seq = cond (eqb seq 0) 45 (cond (eqb query seq) 49 48)
@@ -83,7 +92,7 @@ recordFields b =
     orStar (textOf (recordOps b))
     ∷ shown (refsTold b)
     ∷ shown (queryTold b)
-    ∷ shown (fiveTold b)
+    ∷ orDot (unclippedOf b)
     ∷ shown (binTold b)
     ∷ (lengthMark (natural (valueOf (queryTold b .values))) (seqLenOf b) ∷ [])
     ∷ []

@@ -21,11 +21,12 @@ use Rattle.lengths.specs.Lengths.{checkedRefLength}
 use Rattle.ends_rules.specs.Sums.{both, _⊕_}
 use Rattle.ends_rules.specs.Ends.{toPlace1, plusOne, alignmentStart, endAt, alignmentEnd}
 use Rattle.answers.specs.Answers.{Told}
-use Rattle.border.specs.Border.{intOf, countOf, flagOf, foundOf, twoOf, lengthsOf}
+use Rattle.border.specs.Border.{intOf, countOf, flagOf, foundOf, positionOf, twoOf, lengthsOf}
 use Rattle.border.specs.declared.ToldInt.{ToldInt}
 use Rattle.border.specs.declared.ToldCount.{ToldCount}
 use Rattle.border.specs.declared.ToldFlag.{ToldFlag}
 use Rattle.border.specs.declared.ToldFound.{ToldFound}
+use Rattle.border.specs.declared.ToldPosition.{ToldPosition}
 use Rattle.border.specs.declared.ToldTwo.{ToldTwo}
 use Rattle.border.specs.declared.ToldLengths.{ToldLengths}
 use Rattle.promises.specs.Table.{Row, Gives, Crosses}
@@ -42,6 +43,9 @@ module _ {t : Told} {rows : List Row} (g : Gives t rows) where
 
   pub found-crosses : Crosses (λ (b : ToldFound). b .refusal) (λ (n : ℕ). record { refusal = n; found = false; value = 0 }) (foundOf t) rows
   found-crosses = record { number-is = g .number; alone = λ h. rw (g .alone h, g .number) }
+
+  pub position-crosses : Crosses (λ (b : ToldPosition). b .refusal) (λ (n : ℕ). record { refusal = n; which = 0; value = pos 0 }) (positionOf t) rows
+  position-crosses = record { number-is = g .number; alone = λ h. rw (g .alone h, g .number) }
 
   pub two-crosses : Crosses (λ (b : ToldTwo). b .refusal) (λ (n : ℕ). record { refusal = n; first = 0; second = 0 }) (twoOf t) rows
   two-crosses = record { number-is = g .number; alone = λ h. rw (g .alone h, g .number) }

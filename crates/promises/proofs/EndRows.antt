@@ -15,7 +15,7 @@ use Rattle.sam.specs.Op.{refLen}
 use Rattle.sam.specs.Record.{posOf, flagsOf, isUnmapped, isReverse, isShort}
 use Rattle.clip_runs.specs.Clips.{leadingClips, clipsAfterReference}
 use Rattle.oplist.specs.Ops.{mostOps, recordOps}
-use Rattle.answers.specs.Answers.{Told, bare1, tellInt, tellPlace0, tellPlace1}
+use Rattle.answers.specs.Answers.{Told, tellPlace0, tellPlace1}
 use Rattle.answers.specs.declared.Pos0.{Pos0}
 use Rattle.answers.specs.declared.Int.the-variants as Int
 use Rattle.answers.specs.declared.Place0.the-variants as Place0
@@ -23,8 +23,7 @@ use Rattle.answers.specs.declared.Place1.the-variants as Place1
 use Rattle.answers.specs.declared.Refusal.the-variants.{ShortRecord, TooManyOps, BadStart}
 use Rattle.ends_rules.specs.Sums.{both, _⊕_, _⊖_}
 use Rattle.ends_rules.specs.Tails.{greatestRun}
-use Rattle.ends_rules.specs.Ends.{provided, trailingSum, unclippedStart, unclippedEnd, fivePrime, toPlace0, toPlace1, plusOne, noOps, asUnclipped, unclippedAt, unclippedOf, asRust, unclippedFrom, alignmentStart, endAt, alignmentEnd}
-use Rattle.ends_rules.specs.declared.Unclipped.{Unclipped}
+use Rattle.ends_rules.specs.Ends.{provided, trailingSum, unclippedStart, unclippedEnd, fivePrime, toPlace0, toPlace1, plusOne, noOps, asUnclipped, unclippedAt, unclippedOf, tellUnclipped, unclippedFrom, alignmentStart, endAt, alignmentEnd}
 use Rattle.ends_rules.specs.declared.Unclipped.the-variants as Unclipped
 use Rattle.lookup_rules.specs.Lookup.{Answer, Nothing, Refused, look, readOver, lookup, counted, looked, tellFound}
 use Rattle.lookup_rules.specs.Examined.{examined}
@@ -68,18 +67,15 @@ module _ {A : Type 0} (tell : A → Told) (to : Sum → A) (stops : tell (to Sum
       last : ℤ
       last = at +ℤ refs +ℤ clips -ℤ pos 1
 
-pub unclipped-5prime-from-raw-bam : (b : List ℕ) → Gives (tellInt (bare1 (asRust (unclippedOf b)))) (unclippedRows b)
+pub unclipped-5prime-from-raw-bam : (b : List ℕ) → Gives (tellUnclipped (unclippedOf b)) (unclippedRows b)
 unfolding unclippedOf plusOne both
 unclipped-5prime-from-raw-bam b =
-    row tell (isShort b) (Unclipped.Refused ShortRecord) _ 1 refl
-    (row-unless tell (isUnmapped (flagsOf b)) Unclipped.Unmapped _ refl
-    (row-unless tell (noOps b) Unclipped.NoOps _ refl
-    (row-sum tell (λ s. unclippedAt s reverse xs) at (endSums reverse at xs) refl
-    (end-sums tell asUnclipped refl (λ z. refl) reverse at xs))))
+    row tellUnclipped (isShort b) (Unclipped.Refused ShortRecord) _ 1 refl
+    (row-unless tellUnclipped (isUnmapped (flagsOf b)) Unclipped.Unmapped _ refl
+    (row-unless tellUnclipped (noOps b) Unclipped.NoOps _ refl
+    (row-sum tellUnclipped (λ s. unclippedAt s reverse xs) at (endSums reverse at xs) refl
+    (end-sums tellUnclipped asUnclipped refl (λ z. refl) reverse at xs))))
   where
-    tell : Unclipped → Told
-    tell x = tellInt (bare1 (asRust x))
-
     at : ℤ
     at = posOf b +ℤ pos 1
 

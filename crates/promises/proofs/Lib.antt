@@ -12,4 +12,5 @@ pub mod RoundTrip
 pub mod SamLaws
 pub mod ReadLaws
 pub mod AsBefore
+pub mod ThreeAnswers
 pub mod Marked

@@ -4,13 +4,13 @@ ghost use mathlib.Core.List.{[], _∷_};
 ghost use Prim.Native.Nat.{_+_, _≤_};
 ghost use lib.ListN.{length};
 ghost use Rattle.answers.specs.Answers.{numberOf};
-ghost use Rattle.line_rules.specs.Line.{tabbed, refusedFields, lineOf, lengthMark};
+ghost use Rattle.line_rules.specs.Line.{orDot, tabbed, refusedFields, lineOf, lengthMark};
 ghost use Rattle.line_rules.specs.Inner.{TextPut, rowFields, figuresOf};
 ghost use Rattle.put_text.specs.Puts.{Put};
 use answers::Count;
-use answers::Int;
 use answers::Nat;
 use answers::Refusal;
+use ends_rules::Unclipped;
 use line_rules::Figures;
 use line_rules::LineRow;
 use line_rules::Text;
@@ -46,18 +46,19 @@ fn row_of(rec: &[u8]) -> Figures
     }
     let query = total.query;
     let mark = length_mark(query, little_endian::u32_at(rec, 16));
-    match answers::bare1(unclipped::unclipped_5prime_from_raw_bam(rec)) {
-        Int::Refused(why) => Figures::Refused(why),
-        Int::Number(five) => match bin::bin_from_raw_bam(rec) {
-            Nat::Refused(why) => Figures::Refused(why),
-            Nat::Number(bin) => Figures::Row(LineRow {
-                refs: total.refs as i32,
-                query: query,
-                five: five,
-                bin: bin,
-                mark: mark,
-            }),
-        },
+    let five = unclipped::unclipped_5prime_from_raw_bam(rec);
+    if let Unclipped::Refused(why) = five {
+        return Figures::Refused(why);
+    }
+    match bin::bin_from_raw_bam(rec) {
+        Nat::Refused(why) => Figures::Refused(why),
+        Nat::Number(bin) => Figures::Row(LineRow {
+            refs: total.refs as i32,
+            query: query,
+            five: five,
+            bin: bin,
+            mark: mark,
+        }),
     }
 }
 
@@ -79,6 +80,18 @@ fn put_text(rec: &[u8], out: &mut [u8], at: usize) -> Text
     }
 }
 
+// A tab, and the position, or `.` where there is none.
+fn put_five(five: Unclipped, out: &mut [u8], at: usize) -> usize
+    requires { ⌜ at + 22 ≤ length (now out) ⌝ }
+    ensures { λ r. ⌜ Put (now (out .entry)) at (9 ∷ orDot five) r (now (out .exit)) ⌝ }
+    ensures { λ r. ⌜ r ≤ at + 22 ⌝ }
+{
+    if let Unclipped::At(p) = five {
+        return put_text::put_signed(p.0, out, at);
+    }
+    put_text::put_bytes(b"\t.", out, at)
+}
+
 // The last field, of one byte, and the end of the line.
 fn put_last(mark: u8, out: &mut [u8], at: usize) -> usize
     requires { ⌜ at + 3 ≤ length (now out) ⌝ }
@@ -95,9 +108,10 @@ fn put_row(row: LineRow, out: &mut [u8], at: usize) -> usize
     ensures { λ r. ⌜ Put (now (out .entry)) at (tabbed (rowFields row)) r (now (out .exit)) ⌝ }
     ensures { λ r. ⌜ r ≤ at + 108 ⌝ }
 {
+    let place = row.five;
     let query = put_text::put_signed(row.refs, out, at);
     let five = put_text::put_field(row.query, out, query);
-    let bin = put_text::put_signed(row.five, out, five);
+    let bin = put_five(place, out, five);
     let mark = put_text::put_field(row.bin as u64, out, bin);
     put_last(row.mark, out, mark)
 }

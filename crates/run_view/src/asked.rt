@@ -5,6 +5,7 @@ use answers::Nat;
 use answers::Place0;
 use answers::Place1;
 use clip_rules::Clipped;
+use ends_rules::Unclipped;
 use fields::Part;
 use lengths::Lengths;
 use view::RawRecordView;
@@ -85,7 +86,7 @@ pub fn alignment_end_1based(bam: &[u8]) -> Place1 {
     RawRecordView::new(bam).alignment_end_1based()
 }
 
-pub fn unclipped_5prime_1based(bam: &[u8]) -> Place1 {
+pub fn unclipped_5prime_1based(bam: &[u8]) -> Unclipped {
     RawRecordView::new(bam).unclipped_5prime_1based()
 }
 

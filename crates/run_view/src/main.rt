@@ -69,7 +69,7 @@ fn sums(bam: &[u8]) {
     shown::text(b", end ");
     shown::place1(asked::alignment_end_1based(bam));
     shown::text(b", unclipped ");
-    shown::place1(asked::unclipped_5prime_1based(bam));
+    shown::unclipped(asked::unclipped_5prime_1based(bam));
     shown::end();
 }
 

@@ -6,6 +6,7 @@ use answers::Place0;
 use answers::Place1;
 use answers::Refusal;
 use clip_rules::Clipped;
+use ends_rules::Unclipped;
 use lengths::Clips;
 use lengths::Lengths;
 
@@ -89,6 +90,15 @@ pub fn place1(answer: Place1) {
         Place1::At(at) => integer(at.0),
         Place1::Nothing => text(b"none"),
         Place1::Refused(why) => refused(why),
+    }
+}
+
+pub fn unclipped(answer: Unclipped) {
+    match answer {
+        Unclipped::At(at) => integer(at.0),
+        Unclipped::Unmapped => text(b"unmapped"),
+        Unclipped::NoOps => text(b"no ops"),
+        Unclipped::Refused(why) => refused(why),
     }
 }
 

@@ -1,8 +1,7 @@
 // Document 01, module 7: unclipped ends of a record. Positions are counted from 0 in records, and from 1 in answers.
 ghost use mathlib.Core.Path.{_≡_};
-ghost use Rattle.ends_rules.specs.Ends.{toPlace0, asUnclipped, unclippedOf, asRust, unclippedFrom};
+ghost use Rattle.ends_rules.specs.Ends.{toPlace0, asUnclipped, unclippedOf, unclippedFrom};
 use answers::Place0;
-use answers::Place1;
 use answers::Pos0;
 use answers::Pos1;
 use answers::Refusal;
@@ -28,8 +27,8 @@ fn as_unclipped(s: Sum) -> Unclipped
     }
 }
 
-// A record's unclipped 5' position in three cases. Refusals 1 and 4.
-fn unclipped_5prime(bam: &[u8]) -> Unclipped
+// A record's unclipped 5' position, or that it is unmapped, or that it has no ops or they overrun it. Refusals 1 and 4.
+pub fn unclipped_5prime_from_raw_bam(bam: &[u8]) -> Unclipped
     ensures { λ r. ⌜ r ≡ unclippedOf (now (bam .entry)) ⌝ }
 {
     if bam.len() < 32 {
@@ -52,19 +51,7 @@ fn unclipped_5prime(bam: &[u8]) -> Unclipped
     as_unclipped(end_sums::start_from(at, clip_runs::leading_clips(&[], bam, list, true)))
 }
 
-// A record's unclipped 5' position: 0 where it is unmapped, 2^31 - 1 where it has no ops or they overrun it. Refusals 1 and 4.
-pub fn unclipped_5prime_from_raw_bam(bam: &[u8]) -> Place1
-    ensures { λ r. ⌜ r ≡ asRust (unclippedOf (now (bam .entry))) ⌝ }
-{
-    match unclipped_5prime(bam) {
-        Unclipped::At(p) => Place1::At(p),
-        Unclipped::Unmapped => Place1::At(Pos1(0)),
-        Unclipped::NoOps => Place1::At(Pos1(2147483647)),
-        Unclipped::Refused(why) => Place1::Refused(why),
-    }
-}
-
-// The same from a given position and strand; the given position where the record has no ops or they overrun it. Refusals 1 and 4.
+// The position from a given one and strand; the given position where the record has no ops or they overrun it. Refusals 1 and 4.
 pub fn unclipped_5prime_raw(bam: &[u8], pos: Pos0, reverse: bool) -> Place0
     ensures { λ r. ⌜ r ≡ unclippedFrom (now (bam .entry)) pos reverse ⌝ }
 {

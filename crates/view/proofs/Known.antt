@@ -25,6 +25,8 @@ use Rattle.answers.proofs.Place1 as Place1
 use Rattle.answers.proofs.Place1.Laws as Place1′
 use Rattle.lengths.proofs.Lengths as Lengths
 use Rattle.lengths.proofs.Lengths.Laws as Lengths′
+use Rattle.ends_rules.proofs.Unclipped as Unclipped
+use Rattle.ends_rules.proofs.Unclipped.Laws as Unclipped′
 use Rattle.fields.proofs.ref_id as ref-id
 use Rattle.fields.proofs.ref_id.Met as ref-id-met
 use Rattle.fields.proofs.ref_id.Symbol as ref-id-symbol
@@ -107,7 +109,7 @@ module _ {M : Type 1} (𝓤 : URA M) (H : Heap 𝓤) (𝓜 : Model 𝓤 H) (𝓖
       record { name = cigar-lengths-symbol.name; routine = cigar-lengths-symbol.routine; answer = enum 𝓤 H 𝓜 𝓖 Lengths.the-type Lengths′.the-laws tt; promise = λ κs a. cigar-lengths.spec 𝓤 H (𝓖 .A) (𝓜 .mem) (𝓡 .run) κs a .ensures tt; met = cigar-lengths-met.met 𝓤 H 𝓜 𝓖 𝓡 } ∷
       record { name = alignment-start-from-raw-symbol.name; routine = alignment-start-from-raw-symbol.routine; answer = enum 𝓤 H 𝓜 𝓖 Place1.the-type Place1′.the-laws tt; promise = λ κs a. alignment-start-from-raw.spec 𝓤 H (𝓖 .A) (𝓜 .mem) (𝓡 .run) κs a .ensures tt; met = alignment-start-from-raw-met.met 𝓤 H 𝓜 𝓖 𝓡 } ∷
       record { name = alignment-end-from-raw-symbol.name; routine = alignment-end-from-raw-symbol.routine; answer = enum 𝓤 H 𝓜 𝓖 Place1.the-type Place1′.the-laws tt; promise = λ κs a. alignment-end-from-raw.spec 𝓤 H (𝓖 .A) (𝓜 .mem) (𝓡 .run) κs a .ensures tt; met = alignment-end-from-raw-met.met 𝓤 H 𝓜 𝓖 𝓡 } ∷
-      record { name = unclipped-5prime-from-raw-bam-symbol.name; routine = unclipped-5prime-from-raw-bam-symbol.routine; answer = enum 𝓤 H 𝓜 𝓖 Place1.the-type Place1′.the-laws tt; promise = λ κs a. unclipped-5prime-from-raw-bam.spec 𝓤 H (𝓖 .A) (𝓜 .mem) (𝓡 .run) κs a .ensures tt; met = unclipped-5prime-from-raw-bam-met.met 𝓤 H 𝓜 𝓖 𝓡 } ∷
+      record { name = unclipped-5prime-from-raw-bam-symbol.name; routine = unclipped-5prime-from-raw-bam-symbol.routine; answer = enum 𝓤 H 𝓜 𝓖 Unclipped.the-type Unclipped′.the-laws tt; promise = λ κs a. unclipped-5prime-from-raw-bam.spec 𝓤 H (𝓖 .A) (𝓜 .mem) (𝓡 .run) κs a .ensures tt; met = unclipped-5prime-from-raw-bam-met.met 𝓤 H 𝓜 𝓖 𝓡 } ∷
       []
 
   abbrev chosen : Bool → Callee → Callee → Callee

@@ -4,7 +4,7 @@ ghost use Rattle.answers.specs.Settled.{Settled};
 ghost use Rattle.sam.specs.Record.{refIdOf, posOf, nameLenOf, storedBinOf, opCountOf, flagsOf, seqLenOf, mateRefIdOf, matePosOf, templateLenOf};
 ghost use Rattle.fields.specs.Fields.{intField, natField, posField, partRefusal, cigarPart};
 ghost use Rattle.lengths.specs.Lengths.{checkedRefLength, recordQueryLength, recordLengths};
-ghost use Rattle.ends_rules.specs.Ends.{unclippedOf, asRust, alignmentStart, alignmentEnd};
+ghost use Rattle.ends_rules.specs.Ends.{unclippedOf, alignmentStart, alignmentEnd};
 ghost use Rattle.print_rules.specs.Text.{printed};
 ghost use Rattle.clip_rules.specs.Answer.{clippedRecord};
 use answers::Count;
@@ -13,6 +13,7 @@ use answers::Nat;
 use answers::Place0;
 use answers::Place1;
 use clip_rules::Clipped;
+use ends_rules::Unclipped;
 use fields::Part;
 use lengths::Lengths;
 
@@ -128,8 +129,8 @@ impl<'a> RawRecordView<'a> {
         ends::alignment_end_from_raw(self.0)
     }
 
-    pub fn unclipped_5prime_1based(&self) -> Place1
-        ensures { λ r. ⌜ r ≡ asRust (unclippedOf (now (now (self .entry) .0))) ⌝ }
+    pub fn unclipped_5prime_1based(&self) -> Unclipped
+        ensures { λ r. ⌜ r ≡ unclippedOf (now (now (self .entry) .0)) ⌝ }
     {
         unclipped::unclipped_5prime_from_raw_bam(self.0)
     }

@@ -1,12 +1,15 @@
 -- What each call ensures; the first that refuses decides.
 use Prim.Native.Nat.{ℕ, _≤_}
 use mathlib.Core.Path.{_≡_, refl, sym, ap, _∙_}
+use mathlib.Core.List.{[], _∷_}
+use mathlib.Core.Logic.{inl, inr}
 use native.Mathlib.Omega.{arith}
 use lib.IntN.{pos}
 use lib.ListN.{length}
 use mir.Facts.{toZ-pos}
 use mir.Syntax.{w32}
-use mir.Val.{toZ, ofZ}
+use mir.Val.{toZ}
+use types.Run.{OneOf}
 use borrow.Author.Tests.{not-true, not-false}
 use Rattle.lists.specs.Lists.{sumOf}
 use Rattle.sam.specs.Op.{refLen, queryLen}
@@ -14,11 +17,11 @@ use Rattle.sam.specs.Record.{opsEnd}
 use Rattle.oplist.specs.Ops.{recordOps}
 use Rattle.oplist.proofs.OpsLaws.{lies, overruns}
 use Rattle.lengths.specs.Lengths.{checkedRefLength}
-use Rattle.answers.specs.Answers.{bare1}
+use Rattle.answers.specs.declared.Refusal.{Refusal}
 use Rattle.answers.specs.declared.Int.the-variants as Int
-use Rattle.ends_rules.specs.Ends.{asRust, unclippedOf}
+use Rattle.ends_rules.specs.declared.Unclipped.the-variants as Unclipped
 use Rattle.line_rules.specs.Inner.{rowOf}
-use Rattle.line_rules.proofs.LineLaws.{refs-overrun, refs-over, refs-are, figures-are}
+use Rattle.line_rules.proofs.LineLaws.{refs-overrun, refs-over, refs-are, figures-are, row-past}
 use borrow.Author.Needs.{needs}
 use Rattle.report_line.proofs.row_of.Statement.{statement}
 use Rattle.report_line.proofs.row_of.Tie as tie
@@ -40,11 +43,14 @@ refs-kept c =
     let s = t .before .before .before .before .before .before in
     refs-are (s .args .rec .now) (s .pre) (within (t .before .before)) (omega (arith, c .if2 .left, refs-told t)) ∙ ap (λ (n : ℕ). Int.Number (pos n)) (sym (refs-told t))
 
-five-told : (c : tie.After-bare1) → c .bare1 .result ≡ bare1 (asRust (unclippedOf (c .before .before .before .before .before .before .before .before .before .before .before .before .args .rec .now)))
-five-told c = c .bare1 .ensures ∙ ap bare1 (c .before .unclipped-5prime-from-raw-bam .ensures)
+-- a refusal is none of the other variants
+another : OneOf (0 ∷ 1 ∷ 2 ∷ []) 3 → ⊥
+another (inl e) = omega arith
+another (inr (inl e)) = omega arith
+another (inr (inr e)) = omega arith
 
-five-fits : (c : tie.After-bin-from-raw-bam) → let z = c .before .before .five .given .0 .0 in toZ w32 (ofZ w32 z) ≡ z
-five-fits c = search needs
+not-refused : (c : tie.At-match-keys2) (r : Refusal) → c .before .unclipped-5prime-from-raw-bam .result ≡ Unclipped.Refused r → ⊥
+not-refused c r e = another (rw e at (c .match .keys2))
 
 of-record-requires : tie.Need-of-record-requires
 of-record-requires c κs = search needs
@@ -84,60 +90,54 @@ length-mark-requires c κs = search needs
 unclipped-5prime-from-raw-bam-requires : tie.Need-unclipped-5prime-from-raw-bam-requires
 unclipped-5prime-from-raw-bam-requires c κs = search needs
 
-bare1-requires : tie.Need-bare1-requires
-bare1-requires c κs = search needs
-
-enum-known-why : tie.Need-enum-known-why
-enum-known-why c = search needs
-
 enum-known-five : tie.Need-enum-known-five
 enum-known-five c = search needs
-
-bin-from-raw-bam-requires : tie.Need-bin-from-raw-bam-requires
-bin-from-raw-bam-requires c κs = search needs
-
-enum-known-why-2 : tie.Need-enum-known-why-2
-enum-known-why-2 c = search needs
-
-enum-known-bin : tie.Need-enum-known-bin
-enum-known-bin c = search needs
-
-cast-t23 : tie.Need-cast-t23
-cast-t23 c = search needs
 
 returns-3 : tie.Need-returns-3
 unfolding rowOf
 returns-3 c =
     let u = c .before .before .before in
-    let e = u .before .before .before .before in
+    let e = u .before .before .before in
     let s = e .before .before .before .before .before .before .before .before in
-    sym (figures-are (s .args .rec .now) _ _ _ _ _ (refs-kept e) refl (sym (five-told u) ∙ c .before .why .given .1) refl refl)
+    sym (figures-are (s .args .rec .now) _ _ _ _ _ (refs-kept e) refl (sym (u .unclipped-5prime-from-raw-bam .ensures) ∙ c .before .five .given .1) refl refl)
+
+bin-from-raw-bam-requires : tie.Need-bin-from-raw-bam-requires
+bin-from-raw-bam-requires c κs = search needs
+
+enum-known-why : tie.Need-enum-known-why
+enum-known-why c = search needs
+
+enum-known-bin : tie.Need-enum-known-bin
+enum-known-bin c = search needs
+
+cast-t20 : tie.Need-cast-t20
+cast-t20 c = search needs
 
 returns-4 : tie.Need-returns-4
-unfolding rowOf
 returns-4 c =
     let n = c .before .before .before in
-    let f = n .before .before in
-    let u = f .before .before in
-    let e = u .before .before .before .before in
+    let m = n .before in
+    let u = m .before in
+    let e = u .before .before .before in
     let s = e .before .before .before .before .before .before .before .before in
-    sym (figures-are (s .args .rec .now) _ _ _ _ _ (refs-kept e) refl (sym (five-told u) ∙ f .five .given .1) (sym (n .bin-from-raw-bam .ensures) ∙ c .before .why2 .given .1) refl)
+    row-past _ _ _ _ _ (not-refused m)
+    ∙ sym (figures-are (s .args .rec .now) _ _ _ _ _ (refs-kept e) refl (sym (u .unclipped-5prime-from-raw-bam .ensures)) (sym (n .bin-from-raw-bam .ensures) ∙ c .before .why .given .1) refl)
 
 returns-5 : tie.Need-returns-5
-unfolding rowOf
 returns-5 c =
     let k = c .before .before in
     let n = k .before .before in
-    let f = n .before .before in
-    let u = f .before .before in
-    let m = u .before .before in
-    let w = m .before in
+    let m = n .before in
+    let u = m .before in
+    let l = u .before in
+    let w = l .before in
     let e = w .before in
     let t = e .before .before in
     let s = t .before .before .before .before .before .before in
     let z : toZ w32 (t .sums .result .refs) ≡ pos (t .sums .result .refs) = toZ-pos w32 (omega (arith, e .if2 .left)) in
-    simp (z, five-fits n, m .length-mark .ensures)
-    (sym (figures-are (s .args .rec .now) _ _ _ _ _ (refs-kept e) (query-told t) (sym (five-told u) ∙ f .five .given .1) (sym (n .bin-from-raw-bam .ensures) ∙ k .bin .given .1) (sym (w .u32-at .ensures))))
+    simp (z, l .length-mark .ensures)
+    (row-past _ _ _ _ _ (not-refused m)
+    ∙ sym (figures-are (s .args .rec .now) _ _ _ _ _ (refs-kept e) (query-told t) (sym (u .unclipped-5prime-from-raw-bam .ensures)) (sym (n .bin-from-raw-bam .ensures) ∙ k .bin .given .1) (sym (w .u32-at .ensures))))
 
 pub row-of-spec : {M : Type 1} → statement M
 row-of-spec =
@@ -152,13 +152,11 @@ row-of-spec =
     u32-at-requires
     length-mark-requires
     unclipped-5prime-from-raw-bam-requires
-    bare1-requires
-    enum-known-why
     enum-known-five
-    bin-from-raw-bam-requires
-    enum-known-why-2
-    enum-known-bin
-    cast-t23
     returns-3
+    bin-from-raw-bam-requires
+    enum-known-why
+    enum-known-bin
+    cast-t20
     returns-4
     returns-5)

@@ -8,15 +8,12 @@ use Rattle.exports_reads.proofs.end_calls.cigar_unclipped_5prime_from_r
 unclipped-5prime-from-raw-bam-requires : tie.Need-unclipped-5prime-from-raw-bam-requires
 unclipped-5prime-from-raw-bam-requires c κs = search needs
 
-bare1-requires : tie.Need-bare1-requires
-bare1-requires c κs = search needs
-
-told-int-requires : tie.Need-told-int-requires
-told-int-requires c κs = search needs
+told-unclipped-requires : tie.Need-told-unclipped-requires
+told-unclipped-requires c κs = search needs
 
 returns : tie.Need-returns
 returns c = cc
 
 pub cigar-unclipped-5prime-from-raw-bam-spec : {M : Type 1} → statement M
 cigar-unclipped-5prime-from-raw-bam-spec =
-    tie.close (tie.spec unclipped-5prime-from-raw-bam-requires bare1-requires told-int-requires returns)
+    tie.close (tie.spec unclipped-5prime-from-raw-bam-requires told-unclipped-requires returns)

@@ -1,6 +1,6 @@
 -- `Borrower`'s law of `RawRecordView::unclipped_5prime_1based`.
-use Rattle.answers.proofs.Place1 as R
-use Rattle.answers.proofs.Place1.Laws as R′
+use Rattle.ends_rules.proofs.Unclipped as R
+use Rattle.ends_rules.proofs.Unclipped.Laws as R′
 use Rattle.view.proofs.RawRecordView.unclipped_5prime_1based as method
 use Rattle.view.proofs.RawRecordView.unclipped_5prime_1based.Met as theorem
 use Rattle.view.proofs.RawRecordView.unclipped_5prime_1based.Symbol as symbol
