@@ -56,13 +56,14 @@ def records(file):
 
 
 def columns(record):
-    """A record's CIGAR, its two lengths, its unclipped 5' position, its bin, and whether its query length is that of the stored sequence, `-` where none is stored."""
+    """A record's CIGAR, its two lengths, its unclipped 5' position, `.` where it is unmapped or has no ops, its bin, and whether its query length is that of the stored sequence, `-` where none is stored."""
     text = cigar.cigar_to_bytes_into(record).decode()
     if len(text) > ROOM:
         raise cigar.Refusal(6)
     reference = cigar.reference_length_from_raw_bam_checked(record)
     query, stored = cigar.query_length(record), cigar.l_seq(record)
-    return text or '*', reference, query, cigar.unclipped_5prime_from_raw_bam(record), cigar.bin_from_raw_bam(record), int(query == stored) if stored else '-'
+    five = cigar.unclipped_5prime_from_raw_bam(record)
+    return text or '*', reference, query, '.' if five in (cigar.UNMAPPED, cigar.NO_OPS) else five, cigar.bin_from_raw_bam(record), int(query == stored) if stored else '-'
 
 
 def main():

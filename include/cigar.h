@@ -39,6 +39,8 @@ struct cigar_flag { uint32_t refusal; bool value; };
 struct cigar_found { uint32_t refusal; bool found; uint64_t value; };
 /* What lookup found, none where `found` is false, and how many ops it examined: 16 bytes, for registers, so the refusal has 16 bits here */
 struct cigar_lookup { uint16_t refusal; bool found; uint32_t examined; uint64_t value; };
+/* A position, `value`, where `which` is 0; else there is none, and `value` is 0: `which` is 1 for an unmapped record, 2 for one without ops */
+struct cigar_position { uint32_t refusal; uint32_t which; int32_t value; };
 /* Two numbers that are never negative; each call says which */
 struct cigar_two { uint32_t refusal; uint64_t first; uint64_t second; };
 /* Reference and query length, and the soft and hard bases of the run of clips at each end */
@@ -139,9 +141,9 @@ int32_t cigar_mate_unclipped_5prime_1based(int32_t position, uint8_t reverse, co
 
 /* ---- ends */
 
-/* The unclipped 5' position, counted from 1; 0 for an unmapped record, 2147483647 for one without ops. Refusals 1, 4 */
-struct cigar_int cigar_unclipped_5prime_from_raw_bam(const uint8_t *rec, size_t rec_len);
-/* The same from a given position and strand, counted as the given one is, which one without ops answers. Refusals 1, 4 */
+/* The unclipped 5' position, counted from 1; or that the record is unmapped, which is asked first, or that it has no ops or they overrun it. Refusals 1, 4 */
+struct cigar_position cigar_unclipped_5prime_from_raw_bam(const uint8_t *rec, size_t rec_len);
+/* The position from a given one and a strand, counted as the given one is, which a record without ops answers. Refusals 1, 4 */
 struct cigar_int cigar_unclipped_5prime_raw(const uint8_t *rec, size_t rec_len, int32_t position, uint8_t reverse);
 /* The first reference position, counted from 1; none where the record has none. Refusals 1, 4 */
 struct cigar_found cigar_alignment_start_from_raw(const uint8_t *rec, size_t rec_len);

@@ -121,8 +121,8 @@ fn records(n: usize, random: &mut Random) {
     pair!("cigar_lengths", n, "", |x: &[u8]| RawRecordView::new(x).cigar_lengths() => fn(&[u8]) -> (i32, usize), port::cigar_lengths => fn(&[u8]) -> Result<port::RecordLengths, port::Refusal>, |i, f| f(&r[i]), |i, g| g(&r[i]));
     pair!("cigar_to_bytes_into", n, "the Rust's buffer is kept", cigar::cigar_to_bytes_into => fn(&mut Vec<u8>, &[u8]), port::cigar_to_bytes_into => fn(&[u8], &mut [u8]) -> Result<usize, port::Refusal>, |i, f| f(&mut string, &r[i]), |i, g| g(&r[i], &mut text));
     pair!("cigar_to_string_from_raw", n, "the Rust allocates", cigar::cigar_to_string_from_raw => fn(&[u8]) -> String, port::cigar_to_bytes_into => fn(&[u8], &mut [u8]) -> Result<usize, port::Refusal>, |i, f| f(&r[i]), |i, g| g(&r[i], &mut text));
-    pair!("unclipped_5prime_from_raw_bam, forward", n, "", cigar::unclipped_5prime_from_raw_bam => fn(&[u8]) -> i32, port::unclipped_5prime_from_raw_bam => fn(&[u8]) -> Result<i32, port::Refusal>, |i, f| f(&r[i]), |i, g| g(&r[i]));
-    pair!("unclipped_5prime_from_raw_bam, reverse", n, "", cigar::unclipped_5prime_from_raw_bam => fn(&[u8]) -> i32, port::unclipped_5prime_from_raw_bam => fn(&[u8]) -> Result<i32, port::Refusal>, |i, f| f(&b[i]), |i, g| g(&b[i]));
+    pair!("unclipped_5prime_from_raw_bam, forward", n, "", cigar::unclipped_5prime_from_raw_bam => fn(&[u8]) -> i32, port::unclipped_5prime_from_raw_bam => fn(&[u8]) -> Result<port::Unclipped, port::Refusal>, |i, f| f(&r[i]), |i, g| g(&r[i]));
+    pair!("unclipped_5prime_from_raw_bam, reverse", n, "", cigar::unclipped_5prime_from_raw_bam => fn(&[u8]) -> i32, port::unclipped_5prime_from_raw_bam => fn(&[u8]) -> Result<port::Unclipped, port::Refusal>, |i, f| f(&b[i]), |i, g| g(&b[i]));
     for (name, reverse) in [("unclipped_5prime_raw, forward", false), ("unclipped_5prime_raw, reverse", true)] {
         pair!(name, n, "", cigar::unclipped_5prime_raw => fn(&[u8], i32, bool) -> i32, port::unclipped_5prime_raw => fn(&[u8], i32, bool) -> Result<i32, port::Refusal>, |i, f| f(&r[i], 1000, reverse), |i, g| g(&r[i], 1000, reverse));
     }

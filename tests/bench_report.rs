@@ -24,7 +24,13 @@ fn main() -> Result<()> {
             stored if stored == bases => '1',
             _ => '0',
         };
-        writeln!(out, "\t{refs}\t{bases}\t{place}\t{bin}\t{same}")?;
+        write!(out, "\t{refs}\t{bases}\t")?;
+        if view.flags() & 4 == 0 && !text.is_empty() {
+            write!(out, "{place}")?;
+        } else {
+            out.write_all(b".")?;
+        }
+        writeln!(out, "\t{bin}\t{same}")?;
     }
     writeln!(out, "records {records}")
 }

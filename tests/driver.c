@@ -33,7 +33,7 @@ static uint32_t ops_room[MOST + GUARD];
 static uint8_t bytes_room[MOST + GUARD];
 
 /* ---- the calls: name; arguments (R bytes, W bytes lent to be written, L list, o and b lent outputs of ops and bytes, i and u 32 bits, U 64 bits, f flag);
- * values (s signed, u unsigned, n none or a number, p a part of the record); and how they are passed */
+ * values (s signed, u unsigned, n none or a number, c a signed position, or unmapped, or no ops, p a part of the record); and how they are passed */
 
 #define BUFFER(i, part) null_if_empty && !arg[i].n ? 0 : arg[i].part, arg[i].n
 #define BYTES(i) BUFFER(i, bytes)
@@ -78,7 +78,7 @@ static uint8_t bytes_room[MOST + GUARD];
     CALL(is_valid_mapped_cigar, "L", "u", OPS(0)) \
     CALL(mate_unclipped_5prime, "ifR", "s", I32(0), FLAG(1), BYTES(2)) \
     CALL(mate_unclipped_5prime_1based, "ifR", "s", I32(0), FLAG(1), BYTES(2)) \
-    CALL(unclipped_5prime_from_raw_bam, "R", "s", BYTES(0)) \
+    CALL(unclipped_5prime_from_raw_bam, "R", "c", BYTES(0)) \
     CALL(unclipped_5prime_raw, "Rif", "s", BYTES(0), I32(1), FLAG(2)) \
     CALL(alignment_start_from_raw, "R", "n", BYTES(0)) \
     CALL(alignment_end_from_raw, "R", "n", BYTES(0)) \
@@ -101,7 +101,7 @@ static uint8_t bytes_room[MOST + GUARD];
 CALLS
 #undef CALL
 
-/* What a call answered: its number, and its values as they are told, two of a value that may be none. */
+/* What a call answered: its number, and its values as they are told, two of a value that may be none, or of one of three cases. */
 enum { VALUES = 6 };
 struct answer {
     uint32_t refusal;
@@ -113,6 +113,7 @@ static struct answer of_count(struct cigar_count a) { return (struct answer){a.r
 static struct answer of_flag(struct cigar_flag a) { return (struct answer){a.refusal, {a.value, 0}}; }
 static struct answer of_found(struct cigar_found a) { return (struct answer){a.refusal, {a.found, a.value}}; }
 static struct answer of_lookup(struct cigar_lookup a) { return (struct answer){a.refusal, {a.found, a.value, a.examined}}; }
+static struct answer of_position(struct cigar_position a) { return (struct answer){a.refusal, {a.which, (uint64_t)(int64_t)a.value}}; }
 static struct answer of_two(struct cigar_two a) { return (struct answer){a.refusal, {a.first, a.second}}; }
 static struct answer of_lengths(struct cigar_lengths a)
 {
@@ -124,7 +125,7 @@ static struct answer of_i32(int32_t a) { return (struct answer){0, {(uint64_t)(i
 
 #define ANSWER(a) \
     _Generic((a), struct cigar_int: of_int, struct cigar_count: of_count, struct cigar_flag: of_flag, struct cigar_found: of_found, struct cigar_lookup: of_lookup, \
-        struct cigar_two: of_two, struct cigar_lengths: of_lengths, bool: of_bool, uint32_t: of_u32, int32_t: of_i32)(a)
+        struct cigar_position: of_position, struct cigar_two: of_two, struct cigar_lengths: of_lengths, bool: of_bool, uint32_t: of_u32, int32_t: of_i32)(a)
 
 #define CALL(name, args, kinds, ...) \
     static struct answer run_##name(void) { return ANSWER(cigar_##name(__VA_ARGS__)); }
@@ -352,8 +353,22 @@ static const struct call *read_request(void)
 
 /* ---- answers */
 
+static const char *const cases[] = {"ok ", "unmapped", "no_ops"};
+
+/* One of three cases, and the position of the first. */
+static void put_case(const uint64_t *values)
+{
+    put_text(values[0] < 3 ? cases[values[0]] : "an unknown case");
+    if (!values[0])
+        put_signed((int64_t)values[1]);
+}
+
 static void put_values(const struct call *c, const uint64_t *values)
 {
+    if (c->kinds[0] == 'c') {
+        put_case(values);
+        return;
+    }
     int may_be_none = c->kinds[0] == 'n', none = may_be_none && !values[0];
     put_text(none ? "none" : "ok");
     for (int i = none; c->kinds[i] && c->kinds[i] != 'p'; i++) {
@@ -375,10 +390,10 @@ static void put_part(const struct answer *a)
         put_content(arg[0].bytes + a->values[0], 0, a->values[1]);
 }
 
-/* Said where the library told or wrote what it may not: a value beside a refusal or beside none, places behind a lent output. */
+/* Said where the library told or wrote what it may not: a value beside a refusal, beside none or beside no position, places behind a lent output. */
 static void put_strays(const struct call *c, const struct answer *a)
 {
-    int beside = c->kinds[0] == 'n' && !a->values[0] && a->values[1];
+    int beside = ((c->kinds[0] == 'n' && !a->values[0]) || (c->kinds[0] == 'c' && a->values[0])) && a->values[1];
     for (int i = 0; i < VALUES; i++)
         beside |= a->refusal && a->values[i];
     if (beside)

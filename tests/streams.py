@@ -66,10 +66,8 @@ def record_ops(rec):
 
 def five_prime(rec, ops):
     pos, flags = struct.unpack_from('<i', rec, 4)[0], struct.unpack_from('<H', rec, 14)[0]
-    if flags & 4:
-        return 0
-    if not ops:
-        return 2**31 - 1
+    if flags & 4 or not ops:
+        return '.'
     at = fits(pos + 1)
     if not flags & 16:
         clips = 0

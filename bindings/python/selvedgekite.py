@@ -3,6 +3,7 @@
 A record is bytes, or whatever holds bytes (those behind block_size); a text is bytes or a str; a list of ops is a list or an
 array('I') of their numbers (length * 16 + code). A call that would lend memory answers a list or bytes of its own instead.
 Every call answers or raises `Refusal`, whose `number` is the refusal's; where the original answers none, so does the call.
+`unclipped_5prime_from_raw_bam` answers a number, `UNMAPPED` or `NO_OPS`.
 A number that its place can't hold is an OverflowError, and what is no record, text, list or number a TypeError.
 
 The shared library is libselvedgekite.so, that ./build-libraries writes to target/libraries/ at the top of the repository;
@@ -24,6 +25,10 @@ WORDS = {
     9: 'lookup: alignment start outside 1 to 2^31',
     10: 'op length 0 or above 268,435,455',
 }
+
+
+# what `unclipped_5prime_from_raw_bam` answers in place of a position, for an unmapped record, and for one without ops
+UNMAPPED, NO_OPS = 'unmapped', 'no_ops'
 
 
 class Refusal(Exception):
@@ -61,6 +66,10 @@ class Lookup(Structure):
     _fields_ = [('refusal', c_uint16), ('found', c_bool), ('examined', c_uint32), ('value', c_uint64)]
 
 
+class Position(Structure):
+    _fields_ = [('refusal', c_uint32), ('which', c_uint32), ('value', c_int32)]
+
+
 class Two(Structure):
     _fields_ = [('refusal', c_uint32), ('first', c_uint64), ('second', c_uint64)]
 
@@ -75,10 +84,11 @@ OPS = [POINTER(c_uint32), c_size_t]
 ROOM = [POINTER(c_uint8), c_size_t]
 
 DECLARED = [
-    (Int, BYTES, 'ref_id pos mate_ref_id mate_pos template_length reference_length_from_raw_bam reference_length_from_raw_bam_checked unclipped_5prime_from_raw_bam'),
+    (Int, BYTES, 'ref_id pos mate_ref_id mate_pos template_length reference_length_from_raw_bam reference_length_from_raw_bam_checked'),
     (Count, BYTES, 'l_read_name bin n_cigar_op flags l_seq query_length bin_from_raw_bam'),
     (Flag, BYTES, 'is_mapped_opposite_strand_pair_raw is_fr_pair_raw'),
     (Found, BYTES, 'alignment_start_from_raw alignment_end_from_raw'),
+    (Position, BYTES, 'unclipped_5prime_from_raw_bam'),
     (Two, BYTES, 'cigar_raw_bytes'),
     (Lengths, BYTES, 'cigar_lengths'),
     (Count, ROOM, 'set_bin_from_raw_bam'),
@@ -103,7 +113,7 @@ DECLARED = [
     (Two, BYTES + BYTES + OPS, 'num_bases_extending_past_mate_text_raw'),
 ]
 
-__all__ = ['Refusal'] + [name for _, _, names in DECLARED for name in names.split()]
+__all__ = ['Refusal', 'UNMAPPED', 'NO_OPS'] + [name for _, _, names in DECLARED for name in names.split()]
 
 
 def loaded():
@@ -401,12 +411,13 @@ def mate_unclipped_5prime_1based(mate_pos_0based, mate_reverse, mc_cigar):
 
 
 def unclipped_5prime_from_raw_bam(bam):
-    """The unclipped 5' position, counted from 1; 0 for an unmapped record, 2147483647 for one without ops."""
-    return _value(C.cigar_unclipped_5prime_from_raw_bam(*_record(bam)))
+    """The unclipped 5' position, counted from 1; UNMAPPED for an unmapped record, which is asked first, NO_OPS for one that has no ops, or whose ops overrun it."""
+    answer = _sure(C.cigar_unclipped_5prime_from_raw_bam(*_record(bam)))
+    return (answer.value, UNMAPPED, NO_OPS)[answer.which]
 
 
 def unclipped_5prime_raw(bam, pos, is_reverse):
-    """The same from a given position and strand, counted as the given one is, which one without ops answers."""
+    """The position from a given one and a strand, counted as the given one is, which a record without ops answers."""
     return _value(C.cigar_unclipped_5prime_raw(*_record(bam), _i32(pos), bool(is_reverse)))
 
 

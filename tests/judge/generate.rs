@@ -80,7 +80,8 @@ pub fn all(seed: u64, size: u64, emit: &mut dyn FnMut(&[u8]) -> Done) -> Done {
     out.pairs()?;
     out.damaged_pairs()?;
     out.bins()?;
-    out.giants()
+    out.giants()?;
+    out.reserved_positions()
 }
 
 // ---- ops, lists and texts
@@ -301,10 +302,21 @@ impl Record {
     }
 }
 
+/// The bases of the clips that the list begins with.
+fn leading_clips(ops: &[u32]) -> i64 {
+    ops.iter().take_while(|&&op| rules::is_clip(op)).map(|&op| rules::length(op)).sum()
+}
+
+/// The bases of the clips behind the last reference op.
+fn clips_behind(ops: &[u32]) -> i64 {
+    let last = ops.iter().rposition(|&op| rules::is_reference(op)).map_or(ops.len(), |at| at + 1);
+    ops[last..].iter().filter(|&&op| rules::is_clip(op)).map(|&op| rules::length(op)).sum()
+}
+
 /// A position: a small one, one of document 01's boundaries, or one at which the list's own sums come to an end of 32 bits.
 fn position(rng: &mut Rng, ops: &[u32]) -> i32 {
     let clips: i64 = ops.iter().filter(|&&op| rules::is_clip(op)).map(|&op| rules::length(op)).sum();
-    let leading: i64 = ops.iter().take_while(|&&op| rules::is_clip(op)).map(|&op| rules::length(op)).sum();
+    let leading = leading_clips(ops);
     let reference = rules::reference_total(ops);
     match rng.below(9) {
         0..=3 => rng.range(0, 300) as i32,
@@ -651,6 +663,24 @@ impl Out<'_> {
         let (amount, start) = (self.amount(&ops), self.rng.one_in(2));
         let room = self.room(clipped_places(&ops, amount, start));
         self.say("clip_cigar_ops", &[Bytes(record), Number(amount), Flag(start), room])
+    }
+
+    /// Records whose unclipped position comes near 0 or 2^31 - 1, which the original answers for none: mapped and unmapped, with their ops, without, and with more than there are.
+    fn reserved_positions(&mut self) -> Done {
+        for _ in 0..2_000 * self.size {
+            let ops = placed_list(&mut self.rng, 30);
+            let mut record = Record::new(&mut self.rng, ops);
+            record.flags = self.rng.pick(&[0, 0, 16, 16, 4, 20]);
+            let moved = if record.flags & 16 == 0 { 1 - leading_clips(&record.ops) } else { rules::reference_total(&record.ops) + clips_behind(&record.ops) };
+            let near = self.rng.pick(&[0, SECOND_HALF - 1]) - moved;
+            record.pos = self.rng.i32_near(near);
+            let mut bytes = record.bytes(&mut self.rng);
+            for count in [bytes[12], 0, 255] {
+                bytes[12] = count;
+                self.say("unclipped_5prime_from_raw_bam", &[Bytes(&bytes)])?;
+            }
+        }
+        Ok(())
     }
 
     /// Records cut at every byte, through every call that takes one.

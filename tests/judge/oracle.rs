@@ -287,6 +287,21 @@ fn of_mate_text(words: &mut Words, run: fn(i32, bool, &[u8]) -> i32) -> Option<R
     alone(said(hold(None, || run(position, reverse, &text)), one))
 }
 
+/// The original's number, out of the three answers of document 02, item 3, of which the input says which it is: unmapped has to be its 0, no ops its 2^31 - 1.
+fn unclipped_5prime_from_raw_bam(words: &mut Words) -> Option<Reply> {
+    let record = words.bytes()?;
+    words.done()?;
+    if let Some(n) = rules::too_short(&record) {
+        return alone(Said::Refusal(n));
+    }
+    let answer = hold(rules::own_unclipped_overflows(&record), || cigar::unclipped_5prime_from_raw_bam(&record));
+    alone(said(answer, |position| match rules::no_position(&record) {
+        None => one(position),
+        Some((word, number)) if number == position => Said::Word(word),
+        Some((word, number)) => Said::Mismatch(format!("{word} is due, the original's {number}, and it answers {position}")),
+    }))
+}
+
 fn unclipped_5prime_raw(words: &mut Words) -> Option<Reply> {
     let (record, position, reverse) = (words.bytes()?, words.i32()?, words.flag()?);
     words.done()?;
@@ -465,7 +480,7 @@ pub const CALLS: [(&str, Call); 51] = [
     ("is_valid_mapped_cigar", is_valid_mapped_cigar),
     ("mate_unclipped_5prime", |w| of_mate_text(w, cigar::mate_unclipped_5prime)),
     ("mate_unclipped_5prime_1based", |w| of_mate_text(w, cigar::mate_unclipped_5prime_1based)),
-    ("unclipped_5prime_from_raw_bam", |w| of_record(w, rules::own_unclipped_overflows, cigar::unclipped_5prime_from_raw_bam, one)),
+    ("unclipped_5prime_from_raw_bam", unclipped_5prime_from_raw_bam),
     ("unclipped_5prime_raw", unclipped_5prime_raw),
     ("alignment_start_from_raw", |w| of_record(w, rules::alignment_start_overflows, cigar::alignment_start_from_raw, some)),
     ("alignment_end_from_raw", alignment_end_from_raw),

@@ -120,6 +120,8 @@ pub enum Said {
     Values(Vec<i64>),
     /// None, and what is told beside it.
     Nothing(Vec<i64>),
+    /// An answer that is a word alone.
+    Word(&'static str),
     Refusal(u8),
     /// The original and document 01, as the judge reads it, disagree.
     Mismatch(String),
@@ -193,6 +195,7 @@ impl Reply {
                     put_signed(v, line);
                 }
             }
+            Said::Word(word) => line.extend_from_slice(word.as_bytes()),
             Said::Refusal(n) => {
                 line.extend_from_slice(b"refuse ");
                 put_number(u64::from(*n), line);

@@ -209,10 +209,20 @@ pub fn unclipped_overflows(record: &[u8], position: i64, reverse: bool) -> Optio
     }
 }
 
+/// The word for a record that has no unclipped position (document 02, item 3), and the number that the original answers for it: unmapped is asked first, then no ops, none or an
+/// area that overruns.
+pub fn no_position(record: &[u8]) -> Option<(&'static str, i32)> {
+    let fields = Record(record);
+    if fields.is_unmapped() {
+        return Some(("unmapped", 0));
+    }
+    fields.ops().is_none_or(|ops| ops.is_empty()).then_some(("no_ops", i32::MAX))
+}
+
 /// 4 of a record's own unclipped end: for a mapped record with ops, whose position + 1 comes first.
 pub fn own_unclipped_overflows(record: &[u8]) -> Option<u8> {
     let fields = Record(record);
-    if fields.is_unmapped() || fields.ops().is_none_or(|ops| ops.is_empty()) {
+    if no_position(record).is_some() {
         return None;
     }
     overflows(fields.pos(), &[1]).or(unclipped_overflows(record, fields.pos() + 1, fields.is_reverse()))

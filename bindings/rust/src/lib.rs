@@ -170,8 +170,6 @@ of_record! {
     reference_length_from_raw_bam_checked, cigar_reference_length_from_raw_bam_checked, int, i32;
     /// The query length.
     query_length, cigar_query_length, count, usize;
-    /// The unclipped 5' position, counted from 1; 0 for an unmapped record, 2147483647 for one without ops.
-    unclipped_5prime_from_raw_bam, cigar_unclipped_5prime_from_raw_bam, int, i32;
     /// The bin, computed.
     bin_from_raw_bam, cigar_bin_from_raw_bam, count, u16;
     /// Whether the record is paired, and it and its mate are mapped on the same reference, on opposite strands.
@@ -354,6 +352,31 @@ pub fn mate_unclipped_5prime(mate_pos: i32, mate_reverse: bool, mc_cigar: &[u8])
 #[inline]
 pub fn mate_unclipped_5prime_1based(mate_pos_0based: i32, mate_reverse: bool, mc_cigar: &[u8]) -> i32 {
     unsafe { raw::cigar_mate_unclipped_5prime_1based(mate_pos_0based, mate_reverse as u8, mc_cigar.as_ptr(), mc_cigar.len()) }
+}
+
+/// A record's unclipped 5' position.
+#[derive(Clone, Copy, Debug, PartialEq, Eq, Hash)]
+pub enum Unclipped {
+    /// The position, counted from 1.
+    At(i32),
+    /// The record is unmapped.
+    Unmapped,
+    /// The record has no ops, or they overrun it.
+    NoOps,
+}
+
+/// The unclipped 5' position. Whether the record is unmapped is asked first, then whether it has ops.
+#[inline]
+pub fn unclipped_5prime_from_raw_bam(bam: &[u8]) -> Result<Unclipped, Refusal> {
+    let found = unsafe { raw::cigar_unclipped_5prime_from_raw_bam(bam.as_ptr(), bam.len()) };
+    unless(
+        found.refusal,
+        match found.which {
+            0 => Unclipped::At(found.value),
+            1 => Unclipped::Unmapped,
+            _ => Unclipped::NoOps,
+        },
+    )
 }
 
 /// The unclipped 5' position from a given position and strand, counted as the given one is, which a record without ops answers.

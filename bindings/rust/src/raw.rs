@@ -33,6 +33,13 @@ pub struct Lookup {
 }
 
 #[repr(C)]
+pub struct Position {
+    pub refusal: u32,
+    pub which: u32,
+    pub value: i32,
+}
+
+#[repr(C)]
 pub struct Two {
     pub refusal: u32,
     pub first: u64,
@@ -88,7 +95,7 @@ extern "C" {
     pub fn cigar_is_valid_mapped_cigar(ops: *const u32, ops_len: usize) -> Flag;
     pub fn cigar_mate_unclipped_5prime(position: i32, reverse: u8, text: *const u8, text_len: usize) -> i32;
     pub fn cigar_mate_unclipped_5prime_1based(position: i32, reverse: u8, text: *const u8, text_len: usize) -> i32;
-    pub fn cigar_unclipped_5prime_from_raw_bam(rec: *const u8, rec_len: usize) -> Int;
+    pub fn cigar_unclipped_5prime_from_raw_bam(rec: *const u8, rec_len: usize) -> Position;
     pub fn cigar_unclipped_5prime_raw(rec: *const u8, rec_len: usize, position: i32, reverse: u8) -> Int;
     pub fn cigar_alignment_start_from_raw(rec: *const u8, rec_len: usize) -> Found;
     pub fn cigar_alignment_end_from_raw(rec: *const u8, rec_len: usize) -> Found;
