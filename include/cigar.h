@@ -6,6 +6,7 @@
  *    3 a list has over 65,535 ops           8 clipping: total length 2^28 or more
  *    4 a signed 32-bit sum overflows        9 lookup: start outside 1 to 2^31
  *    5 the text is no valid mapped CIGAR   10 op_new: length 0 or above 268,435,455
+ *   19 clipping: the amount is beyond what can be clipped
  * A call that cannot refuse returns its value.
  *
  * A buffer is a pointer and the number of its elements: `rec` and `mate` are BAM records (the bytes behind block_size), `ops` and
@@ -154,12 +155,15 @@ struct cigar_found cigar_alignment_end_from_raw(const uint8_t *rec, size_t rec_l
  * from 1, of the op that holds the position (a D or N too), the number of ops if none does, 0 before the start. Refusals 3, 9 */
 struct cigar_lookup cigar_read_pos_at_ref_pos_raw(const uint32_t *ops, size_t ops_len, uint64_t start, uint64_t position, uint8_t last_base_if_deleted);
 
-/* ---- clipping: the clipped list into out; `first` the ops written, `second` the reference bases lost at the start */
+/* ---- clipping: the clipped list into out. At the start `first` is the ops written and `second` the reference bases lost, at the end the value is the ops written.
+ * What can be clipped is the run of S and H at that end plus the M, I, = and X bases of the list; of an empty list any amount changes nothing */
 
-/* Of a list. Refusals 3, 8, 6 */
-struct cigar_two cigar_clip_cigar_ops_raw(const uint32_t *ops, size_t ops_len, uint64_t amount, uint8_t from_start, uint32_t *out, size_t out_len);
-/* Of a record. Refusals 1, 8, 6 */
-struct cigar_two cigar_clip_cigar_ops(const uint8_t *rec, size_t rec_len, uint64_t amount, uint8_t from_start, uint32_t *out, size_t out_len);
+/* Of a list. Refusals 3, 8, 19, 6 */
+struct cigar_two cigar_clip_cigar_start_raw(const uint32_t *ops, size_t ops_len, uint64_t amount, uint32_t *out, size_t out_len);
+struct cigar_count cigar_clip_cigar_end_raw(const uint32_t *ops, size_t ops_len, uint64_t amount, uint32_t *out, size_t out_len);
+/* Of a record; an area that overruns is an empty list. Refusals 1, 8, 19, 6 */
+struct cigar_two cigar_clip_cigar_start(const uint8_t *rec, size_t rec_len, uint64_t amount, uint32_t *out, size_t out_len);
+struct cigar_count cigar_clip_cigar_end(const uint8_t *rec, size_t rec_len, uint64_t amount, uint32_t *out, size_t out_len);
 
 /* ---- pair tests. A reverse record is asked for its length, unless its flags, references or strands already fail */
 

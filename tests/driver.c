@@ -83,8 +83,10 @@ static uint8_t bytes_room[MOST + GUARD];
     CALL(alignment_start_from_raw, "R", "n", BYTES(0)) \
     CALL(alignment_end_from_raw, "R", "n", BYTES(0)) \
     CALL(read_pos_at_ref_pos_raw, "LUUf", "nu", OPS(0), U64(1), U64(2), FLAG(3)) \
-    CALL(clip_cigar_ops_raw, "LUfo", "uu", OPS(0), U64(1), FLAG(2), OPS(3)) \
-    CALL(clip_cigar_ops, "RUfo", "uu", BYTES(0), U64(1), FLAG(2), OPS(3)) \
+    CALL(clip_cigar_start_raw, "LUo", "uu", OPS(0), U64(1), OPS(2)) \
+    CALL(clip_cigar_end_raw, "LUo", "u", OPS(0), U64(1), OPS(2)) \
+    CALL(clip_cigar_start, "RUo", "uu", BYTES(0), U64(1), OPS(2)) \
+    CALL(clip_cigar_end, "RUo", "u", BYTES(0), U64(1), OPS(2)) \
     CALL(is_mapped_opposite_strand_pair_raw, "R", "u", BYTES(0)) \
     CALL(is_fr_pair_raw, "R", "u", BYTES(0)) \
     CALL(is_primary_fr_pair_raw, "RR", "u", BYTES(0), BYTES(1)) \

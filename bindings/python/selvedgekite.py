@@ -24,6 +24,7 @@ WORDS = {
     8: 'clipping: the lengths sum to 2^28 or more',
     9: 'lookup: alignment start outside 1 to 2^31',
     10: 'op length 0 or above 268,435,455',
+    19: 'clipping: the amount is beyond what can be clipped',
 }
 
 
@@ -32,7 +33,7 @@ UNMAPPED, NO_OPS = 'unmapped', 'no_ops'
 
 
 class Refusal(Exception):
-    """Why a call answers no value: its number, 1 to 10, and its words."""
+    """Why a call answers no value: its number and its words."""
 
     def __init__(self, number):
         super().__init__(number)
@@ -105,8 +106,10 @@ DECLARED = [
     (c_int32, [c_int32, c_uint8] + BYTES, 'mate_unclipped_5prime mate_unclipped_5prime_1based'),
     (Int, BYTES + [c_int32, c_uint8], 'unclipped_5prime_raw'),
     (Lookup, OPS + [c_uint64, c_uint64, c_uint8], 'read_pos_at_ref_pos_raw'),
-    (Two, OPS + [c_uint64, c_uint8] + OPS, 'clip_cigar_ops_raw'),
-    (Two, BYTES + [c_uint64, c_uint8] + OPS, 'clip_cigar_ops'),
+    (Two, OPS + [c_uint64] + OPS, 'clip_cigar_start_raw'),
+    (Count, OPS + [c_uint64] + OPS, 'clip_cigar_end_raw'),
+    (Two, BYTES + [c_uint64] + OPS, 'clip_cigar_start'),
+    (Count, BYTES + [c_uint64] + OPS, 'clip_cigar_end'),
     (Flag, BYTES + BYTES, 'is_primary_fr_pair_raw'),
     (Count, BYTES + BYTES, 'num_bases_extending_past_mate_vs_mate_raw'),
     (Count, [c_uint8, c_int32] + OPS + [c_int32] + OPS, 'bases_extending_past_mate_ops'),
@@ -440,16 +443,28 @@ def read_pos_at_ref_pos_raw(ops, alignment_start, ref_pos, return_last_base_if_d
 # ---- clipping
 
 
-def clip_cigar_ops_raw(ops, clip_amount, from_start):
-    """The clipped list, and the reference bases lost at the start."""
-    answer, out = _filled(C.cigar_clip_cigar_ops_raw, *_ops(ops), _u64(clip_amount), bool(from_start))
+def clip_cigar_start_raw(ops, clip_amount):
+    """The list clipped at the start, and the reference bases lost."""
+    answer, out = _filled(C.cigar_clip_cigar_start_raw, *_ops(ops), _u64(clip_amount))
     return out[:answer.first], answer.second
 
 
-def clip_cigar_ops(bam, clip_amount, from_start):
-    """The same of a record's ops."""
-    answer, out = _filled(C.cigar_clip_cigar_ops, *_record(bam), _u64(clip_amount), bool(from_start))
+def clip_cigar_end_raw(ops, clip_amount):
+    """The list clipped at the end."""
+    answer, out = _filled(C.cigar_clip_cigar_end_raw, *_ops(ops), _u64(clip_amount))
+    return out[:answer.value]
+
+
+def clip_cigar_start(bam, clip_amount):
+    """A record's ops clipped at the start, and the reference bases lost."""
+    answer, out = _filled(C.cigar_clip_cigar_start, *_record(bam), _u64(clip_amount))
     return out[:answer.first], answer.second
+
+
+def clip_cigar_end(bam, clip_amount):
+    """A record's ops clipped at the end."""
+    answer, out = _filled(C.cigar_clip_cigar_end, *_record(bam), _u64(clip_amount))
+    return out[:answer.value]
 
 
 # ---- pairs

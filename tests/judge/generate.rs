@@ -131,6 +131,15 @@ fn placed_list(rng: &mut Rng, longest: u64) -> Vec<u32> {
     list
 }
 
+/// The clipping calls on lists and on records, by the end.
+fn clip_raw(start: bool) -> &'static str {
+    if start { "clip_cigar_start_raw" } else { "clip_cigar_end_raw" }
+}
+
+fn clip_record(start: bool) -> &'static str {
+    if start { "clip_cigar_start" } else { "clip_cigar_end" }
+}
+
 /// The places that the clipped list takes; those of the list itself where clipping refuses it.
 fn clipped_places(list: &[u32], amount: u64, start: bool) -> usize {
     if rules::too_long(list).is_some() { list.len() } else { cigar::clip_cigar_ops_raw(list, amount as usize, start).0.len() }
@@ -461,14 +470,14 @@ impl Out<'_> {
 
     // ---- lists
 
-    /// All lists of up to 3 ops over 16 codes and lengths 0 to 3; of those with 3 ops one in 24 is clipped, more with a larger size.
+    /// All lists of up to 3 ops over 16 codes and lengths 0 to 3; of those with 3 ops one in 12 is clipped, more with a larger size.
     fn short_lists(&mut self) -> Done {
         let sparse = (24 / self.size).max(1);
         for length in 0..=3 {
             for number in 0..64u64.pow(length) {
                 let list = nth_list(number, length);
                 self.say("is_valid_mapped_cigar", &[List(&list)])?;
-                if length < 3 || self.rng.one_in(sparse) {
+                if length < 3 || self.rng.one_in(sparse.div_ceil(2)) {
                     self.clips_of(&list)?;
                 }
                 if length < 3 || self.rng.one_in(sparse.min(6)) {
@@ -489,18 +498,20 @@ impl Out<'_> {
         Ok(())
     }
 
-    /// Every amount to two past the sum, both ends, list and record, rooms full, one short and roomy.
+    /// Every amount to two past what can be clipped, and one past the sum, both ends, list and record, rooms full, one short and roomy; where the amount is beyond, one of these.
     fn clips_of(&mut self, list: &[u32]) -> Done {
         let sum: u64 = list.iter().map(|&op| u64::from(op >> 4)).sum();
         let record = Record::new(&mut self.rng, list.to_vec()).bytes(&mut self.rng);
-        for amount in 0..=sum + 2 {
-            for start in [false, true] {
+        for start in [false, true] {
+            for amount in (0..=rules::clippable(list, start) + 2).chain([sum + 3]) {
                 let places = clipped_places(list, amount, start);
-                for room in [places, places.saturating_sub(1), places + 2] {
-                    self.say("clip_cigar_ops_raw", &[List(list), Number(amount), Flag(start), Room(room)])?;
+                let rooms = [places, places.saturating_sub(1), places + 2];
+                let some = if rules::beyond(list, amount, start).is_some() { &rooms[(amount % 3) as usize..][..1] } else { &rooms[..] };
+                for &room in some {
+                    self.say(clip_raw(start), &[List(list), Number(amount), Room(room)])?;
                 }
                 let room = self.room(places);
-                self.say("clip_cigar_ops", &[Bytes(&record), Number(amount), Flag(start), room])?;
+                self.say(clip_record(start), &[Bytes(&record), Number(amount), room])?;
             }
         }
         Ok(())
@@ -532,20 +543,22 @@ impl Out<'_> {
     }
 
     fn random_clip(&mut self, list: &[u32]) -> Done {
-        let (amount, start) = (self.amount(list), self.rng.one_in(2));
+        let start = self.rng.one_in(2);
+        let amount = self.amount(list, start);
         let room = self.room(clipped_places(list, amount, start));
-        self.say("clip_cigar_ops_raw", &[List(list), Number(amount), Flag(start), room])
+        self.say(clip_raw(start), &[List(list), Number(amount), room])
     }
 
-    /// An amount: inside the list, at one of its own sums, or at a boundary.
-    fn amount(&mut self, list: &[u32]) -> u64 {
+    /// An amount: inside the list, at one of its own sums, at the last that can be clipped, or at a boundary.
+    fn amount(&mut self, list: &[u32], start: bool) -> u64 {
         let sum: u64 = list.iter().map(|&op| u64::from(op >> 4)).sum();
         let part: u64 = list.iter().take(self.rng.below(list.len() as u64 + 1) as usize).map(|&op| u64::from(op >> 4)).sum();
-        match self.rng.below(8) {
+        match self.rng.below(10) {
             0..=2 => self.rng.below(sum + 3),
             3 | 4 => part.saturating_add_signed(self.rng.range(-1, 1)),
             5 => (sum - part).saturating_add_signed(self.rng.range(-1, 1)),
             6 => self.rng.below(12),
+            7 | 8 => rules::clippable(list, start).saturating_add_signed(self.rng.range(-1, 1)),
             _ => self.rng.pick(&[0, (1 << 28) - 1, 1 << 28, 1 << 31, 1 << 32, 1 << 60, 1 << 63, u64::MAX - 1, u64::MAX]),
         }
     }
@@ -660,9 +673,10 @@ impl Out<'_> {
             let position = position(&mut self.rng, &ops);
             self.say("unclipped_5prime_raw", &[Bytes(record), Signed(position), Flag(reverse)])?;
         }
-        let (amount, start) = (self.amount(&ops), self.rng.one_in(2));
+        let start = self.rng.one_in(2);
+        let amount = self.amount(&ops, start);
         let room = self.room(clipped_places(&ops, amount, start));
-        self.say("clip_cigar_ops", &[Bytes(record), Number(amount), Flag(start), room])
+        self.say(clip_record(start), &[Bytes(record), Number(amount), room])
     }
 
     /// Records whose unclipped position comes near 0 or 2^31 - 1, which the original answers for none: mapped and unmapped, with their ops, without, and with more than there are.
@@ -943,10 +957,11 @@ impl Out<'_> {
         for call in LIST_CALLS {
             self.say(call, &[List(list)])?;
         }
-        for amount in [0, 1, 2, 70_000] {
-            for start in [false, true] {
+        for start in [false, true] {
+            let most = rules::clippable(list, start);
+            for amount in [0, 1, 2, 70_000, most.saturating_sub(1), most, most + 1] {
                 for room in [65_534, 65_535, 65_536, 65_537, 0] {
-                    self.say("clip_cigar_ops_raw", &[List(list), Number(amount), Flag(start), Room(room)])?;
+                    self.say(clip_raw(start), &[List(list), Number(amount), Room(room)])?;
                 }
             }
         }

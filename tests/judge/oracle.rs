@@ -54,8 +54,8 @@ fn hold<T>(due: Option<u8>, original: impl FnOnce() -> T) -> Result<T, Said> {
     }
 }
 
-/// Document 02, item 7: where the original asks for the length of a damaged record and goes on with 0, the length's refusal is due, whatever it says then;
-/// everywhere else the original decides.
+/// Where document 02 refuses what the original answers (item 7: it asks for the length of a damaged record and goes on with 0; item 12: it clips beyond what there is), the refusal
+/// is due, whatever it says then; everywhere else the original decides.
 fn fold<T>(asked: Option<u8>, answer: Result<T, Said>) -> Result<T, Said> {
     match (answer, asked) {
         (Err(Said::Mismatch(words)), _) => Err(Said::Mismatch(words)),
@@ -327,28 +327,33 @@ fn read_pos_at_ref_pos_raw(words: &mut Words) -> Option<Reply> {
     })
 }
 
-fn clipped((list, lost): (Vec<u32>, usize)) -> (Vec<u32>, Said) {
-    let values = Said::Values(vec![count(list.len()), count(lost)]);
-    (list, values)
+/// A clip at an end, past 3 (1 for a record) and 8: the original has both ends in one call, and counts 0 at the end, which isn't told.
+fn clipped(beyond: Option<u8>, start: bool, original: impl FnOnce() -> (Vec<u32>, usize)) -> Result<(Vec<u32>, Said), Said> {
+    let (list, lost) = fold(beyond, hold(None, original))?;
+    match lost {
+        _ if start => Ok((list.clone(), Said::Values(vec![count(list.len()), count(lost)]))),
+        0 => Ok(counted(list)),
+        _ => Err(Said::Mismatch(format!("the original counts {lost} at the end"))),
+    }
 }
 
-fn clip_cigar_ops_raw(words: &mut Words) -> Option<Reply> {
-    let (list, amount, from_start, room) = (words.list()?, words.u64()?, words.flag()?, words.room()?);
+fn clip_raw(words: &mut Words, start: bool) -> Option<Reply> {
+    let (list, amount, room) = (words.list()?, words.u64()?, words.room()?);
     words.done()?;
     let answer = match rules::too_many(&list).or(rules::too_long(&list)) {
         Some(n) => Err(Said::Refusal(n)),
-        None => hold(None, || cigar::clip_cigar_ops_raw(&list, amount as usize, from_start)).map(clipped),
+        None => clipped(rules::beyond(&list, amount, start), start, || cigar::clip_cigar_ops_raw(&list, amount as usize, start)),
     };
     lend(room, FILL_OPS, answer)
 }
 
-fn clip_cigar_ops(words: &mut Words) -> Option<Reply> {
-    let (record, amount, from_start, room) = (words.bytes()?, words.u64()?, words.flag()?, words.room()?);
+fn clip_record(words: &mut Words, start: bool) -> Option<Reply> {
+    let (record, amount, room) = (words.bytes()?, words.u64()?, words.room()?);
     words.done()?;
-    let long = || rules::too_long(&rules::Record(&record).ops().unwrap_or_default());
-    let answer = match rules::too_short(&record).or_else(long) {
+    let list = || rules::Record(&record).ops().unwrap_or_default();
+    let answer = match rules::too_short(&record).or_else(|| rules::too_long(&list())) {
         Some(n) => Err(Said::Refusal(n)),
-        None => hold(None, || RawRecordView::new(&record).clip_cigar_ops(amount as usize, from_start)).map(clipped),
+        None => clipped(rules::beyond(&list(), amount, start), start, || RawRecordView::new(&record).clip_cigar_ops(amount as usize, start)),
     };
     lend(room, FILL_OPS, answer)
 }
@@ -445,7 +450,7 @@ fn set_bin_from_raw_bam(words: &mut Words) -> Option<Reply> {
 }
 
 /// Every call of the protocol, in its order.
-pub const CALLS: [(&str, Call); 51] = [
+pub const CALLS: [(&str, Call); 53] = [
     ("ref_id", |w| of_record(w, never, fields::ref_id, one)),
     ("pos", |w| of_record(w, never, fields::pos, one)),
     ("l_read_name", |w| of_record(w, never, fields::reach::l_read_name, one)),
@@ -485,8 +490,10 @@ pub const CALLS: [(&str, Call); 51] = [
     ("alignment_start_from_raw", |w| of_record(w, rules::alignment_start_overflows, cigar::alignment_start_from_raw, some)),
     ("alignment_end_from_raw", alignment_end_from_raw),
     ("read_pos_at_ref_pos_raw", read_pos_at_ref_pos_raw),
-    ("clip_cigar_ops_raw", clip_cigar_ops_raw),
-    ("clip_cigar_ops", clip_cigar_ops),
+    ("clip_cigar_start_raw", |w| clip_raw(w, true)),
+    ("clip_cigar_end_raw", |w| clip_raw(w, false)),
+    ("clip_cigar_start", |w| clip_record(w, true)),
+    ("clip_cigar_end", |w| clip_record(w, false)),
     ("is_mapped_opposite_strand_pair_raw", |w| of_record(w, never, overlap::is_mapped_opposite_strand_pair_raw, one)),
     ("is_fr_pair_raw", |w| of_asked(w, rules::asked_by_its_pair, never, overlap::reach::is_fr_pair_raw, one)),
     ("is_primary_fr_pair_raw", is_primary_fr_pair_raw),

@@ -42,6 +42,20 @@ pub fn too_long(list: &[u32]) -> Option<u8> {
     (list.iter().map(|&op| u64::from(op / 16)).sum::<u64>() >= TOO_LONG).then_some(8)
 }
 
+/// What can be clipped at an end (document 02, item 12): the bases of the S and H that stand there before any other op, and all M, I, = and X.
+pub fn clippable(list: &[u32], start: bool) -> u64 {
+    let bases = |op: u32| u64::from(op / 16);
+    let inner = |&op: &u32| !is_clip(op);
+    let run = if start { &list[..list.iter().position(inner).unwrap_or(list.len())] } else { &list[list.iter().rposition(inner).map_or(0, |at| at + 1)..] };
+    let reads = list.iter().filter(|&&op| [0, 1, 7, 8].contains(&code(op)));
+    run.iter().chain(reads).map(|&op| bases(op)).sum()
+}
+
+/// 19: clipping by more than that, and not of an empty list.
+pub fn beyond(list: &[u32], amount: u64, start: bool) -> Option<u8> {
+    (!list.is_empty() && amount > clippable(list, start)).then_some(19)
+}
+
 /// 9: lookup, alignment start outside 1 to 2^31.
 pub fn bad_start(start: u64) -> Option<u8> {
     (start < 1 || start > 1 << 31).then_some(9)

@@ -32,9 +32,11 @@ pub enum Refusal {
     BadStart = 9,
     /// `CigarOp::new`: length 0 or above 268,435,455.
     BadLength = 10,
+    /// Clipping: the amount is beyond what can be clipped.
+    AmountBeyond = 19,
 }
 
-const REFUSALS: [(Refusal, &str); 10] = [
+const REFUSALS: &[(Refusal, &str)] = &[
     (Refusal::ShortRecord, "a record has under 32 bytes"),
     (Refusal::AreaOverrun, "the op area ends past the record"),
     (Refusal::TooManyOps, "a list has over 65,535 ops"),
@@ -45,10 +47,17 @@ const REFUSALS: [(Refusal, &str); 10] = [
     (Refusal::TooLong, "clipping: the lengths sum to 2^28 or more"),
     (Refusal::BadStart, "lookup: alignment start outside 1 to 2^31"),
     (Refusal::BadLength, "op length 0 or above 268,435,455"),
+    (Refusal::AmountBeyond, "clipping: the amount is beyond what can be clipped"),
 ];
 
+// The refusal of a number, and its words.
+#[cold]
+fn numbered(number: u32) -> (Refusal, &'static str) {
+    *REFUSALS.iter().find(|(why, _)| why.number() == number).expect("a number of the library")
+}
+
 impl Refusal {
-    /// The refusal's number, 1 to 10.
+    /// The refusal's number.
     #[inline]
     pub fn number(self) -> u32 {
         self as u32
@@ -57,7 +66,7 @@ impl Refusal {
 
 impl fmt::Display for Refusal {
     fn fmt(&self, f: &mut fmt::Formatter<'_>) -> fmt::Result {
-        write!(f, "refusal {}: {}", self.number(), REFUSALS[self.number() as usize - 1].1)
+        write!(f, "refusal {}: {}", self.number(), numbered(self.number()).1)
     }
 }
 
@@ -103,7 +112,7 @@ const KINDS: [CigarKind; 9] = [
 fn unless<A>(refusal: u32, answer: A) -> Result<A, Refusal> {
     match refusal {
         0 => Ok(answer),
-        number => Err(REFUSALS[number as usize - 1].0),
+        number => Err(numbered(number).0),
     }
 }
 
@@ -404,16 +413,28 @@ pub fn read_pos_at_ref_pos_raw(ops: &[u32], alignment_start: usize, ref_pos: usi
     unless(a.refusal.into(), (a.found.then_some(a.value as usize), a.examined as usize))
 }
 
-/// The clipped list into the first places of `out`; the ops written, and the reference bases lost at the start.
+/// The list clipped at the start into the first places of `out`; the ops written, and the reference bases lost.
 #[inline]
-pub fn clip_cigar_ops_raw(ops: &[u32], clip_amount: usize, from_start: bool, out: &mut [u32]) -> Result<(usize, usize), Refusal> {
-    two(unsafe { raw::cigar_clip_cigar_ops_raw(ops.as_ptr(), ops.len(), clip_amount as u64, from_start as u8, out.as_mut_ptr(), out.len()) })
+pub fn clip_cigar_start_raw(ops: &[u32], clip_amount: usize, out: &mut [u32]) -> Result<(usize, usize), Refusal> {
+    two(unsafe { raw::cigar_clip_cigar_start_raw(ops.as_ptr(), ops.len(), clip_amount as u64, out.as_mut_ptr(), out.len()) })
 }
 
-/// The same of a record's ops.
+/// The list clipped at the end into the first places of `out`; the ops written.
 #[inline]
-pub fn clip_cigar_ops(bam: &[u8], clip_amount: usize, from_start: bool, out: &mut [u32]) -> Result<(usize, usize), Refusal> {
-    two(unsafe { raw::cigar_clip_cigar_ops(bam.as_ptr(), bam.len(), clip_amount as u64, from_start as u8, out.as_mut_ptr(), out.len()) })
+pub fn clip_cigar_end_raw(ops: &[u32], clip_amount: usize, out: &mut [u32]) -> Result<usize, Refusal> {
+    count(unsafe { raw::cigar_clip_cigar_end_raw(ops.as_ptr(), ops.len(), clip_amount as u64, out.as_mut_ptr(), out.len()) })
+}
+
+/// A record's ops clipped at the start, as `clip_cigar_start_raw` does.
+#[inline]
+pub fn clip_cigar_start(bam: &[u8], clip_amount: usize, out: &mut [u32]) -> Result<(usize, usize), Refusal> {
+    two(unsafe { raw::cigar_clip_cigar_start(bam.as_ptr(), bam.len(), clip_amount as u64, out.as_mut_ptr(), out.len()) })
+}
+
+/// A record's ops clipped at the end, as `clip_cigar_end_raw` does.
+#[inline]
+pub fn clip_cigar_end(bam: &[u8], clip_amount: usize, out: &mut [u32]) -> Result<usize, Refusal> {
+    count(unsafe { raw::cigar_clip_cigar_end(bam.as_ptr(), bam.len(), clip_amount as u64, out.as_mut_ptr(), out.len()) })
 }
 
 /// The same of two records, by the reverse one.

@@ -100,8 +100,10 @@ extern "C" {
     pub fn cigar_alignment_start_from_raw(rec: *const u8, rec_len: usize) -> Found;
     pub fn cigar_alignment_end_from_raw(rec: *const u8, rec_len: usize) -> Found;
     pub fn cigar_read_pos_at_ref_pos_raw(ops: *const u32, ops_len: usize, start: u64, position: u64, last_base_if_deleted: u8) -> Lookup;
-    pub fn cigar_clip_cigar_ops_raw(ops: *const u32, ops_len: usize, amount: u64, from_start: u8, out: *mut u32, out_len: usize) -> Two;
-    pub fn cigar_clip_cigar_ops(rec: *const u8, rec_len: usize, amount: u64, from_start: u8, out: *mut u32, out_len: usize) -> Two;
+    pub fn cigar_clip_cigar_start_raw(ops: *const u32, ops_len: usize, amount: u64, out: *mut u32, out_len: usize) -> Two;
+    pub fn cigar_clip_cigar_end_raw(ops: *const u32, ops_len: usize, amount: u64, out: *mut u32, out_len: usize) -> Count;
+    pub fn cigar_clip_cigar_start(rec: *const u8, rec_len: usize, amount: u64, out: *mut u32, out_len: usize) -> Two;
+    pub fn cigar_clip_cigar_end(rec: *const u8, rec_len: usize, amount: u64, out: *mut u32, out_len: usize) -> Count;
     pub fn cigar_is_mapped_opposite_strand_pair_raw(rec: *const u8, rec_len: usize) -> Flag;
     pub fn cigar_is_fr_pair_raw(rec: *const u8, rec_len: usize) -> Flag;
     pub fn cigar_is_primary_fr_pair_raw(rec: *const u8, rec_len: usize, mate: *const u8, mate_len: usize) -> Flag;

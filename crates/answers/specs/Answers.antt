@@ -1,10 +1,10 @@
--- Document 01, "Numbers and their bounds": the number of each refusal; and of each answer its number, 0 for a value, and its values.
+-- Document 01, "Numbers and their bounds", and document 02: the number of each refusal; and of each answer its number, 0 for a value, and its values.
 use Prim.Native.Nat.{ℕ}
 use mathlib.Core.Bool.{Bool, cond}
 use mathlib.Core.List.{List, [], _∷_}
 use lib.IntN.{ℤ, pos}
 use Rattle.answers.specs.declared.Refusal.{Refusal}
-use Rattle.answers.specs.declared.Refusal.the-variants.{ShortRecord, AreaOverrun, TooManyOps, Overflow, NotACigar, NoRoom, BadCode, TooLong, BadStart, BadLength}
+use Rattle.answers.specs.declared.Refusal.the-variants.{ShortRecord, AreaOverrun, TooManyOps, Overflow, NotACigar, NoRoom, BadCode, TooLong, BadStart, BadLength, AmountBeyond}
 use Rattle.answers.specs.declared.Int.{Int}
 use Rattle.answers.specs.declared.Int.the-variants as Int
 use Rattle.answers.specs.declared.Nat.{Nat}
@@ -29,6 +29,7 @@ numberOf BadCode = 7
 numberOf TooLong = 8
 numberOf BadStart = 9
 numberOf BadLength = 10
+numberOf AmountBeyond = 19
 
 -- what a caller is told: a refusal carries its number and no value
 pub record Told : Type 0 where

@@ -2,7 +2,7 @@
 ghost use mathlib.Core.Path.{_≡_};
 ghost use Rattle.answers.specs.Answers.{numberOf, bare0};
 
-// Why a call answers no value: one variant for each of the ten numbers, in their order.
+// Why a call answers no value: one variant for each number, in their order.
 pub enum Refusal {
     ShortRecord,
     AreaOverrun,
@@ -14,6 +14,7 @@ pub enum Refusal {
     TooLong,
     BadStart,
     BadLength,
+    AmountBeyond,
 }
 
 // A signed number.
@@ -59,7 +60,7 @@ pub enum Place1 {
     Refused(Refusal),
 }
 
-// Document 01's number of a refusal.
+// The number of a refusal: document 01's up to 10, and document 02's.
 pub fn number(why: Refusal) -> u32
     ensures { λ r. ⌜ r ≡ numberOf why ⌝ }
 {
@@ -74,6 +75,7 @@ pub fn number(why: Refusal) -> u32
         Refusal::TooLong => 8,
         Refusal::BadStart => 9,
         Refusal::BadLength => 10,
+        Refusal::AmountBeyond => 19,
     }
 }
 

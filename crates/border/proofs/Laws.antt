@@ -6,7 +6,7 @@ use mathlib.Core.List.{List}
 use native.Mathlib.Omega.{arith}
 use Rattle.answers.specs.Answers.{Told, flagValue, numberOf}
 use Rattle.answers.specs.declared.Refusal.{Refusal}
-use Rattle.answers.specs.declared.Refusal.the-variants.{ShortRecord, AreaOverrun, TooManyOps, Overflow, NotACigar, NoRoom, BadCode, TooLong, BadStart, BadLength}
+use Rattle.answers.specs.declared.Refusal.the-variants.{ShortRecord, AreaOverrun, TooManyOps, Overflow, NotACigar, NoRoom, BadCode, TooLong, BadStart, BadLength, AmountBeyond}
 use Rattle.answers.specs.Settled.{Outcome, Settled}
 use Rattle.border.specs.Border.{isSet, across}
 
@@ -31,3 +31,4 @@ small-number BadCode = omega arith
 small-number TooLong = omega arith
 small-number BadStart = omega arith
 small-number BadLength = omega arith
+small-number AmountBeyond = omega arith

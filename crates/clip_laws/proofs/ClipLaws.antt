@@ -8,15 +8,17 @@ use lib.ListN.{length}
 use lib.Dec.{eqb, leb}
 use borrow.Author.Tests.{le-leb, lt-leb, leb-true, leb-false, ne-eqb, eqb-true, eqb-false}
 use Rattle.lists.specs.Lists.{sumOf}
-use Rattle.lists.proofs.Sums.{sum-cons}
+use Rattle.lists.proofs.Sums.{sum-cons, sum-append}
 use Rattle.sam.specs.Op.{lenOf, codeOf}
 use Rattle.ops.specs.Ops.{readLen, isClip}
 use Rattle.clip_runs.specs.Clips.{outerHard}
 use Rattle.clip_rules.specs.Clipping.{Taken, more, taking, Cut, hardOf, softOf, upgraded, cutInto, clip}
-use Rattle.clip_rules.proofs.RuleLaws.{cut-eq, take-nil, goes-enough, clip-none}
+use Rattle.clip_rules.specs.Answer.{clippable}
+use Rattle.clip_rules.proofs.RuleLaws.{cut-eq, take-nil, goes-enough, taking-reads, taking-enough, clip-none}
+use Rattle.clip_rules.proofs.BeyondLaws.{inside-reads}
 use Rattle.clip_laws.specs.Demand3.{keptLen, All, isInner, EndsInsertion}
 use Rattle.clip_laws.proofs.TakeLaws.{Way, whole, none, over, cuts, way, take-whole, take-none, take-over, take-cut, two-goes, same-take}
-use Rattle.clip_laws.proofs.ShapeLaws.{Headed, Runs, fair, runs-clipped, kept-split, hard-head, kept-hard, kept-soft}
+use Rattle.clip_laws.proofs.ShapeLaws.{Headed, Runs, fair, runs-clipped, kept-split, hard-head, clips-head, reads-head, kept-hard, kept-soft}
 
 -- ---- the rule, by the runs
 
@@ -218,6 +220,42 @@ module _ {xs : List ℕ} {h s : ℕ} {l : List ℕ} (R : Runs xs h s l) (a b : �
           let k = leb-false a (h + s) f in
           inner-more k (H k) (leb-false b (h + s + taking l (a - (h + s)) .bases) i)
 
+-- ---- what can be clipped afterwards
+
+reads-are : {xs : List ℕ} {h s : ℕ} {l : List ℕ} → Runs xs h s l → sumOf readLen xs ≡ sumOf readLen l
+reads-are {xs} R = sym (inside-reads xs) ∙ ap (sumOf readLen) (R .inside-is)
+
+module _ {xs : List ℕ} {h s : ℕ} {l : List ℕ} (R : Runs xs h s l) where
+  still-soft : (a : ℕ) → (a ≡ 0 → ⊥) → a ≤ h + s → clippable xs true ≤ clippable (clip xs a .ops) true
+  unfolding clippable
+  still-soft a z k =
+      let R' = runs-clipped (h + (a - h)) (s - (a - h)) l (R .begins) in
+      let e = reads-are R in
+      let f = reads-are R' in
+      let p = R .clips-are in
+      let q = R' .clips-are in
+      rw (on-soft R a z k) (omega arith)
+
+  still-inner : (a : ℕ) → h + s < a → clippable xs true ≤ clippable (clip xs a .ops) true
+  unfolding clippable
+  still-inner a k =
+      let t = taking l (a - (h + s)) in
+      let e = reads-are R in
+      let p = R .clips-are in
+      let q = clips-head (h + s + t .bases) (t .left) in
+      let r = reads-head (h + s + t .bases) (t .left) in
+      let w = taking-reads l (a - (h + s)) in
+      rw (on-inner R a k) (omega arith)
+
+  -- no less: a clip puts as many clips in place as it takes clips and read bases
+  pub still-clippable : (a : ℕ) → clippable xs true ≤ clippable (clip xs a .ops) true
+  still-clippable a = go (eqb a 0) refl (leb a (h + s)) refl
+    where
+      go : (z : Bool) → eqb a 0 ≡ z → (p : Bool) → leb a (h + s) ≡ p → clippable xs true ≤ clippable (clip xs a .ops) true
+      go true e p f = rw (on-none R a (eqb-true a 0 e)) (omega arith)
+      go false e true f = still-soft a (eqb-false a 0 e) (leb-true a (h + s) f)
+      go false e false f = still-inner a (leb-false a (h + s) f)
+
 -- ---- once
 
 -- what one clip does: enough is hard clipped, and the query and hard bases are kept
@@ -245,7 +283,9 @@ module _ {xs : List ℕ} (inner tail : List ℕ) {h s : ℕ} (R : Runs xs h s (i
   once-inner k =
       let l = inner ++ tail in
       let t = taking l (a - (h + s)) in
-      let F = fair inner tail (a - (h + s)) I T (omega arith) in
+      let f = fair inner tail (a - (h + s)) I T (omega arith) in
+      let e = sum-append readLen inner tail in
+      let g = taking-enough l (a - (h + s)) (omega arith) in
       let p = hard-head (h + s + t .bases) (t .left) in
       let q = kept-hard (h + s + t .bases) (t .left) in
       let v = kept-parts in

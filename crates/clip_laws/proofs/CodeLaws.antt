@@ -1,7 +1,7 @@
 -- What the tables of codes say of each other: a test that antt computes over the 16 codes, carried to each.
 use mathlib.Core.Path.{_≡_, refl, ap, _∙_}
-use mathlib.Core.Bool.{Bool, true, false, cond, not, Bool·beq}
-use Prim.Native.Nat.{ℕ, _<_}
+use mathlib.Core.Bool.{Bool, true, false, not, Bool·beq}
+use Prim.Native.Nat.{ℕ}
 use native.Mathlib.Omega.{arith}
 use lib.Dec.{eqb}
 use borrow.Author.Tests.{ne-eqb, not-true}
@@ -11,6 +11,7 @@ use Rattle.sam.specs.Op.{lenOf, codeOf, opOf, isRef, isQuery, refLen, queryLen}
 use Rattle.ops.specs.Ops.{isRead, readLen}
 use Rattle.clip_runs.specs.Clips.{isHard, lenIf}
 use Rattle.clip_rules.specs.Clipping.{hardOf}
+use Rattle.clip_rules.proofs.CodeLaws.{read-is, op-len, op-code}
 use Rattle.clip_laws.specs.Demand3.{isInner, keptLen}
 
 -- if one test holds of a code, so does another: computed for the codes
@@ -30,19 +31,6 @@ pub never : (p q : ℕ → Bool) → below (λ d. imp (p d) (not (q d))) 16 ≡ 
 never p q h o e = not-true (q (codeOf o)) (by-codes p (λ d. not (q d)) h o e)
 
 -- ---- read bases
-
--- an op with read bases reads its whole length
-pub read-all : (n o : ℕ) → n < readLen o → isRead (codeOf o) ≡ true
-unfolding readLen
-read-all n o = go (isRead (codeOf o))
-  where
-    go : (b : Bool) → n < cond b (lenOf o) 0 → b ≡ true
-    go true h = refl
-    go false h = absurd (omega arith)
-
-pub read-is : (o : ℕ) → isRead (codeOf o) ≡ true → readLen o ≡ lenOf o
-unfolding readLen
-read-is o e = simp e
 
 pub read-I : (o : ℕ) → codeOf o ≡ 1 → readLen o ≡ lenOf o
 unfolding isRead
@@ -67,16 +55,7 @@ cut-ref o e z =
 
 -- ---- an op that is cut
 
-pub op-len : (n o : ℕ) → lenOf (opOf n (codeOf o)) ≡ n
-op-len n o = omega arith
-
-pub op-code : (n o : ℕ) → codeOf (opOf n (codeOf o)) ≡ codeOf o
-op-code n o = omega arith
-
--- what is left of it reads and refers to what its length says
-pub cut-read : (k o : ℕ) → isRead (codeOf o) ≡ true → readLen (opOf k (codeOf o)) ≡ k
-cut-read k o e = read-is (opOf k (codeOf o)) (ap isRead (op-code k o) ∙ e) ∙ op-len k o
-
+-- what is left of it refers to what its length says
 pub cut-refs : (k o : ℕ) → isRead (codeOf o) ≡ true → (codeOf o ≡ 1 → ⊥) → refLen (opOf k (codeOf o)) ≡ k
 cut-refs k o e z = ref-is (opOf k (codeOf o)) (ap isRef (op-code k o) ∙ cut-ref o e z) ∙ op-len k o
 

@@ -1,29 +1,33 @@
--- Demand 3: the facing list's laws carried to both ends, for every call that clips by the rule; no call is refused, since a clip adds at most one op and no length.
-use mathlib.Core.Path.{_≡_, refl, sym, ap, _∙_}
-use mathlib.Core.Bool.{Bool, true, false, cond, _||_}
+-- Demand 3: the facing list's laws carried to both ends, for every call that clips by the rule; no call is refused, since a clip adds at most one op and no length, and what
+-- could be clipped still can.
+use mathlib.Core.Path.{_≡_, refl, sym, subst, ap, _∙_}
+use mathlib.Core.Bool.{Bool, true, false, _||_}
 use mathlib.Core.List.{List, [], _∷_, _++_, reverse, reverse-cons}
 use Prim.Native.Nat.{ℕ, _+_, _-_, _^_, _≤_, _<_}
 use native.Mathlib.Omega.{arith}
 use lib.ListN.{length, take, drop, length-append}
 use lib.Seq.{take-at}
-use lib.Dec.{eqb, leb}
+use lib.Dec.{eqb, leb, ltb}
 use borrow.Author.Tests.{leb-true, leb-false, eqb-true, eqb-false, le-ltb}
 use Rattle.lists.specs.Lists.{facing, splice, sumOf}
 use Rattle.lists.proofs.ListLaws.{length-facing}
 use Rattle.lists.proofs.Sums.{sum-cons, sum-append, sum-facing, facing-facing}
 use Rattle.sam.specs.Op.{lenOf, codeOf, refLen}
 use Rattle.ops.specs.Ops.{readLen}
-use Rattle.clip_runs.specs.Clips.{outerHard}
+use Rattle.clip_runs.specs.Clips.{outerHard, leadingClips}
 use Rattle.clip_rules.specs.Clipping.{taking, Cut, hardOf, softOf, clip}
 use Rattle.answers.specs.Settled.{Outcome}
-use Rattle.clip_rules.specs.Answer.{clippedOps, clippedCount, clippedUpTo, clippedRecord, written}
+use Rattle.answers.specs.declared.Count.{Count}
+use Rattle.answers.specs.declared.Count.the-variants.{Number}
+use Rattle.clip_rules.specs.Answer.{clippedOps, clippedCount, clippable, isBeyond, clippedInto, clippedUpTo, clippedRecord, written, withoutCount, recordStart, recordEnd}
 use Rattle.clip_rules.specs.declared.Clipped.{Clipped}
 use Rattle.clip_rules.specs.declared.Clipped.the-variants.{Done}
 use Rattle.clip_rules.proofs.AnswerLaws.{within, accepted}
-use Rattle.clip_laws.specs.Demand3.{isInner, keptLen, Shaped, Takes, most, survives, EndsInsertion, Clipper, Answers, Once, Twice, Demand3, Itself, InRecord}
+use Rattle.clip_rules.proofs.BeyondLaws.{some-beyond, not-within}
+use Rattle.clip_laws.specs.Demand3.{isInner, keptLen, Shaped, Takes, most, survives, Clipper, Leaves, StartGives, EndGives, Given, Clips, Further, StartOnce, StartTwice, Demand3Start, EndOnce, Demand3End, Itself, InRecord}
 use Rattle.clip_laws.proofs.CodeLaws.{hard-len, hard-code}
-use Rattle.clip_laws.proofs.ShapeLaws.{Headed, left-headed, left-length, left-total, soft-length, soft-total, shaped-facing, shaped-inner, tail-clips, shaped-runs}
-use Rattle.clip_laws.proofs.ClipLaws.{once, twice, on-none, on-soft, on-inner}
+use Rattle.clip_laws.proofs.ShapeLaws.{Headed, left-headed, left-length, left-total, soft-length, soft-total, shaped-facing, shaped-inner, tail-clips, shaped-runs, shaped-reads}
+use Rattle.clip_laws.proofs.ClipLaws.{once, twice, still-clippable, on-none, on-soft, on-inner}
 use Rattle.clip_laws.proofs.Drops.{clip-drops, drops-length}
 
 -- ---- what survives, from either end
@@ -127,144 +131,233 @@ ops-facing : (xs : List ℕ) (a : ℕ) (start : Bool) → facing start (clippedO
 unfolding clippedOps
 ops-facing xs a start = facing-facing start (clip (facing start xs) a .ops)
 
-module _ {limit : ℕ} (xs : List ℕ) (a : ℕ) (start : Bool) (D : Takes limit xs) where
-  shape' : Shaped (facing start xs)
-  shape' = shaped-facing start xs (D .shape)
+-- the count and the reference length that is left, for every list and amount
+lost-is : (xs : List ℕ) (a : ℕ) (start : Bool) → clippedCount xs a start + sumOf refLen (clippedOps xs a start) ≡ sumOf refLen xs
+unfolding clippedCount
+lost-is xs a start =
+    let p = sum-facing refLen start (clippedOps xs a start) in
+    let q = drops-length (facing start xs) (facing start (clippedOps xs a start)) (clip (facing start xs) a .lost) (clip-drops xs a start) in
+    let r = sum-facing refLen start xs in
+    omega arith
 
-  small-ops : (length (clippedOps xs a start) ≤ length xs + 1) × (sumOf lenOf (clippedOps xs a start) ≤ sumOf lenOf xs)
-  small-ops =
-      let m = small (facing start xs) shape' a in
-      let p = length-facing start xs in
-      let q = sum-facing lenOf start xs in
-      let r = ap length (ops-facing xs a start) in
-      let t = ap (sumOf lenOf) (ops-facing xs a start) in
-      let u = length-facing start (clippedOps xs a start) in
-      let v = sum-facing lenOf start (clippedOps xs a start) in
-      (omega (arith, m .long), omega (arith, m .total))
+module _ {limit : ℕ} (xs : List ℕ) (start : Bool) (T : Takes limit xs) where
+  seen : Shaped (facing start xs)
+  seen = shaped-facing start xs (T .shape)
 
-  within' : a ≤ most (D .shape) start → a ≤ sumOf lenOf (shape' .hards) + sumOf lenOf (shape' .softs) + sumOf readLen (shape' .inner)
-  unfolding shape'
-  within' le = let p = shaped-runs shape' .clips-are in let q = shaped-inner start xs (D .shape) in omega arith
+  -- demand 3's amounts are those that can be clipped
+  most-is : most (T .shape) start ≡ clippable xs start
+  unfolding clippable
+  most-is = let r = shaped-reads (T .shape) in omega arith
 
-  -- the count at either end, by which it is
-  count-is : (s : Bool) → start ≡ s → clippedCount xs a start ≡ cond s (clip (facing start xs) a .lost) 0
-  unfolding clippedCount
-  count-is s e = ap (λ (t : Bool). cond t (clip (facing start xs) a .lost) 0) e
+  -- so 19 is due exactly where the amount is none of them
+  pub beyond-is : (a : ℕ) → isBeyond xs a start ≡ ltb (most (T .shape) start) a
+  beyond-is a = some-beyond xs a start (λ e. let l = length-facing start xs in shaped-runs seen .some (omega arith)) ∙ ap (λ (n : ℕ). ltb n a) (sym most-is)
 
-counts : (start : Bool) (p q : ℕ) → cond start p 0 + cond start q 0 ≡ cond start (p + q) 0
-counts true p q = refl
-counts false p q = refl
+  module _ (a : ℕ) where
+    small-ops : (length (clippedOps xs a start) ≤ length xs + 1) × (sumOf lenOf (clippedOps xs a start) ≤ sumOf lenOf xs)
+    small-ops =
+        let m = small (facing start xs) seen a in
+        let p = length-facing start xs in
+        let q = sum-facing lenOf start xs in
+        let r = ap length (ops-facing xs a start) in
+        let t = ap (sumOf lenOf) (ops-facing xs a start) in
+        let u = length-facing start (clippedOps xs a start) in
+        let v = sum-facing lenOf start (clippedOps xs a start) in
+        (omega (arith, m .long), omega (arith, m .total))
 
-module _ {limit : ℕ} (xs : List ℕ) (a b : ℕ) (start : Bool) (D : Takes limit xs) (le : a ≤ b) where
-  shape'' : Shaped (facing start xs)
-  shape'' = shaped-facing start xs (D .shape)
+    clips-is : a ≤ most (T .shape) start → Clips start xs a (clippedOps xs a start)
+    unfolding seen
+    clips-is le =
+        let p = shaped-runs seen .clips-are in
+        let q = shaped-inner start xs (T .shape) in
+        let O = once (seen .inner) (seen .softs' ++ seen .hards') (shaped-runs seen) (seen .inner-are) (tail-clips seen) a (omega arith) in
+        let e = ops-facing xs a start in
+        let k₁ = sum-facing keptLen start (clippedOps xs a start) in
+        let k₂ = ap (sumOf keptLen) e in
+        let k₃ = sum-facing keptLen start xs in
+        record {
+          floor = let h = ap outerHard e in omega (arith, O .floor);
+          kept = omega (arith, O .kept);
+          long = small-ops .0;
+        }
 
-  headed : survives (clippedOps xs a start) ≡ true → sumOf lenOf (shape'' .hards) + sumOf lenOf (shape'' .softs) < a
-      → Headed (taking (shape'' .inner ++ (shape'' .softs' ++ shape'' .hards')) (a - (sumOf lenOf (shape'' .hards) + sumOf lenOf (shape'' .softs))) .left)
-  headed v k =
-      let l = shape'' .inner ++ (shape'' .softs' ++ shape'' .hards') in
-      let h = sumOf lenOf (shape'' .hards) + sumOf lenOf (shape'' .softs) in
-      left-headed (shape'' .inner) (shape'' .softs' ++ shape'' .hards') (a - h) (shape'' .inner-are) (tail-clips shape'')
-      (sym (survives-hard (h + taking l (a - h) .bases) (taking l (a - h) .left))
-      ∙ ap (λ (c : Cut). survives (c .ops)) (sym (on-inner (shaped-runs shape'') a k))
-      ∙ ap survives (sym (ops-facing xs a start))
-      ∙ survives-facing start (clippedOps xs a start)
-      ∙ v)
+    -- what can be clipped after it is no less
+    still : clippable xs start ≤ clippable (clippedOps xs a start) start
+    unfolding clippable
+    still =
+        let p = still-clippable (shaped-runs seen) a in
+        let q = ap leadingClips (ops-facing xs a start) in
+        let r = ap (sumOf readLen) (ops-facing xs a start) in
+        let u = sum-facing readLen start xs in
+        let v = sum-facing readLen start (clippedOps xs a start) in
+        omega arith
 
-  pub rule-twice : survives (clippedOps xs a start) ≡ true → (EndsInsertion (facing start xs) a b → ⊥)
-      → (clippedOps (clippedOps xs a start) b start ≡ clippedOps xs b start) × (clippedCount xs a start + clippedCount (clippedOps xs a start) b start ≡ clippedCount xs b start)
-  unfolding clippedOps clippedCount
-  rule-twice v E =
-      let t = twice (shaped-runs shape'') a b le (headed v) E in
-      let f = ops-facing xs a start in (
-        ap (λ (l : List ℕ). facing start (clip l b .ops)) f ∙ ap (λ (c : Cut). facing start (c .ops)) (sym t),
-        ap (λ (l : List ℕ). cond start (clip (facing start xs) a .lost) 0 + cond start (clip l b .lost) 0) f
-            ∙ counts start (clip (facing start xs) a .lost) (clip (clip (facing start xs) a .ops) b .lost)
-            ∙ ap (λ (c : Cut). cond start (c .lost) 0) (sym t),
-      )
+    module _ (b : ℕ) (F : Further start xs a b (clippedOps xs a start)) where
+      headed : sumOf lenOf (seen .hards) + sumOf lenOf (seen .softs) < a
+          → Headed (taking (seen .inner ++ (seen .softs' ++ seen .hards')) (a - (sumOf lenOf (seen .hards) + sumOf lenOf (seen .softs))) .left)
+      headed k =
+          let l = seen .inner ++ (seen .softs' ++ seen .hards') in
+          let h = sumOf lenOf (seen .hards) + sumOf lenOf (seen .softs) in
+          left-headed (seen .inner) (seen .softs' ++ seen .hards') (a - h) (seen .inner-are) (tail-clips seen)
+          (sym (survives-hard (h + taking l (a - h) .bases) (taking l (a - h) .left))
+          ∙ ap (λ (c : Cut). survives (c .ops)) (sym (on-inner (shaped-runs seen) a k))
+          ∙ ap survives (sym (ops-facing xs a start))
+          ∙ survives-facing start (clippedOps xs a start)
+          ∙ F .survivor)
 
--- ---- two answers into one buffer are the same list and count
+      rule-twice : (clippedOps (clippedOps xs a start) b start ≡ clippedOps xs b start) × (clippedCount xs a start + clippedCount (clippedOps xs a start) b start ≡ clippedCount xs b start)
+      unfolding clippedOps clippedCount
+      rule-twice =
+          let t = twice (shaped-runs seen) a b (F .le) headed (F .apart) in
+          let f = ops-facing xs a start in (
+            ap (λ (l : List ℕ). facing start (clip l b .ops)) f ∙ ap (λ (c : Cut). facing start (c .ops)) (sym t),
+            ap (λ (l : List ℕ). clip (facing start xs) a .lost + clip l b .lost) f ∙ ap (λ (c : Cut). c .lost) (sym t),
+          )
+
+-- ---- two answers into one buffer are the same answer, and where they tell its length the same list
 
 pub take-written : (d xs : List ℕ) → take (length xs) (splice d 0 xs) ≡ xs
 unfolding splice
 take-written d xs = take-at xs (drop (0 + length xs) d) (length xs) refl
 
-pub same-written : (d xs ys : List ℕ) (m n : ℕ) → written xs m d ≡ written ys n d → (xs ≡ ys) × (m ≡ n)
-same-written d xs ys m n e =
-    let a : Done (length xs) m ≡ Done (length ys) n = ap (λ (o : Outcome Clipped). o .answer) e in
-    let l : splice d 0 xs ≡ splice d 0 ys = ap (λ (o : Outcome Clipped). o .left) e in
+module _ {A : Type 0} (f : Clipper A) (s : List ℕ) (a : ℕ) {x y : A} (xs ys : List ℕ) (X : Leaves f s a x xs) (Y : Leaves f s a y ys) where
+  same : _≡_ {A = Outcome A} (record { answer = x; left = splice (xs ++ ys) 0 xs }) (record { answer = y; left = splice (xs ++ ys) 0 ys })
+  same = let l = length-append xs ys in sym (X (xs ++ ys) (omega arith)) ∙ Y (xs ++ ys) (omega arith)
+
+  same-answer : x ≡ y
+  same-answer = ap (λ (o : Outcome A). o .answer) same
+
+  same-list : length xs ≡ length ys → xs ≡ ys
+  same-list p =
+      let d = xs ++ ys in
+      sym (take-written d xs) ∙ ap (λ (o : Outcome A). take (length xs) (o .left)) same ∙ ap (λ (k : ℕ). take k (splice d 0 ys)) p ∙ take-written d ys
+
+pub same-start : (f : Clipper Clipped) (s : List ℕ) (a : ℕ) (xs ys : List ℕ) (m n : ℕ) → StartGives f s a xs m → StartGives f s a ys n → (xs ≡ ys) × (m ≡ n)
+same-start f s a xs ys m n X Y =
+    let e = same-answer f s a xs ys X Y in
     let p : length xs ≡ length ys = cc in
     let q : m ≡ n = cc in
-    (sym (take-written d xs) ∙ ap (take (length xs)) l ∙ ap (λ (k : ℕ). take k (splice d 0 ys)) p ∙ take-written d ys, q)
+    (same-list f s a xs ys X Y p, q)
 
-pub same-answers : (f : Clipper) (s : List ℕ) (a : ℕ) (start : Bool) (xs ys : List ℕ) (m n : ℕ) → Answers f s a start xs m → Answers f s a start ys n → (xs ≡ ys) × (m ≡ n)
-same-answers f s a start xs ys m n A B =
-    let d = xs ++ ys in
-    let l = length-append xs ys in
-    same-written d xs ys m n (sym (A d (omega arith)) ∙ B d (omega arith))
+pub same-end : (f : Clipper Count) (s : List ℕ) (a : ℕ) (xs ys : List ℕ) → EndGives f s a xs → EndGives f s a ys → xs ≡ ys
+same-end f s a xs ys X Y =
+    let e = same-answer f s a xs ys X Y in
+    let p : length xs ≡ length ys = cc in
+    same-list f s a xs ys X Y p
 
--- ---- DEMAND 3 of every call that clips by the rule what it takes
+-- ---- every call that clips by the rule what it takes, at one end; it tells the ops written, and a count or none
 
-module _ (limit : ℕ) (Holds : List ℕ → List ℕ → Type 0) (f : Clipper)
-    (takes : (s xs : List ℕ) → Holds s xs → length xs ≤ limit → sumOf lenOf xs < 2 ^ 28 → (a : ℕ) (start : Bool) → Answers f s a start (clippedOps xs a start) (clippedCount xs a start)) where
-  module _ (s xs : List ℕ) (H : Holds s xs) (T : Takes limit xs) (start : Bool) where
-    by-rule : (a : ℕ) → Answers f s a start (clippedOps xs a start) (clippedCount xs a start)
-    by-rule a = takes s xs H (omega (arith, T .few)) (T .short) a start
+module _ {A : Type 0} (tells : ℕ → ℕ → A) (limit : ℕ) (Holds : List ℕ → List ℕ → Type 0) (start : Bool) (f : Clipper A) where
+  -- the rule's answer for the list that s holds
+  abbrev Ruled : List ℕ → List ℕ → ℕ → Type 0
+  Ruled s xs a = Leaves f s a (tells (length (clippedOps xs a start)) (clippedCount xs a start)) (clippedOps xs a start)
 
-    once-is : (a : ℕ) → a ≤ most (T .shape) start → Once f s xs a start
-    once-is a le =
-        let S = shape' xs a start T in
-        let O = once (S .inner) (S .softs' ++ S .hards') (shaped-runs S) (S .inner-are) (tail-clips S) a (within' xs a start T le) in
-        let e = ops-facing xs a start in
-        let k₁ = sum-facing keptLen start (clippedOps xs a start) in
-        let k₂ = ap (sumOf keptLen) e in
-        let k₃ = sum-facing keptLen start xs in
-        let r₁ = sum-facing refLen start (clippedOps xs a start) in
-        let r₂ = drops-length (facing start xs) (facing start (clippedOps xs a start)) (clip (facing start xs) a .lost) (clip-drops xs a start) in
-        let r₃ = sum-facing refLen start xs in
+  module _ (rules : (s xs : List ℕ) → Holds s xs → length xs ≤ limit → sumOf lenOf xs < 2 ^ 28 → (a : ℕ) → a ≤ clippable xs start → Ruled s xs a) (s xs : List ℕ) where
+    by-rule : (a : ℕ) → Given limit Holds start s xs a → Ruled s xs a
+    by-rule a G = rules s xs (G .holds) (omega (arith, G .takes .few)) (G .takes .short) a (omega (arith, G .within, most-is xs start (G .takes)))
+
+    less : (a b : ℕ) → a ≤ b → Given limit Holds start s xs b → Given limit Holds start s xs a
+    less a b le G = record { holds = G .holds; takes = G .takes; within = omega (arith, G .within) }
+
+    -- the second call takes what the first left
+    then-rule : (a b : ℕ) → Given limit Holds start s xs b → Further start xs a b (clippedOps xs a start) → (t : List ℕ) → Holds t (clippedOps xs a start)
+        → Leaves f t b (tells (length (clippedOps xs b start)) (clippedCount (clippedOps xs a start) b start)) (clippedOps xs b start)
+    then-rule a b G F t K =
+        let m = small-ops xs start (G .takes) a in
+        let w = still xs start (G .takes) a in
+        let v = most-is xs start (G .takes) in
+        let C = rules t (clippedOps xs a start) K (omega (arith, G .takes .few, m .0)) (omega (arith, G .takes .short, m .1)) b (omega (arith, G .within)) in
+        rw (rule-twice xs start (G .takes) a b F .0) at C
+
+-- ---- DEMAND 3 at the start and at the end
+
+-- the answers of the rule at the start
+abbrev startTells : ℕ → ℕ → Clipped
+startTells n count = Done n count
+
+abbrev endTells : ℕ → ℕ → Count
+endTells n count = Number n
+
+pub start-demand3 : (limit : ℕ) (Holds : List ℕ → List ℕ → Type 0) (f : Clipper Clipped)
+    → ((s xs : List ℕ) → Holds s xs → length xs ≤ limit → sumOf lenOf xs < 2 ^ 28 → (a : ℕ) → a ≤ clippable xs true → StartGives f s a (clippedOps xs a true) (clippedCount xs a true))
+    → Demand3Start limit Holds f
+start-demand3 limit Holds f rules = record { once = once-is; twice = twice-is }
+  where
+    once-is : (s xs : List ℕ) (a : ℕ) → Given limit Holds true s xs a → StartOnce f s xs a
+    once-is s xs a G =
         record {
-          ys = clippedOps xs a start;
-          count = clippedCount xs a start;
-          answers = by-rule a;
-          floor = let h = ap outerHard e in omega (arith, O .floor);
-          kept = omega (arith, O .kept);
-          lost-at-start = λ t. let c = count-is xs a start T _ t in omega arith;
-          none-at-end = λ t. count-is xs a start T _ t;
-          long = small-ops xs a start T .0;
+          ys = clippedOps xs a true;
+          count = clippedCount xs a true;
+          gives = by-rule startTells limit Holds true f rules s xs a G;
+          clips = clips-is xs true (G .takes) a (G .within);
+          lost = lost-is xs a true;
         }
 
-    twice-is : (a b : ℕ) → a ≤ b → b ≤ most (T .shape) start
-        → (ys : List ℕ) (first : ℕ) → Answers f s a start ys first
-        → (zs : List ℕ) (whole : ℕ) → Answers f s b start zs whole
-        → survives ys ≡ true → (EndsInsertion (facing start xs) a b → ⊥)
-        → (t : List ℕ) → Holds t ys → Twice f t b start first zs whole
-    twice-is a b le bound ys first A zs whole B v E t K =
-        let p = same-answers f s a start ys (clippedOps xs a start) first (clippedCount xs a start) A (by-rule a) in
-        let q = same-answers f s b start zs (clippedOps xs b start) whole (clippedCount xs b start) B (by-rule b) in
-        let w = rule-twice xs a b start T le (sym (ap survives (p .0)) ∙ v) E in
-        let m = small-ops xs a start T in
-        let l = ap length (p .0) in
-        let u = ap (sumOf lenOf) (p .0) in
-        let C = takes t ys K (omega (arith, T .few, m .0)) (omega (arith, T .short, m .1)) b start in
-        let x : clippedOps ys b start ≡ zs = ap (λ (k : List ℕ). clippedOps k b start) (p .0) ∙ w .0 ∙ sym (q .0) in
+    twice-is : (s xs : List ℕ) (a b : ℕ) → Given limit Holds true s xs b
+        → (ys : List ℕ) (first : ℕ) → StartGives f s a ys first
+        → (zs : List ℕ) (whole : ℕ) → StartGives f s b zs whole
+        → Further true xs a b ys
+        → (t : List ℕ) → Holds t ys → StartTwice f t b first zs whole
+    twice-is s xs a b G ys first A zs whole B F t K =
+        let p = same-start f s a ys (clippedOps xs a true) first (clippedCount xs a true) A (by-rule startTells limit Holds true f rules s xs a (less startTells limit Holds true f rules s xs a b (F .le) G)) in
+        let q = same-start f s b zs (clippedOps xs b true) whole (clippedCount xs b true) B (by-rule startTells limit Holds true f rules s xs b G) in
+        let F' = subst (Further true xs a b) (p .0) F in
+        let C = then-rule startTells limit Holds true f rules s xs a b G F' t (subst (Holds t) (p .0) K) in
         record {
-          second = clippedCount ys b start;
-          then-b = rw x at C;
-          counts-add = ap (λ (k : ℕ). k + clippedCount ys b start) (p .1) ∙ ap (λ (k : List ℕ). clippedCount xs a start + clippedCount k b start) (p .0) ∙ w .1 ∙ sym (q .1);
+          second = clippedCount (clippedOps xs a true) b true;
+          then-b = rw (← q .0) at C;
+          counts-add = ap (λ (k : ℕ). k + clippedCount (clippedOps xs a true) b true) (p .1) ∙ rule-twice xs true (G .takes) a b F' .1 ∙ sym (q .1);
         }
 
-  pub demand3 : Demand3 limit Holds f
-  demand3 = record { once = once-is; twice = twice-is }
+pub end-demand3 : (limit : ℕ) (Holds : List ℕ → List ℕ → Type 0) (f : Clipper Count)
+    → ((s xs : List ℕ) → Holds s xs → length xs ≤ limit → sumOf lenOf xs < 2 ^ 28 → (a : ℕ) → a ≤ clippable xs false → EndGives f s a (clippedOps xs a false))
+    → Demand3End limit Holds f
+end-demand3 limit Holds f rules = record { once = once-is; twice = twice-is }
+  where
+    once-is : (s xs : List ℕ) (a : ℕ) → Given limit Holds false s xs a → EndOnce f s xs a
+    once-is s xs a G =
+        record {
+          ys = clippedOps xs a false;
+          gives = by-rule endTells limit Holds false f rules s xs a G;
+          clips = clips-is xs false (G .takes) a (G .within);
+        }
 
--- ---- the two calls
+    twice-is : (s xs : List ℕ) (a b : ℕ) → Given limit Holds false s xs b
+        → (ys : List ℕ) → EndGives f s a ys
+        → (zs : List ℕ) → EndGives f s b zs
+        → Further false xs a b ys
+        → (t : List ℕ) → Holds t ys → EndGives f t b zs
+    twice-is s xs a b G ys A zs B F t K =
+        let p = same-end f s a ys (clippedOps xs a false) A (by-rule endTells limit Holds false f rules s xs a (less endTells limit Holds false f rules s xs a b (F .le) G)) in
+        let q = same-end f s b zs (clippedOps xs b false) B (by-rule endTells limit Holds false f rules s xs b G) in
+        let C = then-rule endTells limit Holds false f rules s xs a b G (subst (Further false xs a b) p F) t (subst (Holds t) p K) in
+        rw (← q) at C
 
-pub list-demand3 : (limit : ℕ) → Demand3 limit Itself (clippedUpTo limit)
-list-demand3 limit =
-    demand3 limit Itself (clippedUpTo limit)
-    (λ s xs H few short a start d room. rw H (within xs a start d few ∙ accepted xs a start d (omega arith) room))
+-- ---- the four calls
 
-pub record-demand3 : (limit : ℕ) → Demand3 limit InRecord clippedRecord
+-- the rule's answer into a buffer that has room
+ruled : (xs : List ℕ) (a : ℕ) (start : Bool) → sumOf lenOf xs < 2 ^ 28 → a ≤ clippable xs start → (d : List ℕ) → length (clippedOps xs a start) ≤ length d
+    → clippedInto xs a start d ≡ written (clippedOps xs a start) (clippedCount xs a start) d
+ruled xs a start short le d room = accepted xs a start d (omega arith) (not-within xs a start le) room
+
+-- of a list, and of a record
+of-list : (limit : ℕ) (start : Bool) (s xs : List ℕ) → Itself s xs → length xs ≤ limit → sumOf lenOf xs < 2 ^ 28 → (a : ℕ) → a ≤ clippable xs start → (d : List ℕ) → length (clippedOps xs a start) ≤ length d
+    → clippedUpTo limit s a start d ≡ written (clippedOps xs a start) (clippedCount xs a start) d
+of-list limit start s xs H few short a le d room = rw H (within xs a start d few ∙ ruled xs a start short le d room)
+
+of-record : (start : Bool) (b xs : List ℕ) → InRecord b xs → sumOf lenOf xs < 2 ^ 28 → (a : ℕ) → a ≤ clippable xs start → (d : List ℕ) → length (clippedOps xs a start) ≤ length d
+    → clippedRecord b a start d ≡ written (clippedOps xs a start) (clippedCount xs a start) d
 unfolding clippedRecord
-record-demand3 limit =
-    demand3 limit InRecord clippedRecord
-    (λ b xs H few short a start d room. simp (le-ltb (length b) 32 (H .0), H .1) (accepted xs a start d (omega arith) room))
+of-record start b xs H short a le d room = simp (le-ltb (length b) 32 (H .0), H .1) (ruled xs a start short le d room)
+
+pub list-start : (limit : ℕ) → Demand3Start limit Itself (λ xs a d. clippedUpTo limit xs a true d)
+list-start limit = start-demand3 limit Itself _ (of-list limit true)
+
+pub list-end : (limit : ℕ) → Demand3End limit Itself (λ xs a d. withoutCount (clippedUpTo limit xs a false d))
+list-end limit = end-demand3 limit Itself _ (λ s xs H few short a le d room. ap withoutCount (of-list limit false s xs H few short a le d room))
+
+pub record-start : (limit : ℕ) → Demand3Start limit InRecord recordStart
+record-start limit = start-demand3 limit InRecord recordStart (λ b xs H few short a le d room. of-record true b xs H short a le d room)
+
+pub record-end : (limit : ℕ) → Demand3End limit InRecord recordEnd
+record-end limit = end-demand3 limit InRecord recordEnd (λ b xs H few short a le d room. ap withoutCount (of-record false b xs H short a le d room))

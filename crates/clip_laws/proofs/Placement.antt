@@ -20,7 +20,8 @@ use Rattle.clip_rules.specs.Clipping.{taking, Cut, hardOf, softOf, upgraded, cu
 use Rattle.clip_rules.specs.Answer.{clippedOps}
 use Rattle.clip_rules.proofs.RuleLaws.{take-nil}
 use Rattle.clip_laws.specs.Placement.{KeepsPlaced}
-use Rattle.clip_laws.proofs.CodeLaws.{op-code, hard-code, soft-code}
+use Rattle.clip_rules.proofs.CodeLaws.{op-code}
+use Rattle.clip_laws.proofs.CodeLaws.{hard-code, soft-code}
 use Rattle.clip_laws.proofs.TakeLaws.{Way, whole, none, over, cuts, way, take-whole, take-none, take-over, take-cut}
 
 -- ---- from the other end

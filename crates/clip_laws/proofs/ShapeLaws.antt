@@ -10,16 +10,16 @@ use borrow.Author.Tests.{eq-eqb, eqb-true}
 use Rattle.lists.specs.Lists.{facing, sumOf}
 use Rattle.lists.proofs.Absurd.{false-true}
 use Rattle.lists.proofs.EachLaws.{each-append, each-reverse, each-map}
-use Rattle.lists.proofs.Sums.{sum-cons, sum-facing}
+use Rattle.lists.proofs.Sums.{sum-cons, sum-append, sum-facing}
 use Rattle.sam.specs.Op.{lenOf, codeOf, opOf}
 use Rattle.ops.specs.Ops.{isRead, readLen, isClip}
 use Rattle.clip_runs.specs.Clips.{isHard, isSoft, runLen, afterRun, outerHard, nextSoft, inside, leadingClips}
 use Rattle.clip_rules.specs.Clipping.{Taken, goes, taking, hardOf, softOf}
-use Rattle.clip_rules.proofs.CodeLaws.{read-le}
+use Rattle.clip_rules.proofs.CodeLaws.{read-le, read-H, read-all, read-is, cut-read, op-len, op-code}
 use Rattle.clip_runs.proofs.RunLaws.{run-in, run-out, rest-in, rest-out, run-sum, run-same}
-use Rattle.clip_rules.proofs.RuleLaws.{take-nil, goes-enough}
+use Rattle.clip_rules.proofs.RuleLaws.{take-nil}
 use Rattle.clip_laws.specs.Demand3.{isInner, keptLen, All, Shaped, survives}
-use Rattle.clip_laws.proofs.CodeLaws.{by-codes, never, read-all, read-is, read-I, cut-read, op-len, op-code, hard-len, hard-code, soft-len, soft-code, kept-H, kept-S, kept-read}
+use Rattle.clip_laws.proofs.CodeLaws.{by-codes, never, read-I, hard-len, hard-code, soft-len, soft-code, kept-H, kept-S, kept-read}
 use Rattle.clip_laws.proofs.TakeLaws.{Way, whole, none, over, cuts, way, take-whole, take-none, take-over, take-cut}
 
 -- ---- the query and hard bases of the two runs
@@ -36,13 +36,12 @@ kept-split xs =
 
 -- ---- a taking of no more than the inner ops have
 
--- it takes at least what was wanted, and no query or hard base that it does not count
-pub record Fair (l : List ℕ) (n : ℕ) (t : Taken) : Type 0 where
-  pub enough : n ≤ t .bases
-  pub kept : sumOf keptLen l ≡ t .bases + sumOf keptLen (t .left)
+-- it takes no query or hard base that it does not count
+abbrev Fair : List ℕ → Taken → Type 0
+Fair l t = sumOf keptLen l ≡ t .bases + sumOf keptLen (t .left)
 
-fair-none : (l : List ℕ) (n : ℕ) → n ≡ 0 → Fair l n (record { left = l; bases = 0; lost = 0 })
-fair-none l n z = record { enough = omega arith; kept = omega arith }
+fair-none : (l : List ℕ) → Fair l (record { left = l; bases = 0; lost = 0 })
+fair-none l = omega arith
 
 goes-0 : (o : ℕ) → eqb (codeOf o) 2 ≡ false → goes 0 o ≡ false
 unfolding goes
@@ -53,25 +52,24 @@ unfolding isClip
 clip-stays [] a = take-nil 0
 clip-stays (o ∷ tail) a = take-none 0 o tail (goes-0 o (never isClip (λ d. eqb d 2) refl o (a .0))) refl
 
-fair-nil : (tail : List ℕ) (n : ℕ) → All isClip tail → n ≤ sumOf readLen [] → Fair tail n (taking tail n)
+fair-nil : (tail : List ℕ) (n : ℕ) → All isClip tail → n ≤ sumOf readLen [] → Fair tail (taking tail n)
 unfolding sumOf
 fair-nil tail n c h =
     let z : n ≡ 0 = omega arith in
-    rw z (rw (clip-stays tail c) (fair-none tail 0 refl))
+    rw z (rw (clip-stays tail c) (fair-none tail))
 
-fair-cons : (o : ℕ) (l : List ℕ) (n : ℕ) → isInner (codeOf o) ≡ true → Way n o → (goes n o ≡ true → Fair l (n - readLen o) (taking l (n - readLen o))) → Fair (o ∷ l) n (taking (o ∷ l) n)
+fair-cons : (o : ℕ) (l : List ℕ) (n : ℕ) → isInner (codeOf o) ≡ true → Way n o → (goes n o ≡ true → Fair l (taking l (n - readLen o))) → Fair (o ∷ l) (taking (o ∷ l) n)
 fair-cons o l n i (whole g) ih =
     let F = ih g in
-    let r = goes-enough n o g in
     let a = sum-cons keptLen o l in
     let k = kept-read o i in
-    rw (take-whole n o l g) (record { enough = omega arith; kept = omega arith })
-fair-cons o l n i (none g z) ih = rw (take-none n o l g z) (fair-none (o ∷ l) n z)
+    rw (take-whole n o l g) (omega arith)
+fair-cons o l n i (none g z) ih = rw (take-none n o l g z) (fair-none (o ∷ l))
 fair-cons o l n i (over g z q s) ih =
     let a = sum-cons keptLen o l in
     let k = kept-read o i in
     let r = read-I o q in
-    rw (take-over n o l g z q) (record { enough = omega arith; kept = omega arith })
+    rw (take-over n o l g z q) (omega arith)
 fair-cons o l n i (cuts g z q s) ih =
     let e = read-all n o s in
     let r = read-is o e in
@@ -81,9 +79,9 @@ fair-cons o l n i (cuts g z q s) ih =
     let r' = cut-read m o e in
     let a = sum-cons keptLen o l in
     let a' = sum-cons keptLen (opOf m (codeOf o)) l in
-    rw (take-cut n o l g z q) (record { enough = omega arith; kept = omega arith })
+    rw (take-cut n o l g z q) (omega arith)
 
-pub fair : (inner tail : List ℕ) (n : ℕ) → All isInner inner → All isClip tail → n ≤ sumOf readLen inner → Fair (inner ++ tail) n (taking (inner ++ tail) n)
+pub fair : (inner tail : List ℕ) (n : ℕ) → All isInner inner → All isClip tail → n ≤ sumOf readLen inner → sumOf keptLen (inner ++ tail) ≡ taking (inner ++ tail) n .bases + sumOf keptLen (taking (inner ++ tail) n .left)
 fair [] tail n i c h = fair-nil tail n c h
 fair (o ∷ inner) tail n i c h =
     let e = sum-cons readLen o inner in
@@ -106,6 +104,11 @@ none-survives (o ∷ l) c = simp (never isClip isInner refl o (c .0)) (none-surv
 unread : (o : ℕ) → isClip (codeOf o) ≡ true → readLen o ≡ 0
 unfolding isClip isRead readLen
 unread o e = simp (never isClip isRead refl o e)
+
+clips-unread : (l : List ℕ) → All isClip l → sumOf readLen l ≡ 0
+unfolding sumOf
+clips-unread [] c = refl
+clips-unread (o ∷ l) c = let e = unread o (c .0) in let h = clips-unread l (c .1) in omega arith
 
 clips-go : (tail : List ℕ) (n : ℕ) → All isClip tail → survives (taking tail n .left) ≡ false
 clips-go [] n c = rw (take-nil n) (none-survives [] c)
@@ -252,6 +255,13 @@ pub hard-head : (k : ℕ) (l : List ℕ) → outerHard (hardOf k ∷ l) ≡ k + 
 unfolding outerHard
 hard-head k l = run-in isHard (hardOf k) l lenOf (eq-eqb (codeOf (hardOf k)) 5 (hard-code k)) ∙ ap (λ n. n + runLen isHard l) (hard-len k)
 
+pub clips-head : (k : ℕ) (l : List ℕ) → leadingClips (hardOf k ∷ l) ≡ k + leadingClips l
+unfolding leadingClips
+clips-head k l = run-in isClip (hardOf k) l lenOf (hard-clip (hardOf k) (eq-eqb (codeOf (hardOf k)) 5 (hard-code k))) ∙ ap (λ n. n + runLen isClip l) (hard-len k)
+
+pub reads-head : (k : ℕ) (l : List ℕ) → sumOf readLen (hardOf k ∷ l) ≡ sumOf readLen l
+reads-head k l = let e = sum-cons readLen (hardOf k) l in let f = read-H (hardOf k) (hard-code k) in omega arith
+
 pub kept-hard : (k : ℕ) (l : List ℕ) → sumOf keptLen (hardOf k ∷ l) ≡ k + sumOf keptLen l
 kept-hard k l =
     let e = sum-cons keptLen (hardOf k) l in let f = kept-H (hardOf k) (hard-code k) in let n = hard-len k in omega arith
@@ -329,6 +339,18 @@ module _ {xs : List ℕ} (S : Shaped xs) where
   shaped-runs =
       rw (S .list-is)
       (runs (S .hards) (S .softs) (S .inner ++ (S .softs' ++ S .hards')) (S .hards-are) (S .softs-are) (inner-headed (S .inner) (S .softs' ++ S .hards') (S .inner-are) (S .inner-some)))
+
+  -- the clips read nothing
+  pub shaped-reads : sumOf readLen xs ≡ sumOf readLen (S .inner)
+  shaped-reads =
+      let e = ap (sumOf readLen) (S .list-is) in
+      let p = sum-append readLen (S .hards) (S .softs ++ (S .inner ++ (S .softs' ++ S .hards'))) in
+      let q = sum-append readLen (S .softs) (S .inner ++ (S .softs' ++ S .hards')) in
+      let r = sum-append readLen (S .inner) (S .softs' ++ S .hards') in
+      let h = clips-unread (S .hards) (each-map _ _ hard-clip (S .hards) (S .hards-are)) in
+      let s = clips-unread (S .softs) (each-map _ _ soft-clip (S .softs) (S .softs-are)) in
+      let t = clips-unread (S .softs' ++ S .hards') tail-clips in
+      omega arith
 
 pub shaped-inner : (b : Bool) (xs : List ℕ) (S : Shaped xs) → sumOf readLen (shaped-facing b xs S .inner) ≡ sumOf readLen (S .inner)
 unfolding shaped-facing

@@ -9,8 +9,9 @@ use borrow.Author.Tests.{le-leb, lt-leb, leb-true, leb-false, eq-eqb, ne-eqb, eq
 use Rattle.sam.specs.Op.{lenOf, codeOf, opOf, refLen}
 use Rattle.ops.specs.Ops.{isRead, readLen}
 use Rattle.clip_rules.specs.Clipping.{Taken, more, goes, ends, taking}
+use Rattle.clip_rules.proofs.CodeLaws.{read-all, read-is, cut-read, op-len, op-code}
 use Rattle.clip_rules.proofs.RuleLaws.{taken-eq, more-more, more-none, take-nil, goes-enough, goes-short}
-use Rattle.clip_laws.proofs.CodeLaws.{read-all, read-is, ref-is, read-I, ref-I, cut-read, cut-refs, cut-ref, op-len, op-code}
+use Rattle.clip_laws.proofs.CodeLaws.{ref-is, read-I, ref-I, cut-refs, cut-ref}
 
 -- ---- the cases of one op
 

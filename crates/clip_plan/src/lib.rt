@@ -4,11 +4,11 @@ ghost use mathlib.Core.List.{List};
 ghost use Prim.Native.Nat.{ℕ, _+_, _-_, _*_, _/_, _<_, _≤_, _^_};
 ghost use lib.Dec.{ltb};
 ghost use lib.ListN.{length, drop};
-ghost use Rattle.lists.specs.Lists.{facing, sumOf};
+ghost use Rattle.lists.specs.Lists.{sumOf};
 ghost use Rattle.sam.specs.Op.{lenOf};
 ghost use Rattle.oplist.specs.Ops.{opsOf};
 ghost use Rattle.clip_rules.specs.Clipping.{upgraded};
-ghost use Rattle.clip_rules.specs.InnerPlan.{PlanIs, PlannedIs, cutOf};
+ghost use Rattle.clip_rules.specs.InnerPlan.{MadeIs, PlannedIs, cutOf};
 use answers::Refusal;
 use clip_rules::Plan;
 use clip_rules::Planned;
@@ -17,7 +17,7 @@ use oplist::Ops;
 // The longest total that clipping takes: 28 bits, as one op holds.
 pub const MOST_BASES: u64 = 268435455;
 
-// What a clip does, as seen from the chosen end, to an op list of at most `limit` ops. Refusals 3, 8.
+// What a clip does, as seen from the chosen end, to an op list of at most `limit` ops. Refusals 3, 8, 19.
 pub fn plan_clip(
     words: &[u32],
     rec: &[u8],
@@ -34,7 +34,7 @@ pub fn plan_clip(
     if is_too_long(words, rec, list) {
         return Planned::Refused(Refusal::TooLong);
     }
-    Planned::Made(make_plan(words, rec, list, amount, start))
+    make_plan(words, rec, list, amount, start)
 }
 
 // Whether the lengths sum to more than clipping takes. The longest length that all ops' bits could make bounds the sum, and costs less to find.
@@ -125,28 +125,32 @@ fn unchanged() -> Plan
     }
 }
 
-// The plan of a list that is not too long.
-fn make_plan(words: &[u32], rec: &[u8], list: Ops, amount: u64, start: bool) -> Plan
+// The plan of a list that is not too long. Refusal 19: the taking goes through every op inside, so it falls short exactly where the amount is beyond what can be clipped.
+fn make_plan(words: &[u32], rec: &[u8], list: Ops, amount: u64, start: bool) -> Planned
     requires { ⌜ sumOf lenOf (opsOf (now words) (now rec) list) < 2 ^ 28 ⌝ }
-    ensures { λ r. ⌜ PlanIs (facing start (opsOf (now (words .entry)) (now (rec .entry)) list)) amount (r .skip) (r .heads) (r .first) (r .second) (r .lost) ⌝ }
+    ensures { λ r. ⌜ MadeIs (opsOf (now (words .entry)) (now (rec .entry)) list) amount start r ⌝ }
 {
     if amount == 0 {
-        return unchanged();
+        return Planned::Made(unchanged());
     }
     if oplist::count(words, rec, list) == 0 {
-        return unchanged();
+        return Planned::Made(unchanged());
     }
     let clips = clip_runs::leading_clips(words, rec, list, start);
     let outer = clip_runs::outer_runs(words, rec, list, start);
     if amount <= clips {
-        return upgrade(outer.hard, outer.soft, amount, outer.next);
+        return Planned::Made(upgrade(outer.hard, outer.soft, amount, outer.next));
     }
-    let t = clip_taking::take_bases(words, rec, list, start, outer.next, amount - clips);
-    Plan {
+    let n = amount - clips;
+    let t = clip_taking::take_bases(words, rec, list, start, outer.next, n);
+    if t.bases < n {
+        return Planned::Refused(Refusal::AmountBeyond);
+    }
+    Planned::Made(Plan {
         skip: t.next,
         heads: 1 + t.cut,
         first: clip_taking::encode_op(5, outer.hard + outer.soft + t.bases),
         second: t.rest,
         lost: t.lost,
-    }
+    })
 }

@@ -11,13 +11,16 @@ use borrow.Author.Tests.{lt-ltb, le-ltb}
 use Rattle.lists.specs.Lists.{facing, splice, sumOf}
 use Rattle.lists.proofs.ListLaws.{length-facing}
 use Rattle.sam.specs.Op.{lenOf}
-use Rattle.answers.specs.Settled.{Settled, keeps}
+use Rattle.answers.specs.Settled.{Outcome, Settled, keeps}
 use Rattle.answers.specs.declared.Refusal.{Refusal}
-use Rattle.answers.specs.declared.Refusal.the-variants.{TooLong, NoRoom}
+use Rattle.answers.specs.declared.Refusal.the-variants.{TooLong, NoRoom, AmountBeyond}
+use Rattle.answers.specs.declared.Count.{Count}
 use Rattle.answers.proofs.Unique.{settled, outcome}
 use Rattle.clip_rules.specs.Clipping.{Cut, clip}
-use Rattle.clip_rules.specs.InnerPlan.{PlanIs, Unplanned}
-use Rattle.clip_rules.specs.Answer.{clippedOps, clippedCount, clippedInto, clippedUpTo, written}
+use Rattle.clip_rules.specs.InnerPlan.{PlanIs, MadeIs, PlannedIs}
+use Rattle.clip_rules.specs.Answer.{clippedOps, clippedCount, isBeyond, clippedInto, clippedUpTo, written, uncounted, withoutCount}
+use Rattle.clip_rules.specs.declared.Planned.{Planned}
+use Rattle.clip_rules.specs.declared.Planned.the-variants as Planned
 use Rattle.clip_rules.specs.declared.Clipped.{Clipped}
 use Rattle.clip_rules.specs.declared.Clipped.the-variants.{Done, Refused}
 
@@ -31,13 +34,18 @@ module _ (xs : List ℕ) (a : ℕ) (b : Bool) (d : List ℕ) where
   unfolding clippedInto
   too-long h = simp (lt-ltb 268435455 (sumOf lenOf xs) h)
 
-  pub no-room : sumOf lenOf xs ≤ 268435455 → length d < length (clippedOps xs a b) → clippedInto xs a b d ≡ keeps (Refused NoRoom) d
+  pub beyond : sumOf lenOf xs ≤ 268435455 → isBeyond xs a b ≡ true → clippedInto xs a b d ≡ keeps (Refused AmountBeyond) d
   unfolding clippedInto
-  no-room h l = simp (le-ltb 268435455 (sumOf lenOf xs) h, lt-ltb (length d) (length (clippedOps xs a b)) l)
+  beyond h e = simp (le-ltb 268435455 (sumOf lenOf xs) h, e)
 
-  pub accepted : sumOf lenOf xs ≤ 268435455 → length (clippedOps xs a b) ≤ length d → clippedInto xs a b d ≡ written (clippedOps xs a b) (clippedCount xs a b) d
+  pub no-room : sumOf lenOf xs ≤ 268435455 → isBeyond xs a b ≡ false → length d < length (clippedOps xs a b) → clippedInto xs a b d ≡ keeps (Refused NoRoom) d
   unfolding clippedInto
-  accepted h l = simp (le-ltb 268435455 (sumOf lenOf xs) h, le-ltb (length d) (length (clippedOps xs a b)) l)
+  no-room h e l = simp (le-ltb 268435455 (sumOf lenOf xs) h, e, lt-ltb (length d) (length (clippedOps xs a b)) l)
+
+  pub accepted : sumOf lenOf xs ≤ 268435455 → isBeyond xs a b ≡ false → length (clippedOps xs a b) ≤ length d
+      → clippedInto xs a b d ≡ written (clippedOps xs a b) (clippedCount xs a b) d
+  unfolding clippedInto
+  accepted h e l = simp (le-ltb 268435455 (sumOf lenOf xs) h, e, le-ltb (length d) (length (clippedOps xs a b)) l)
 
 module _ (xs : List ℕ) (b : Bool) {a skip heads first second lost : ℕ} (P : PlanIs (facing b xs) a skip heads first second lost) where
   ops-are : take heads (first ∷ (second ∷ [])) ++ drop skip (facing b xs) ≡ clip (facing b xs) a .ops
@@ -57,32 +65,39 @@ module _ (xs : List ℕ) (b : Bool) {a skip heads first second lost : ℕ} (P : 
   pub plan-skip : skip ≤ length xs
   plan-skip = let m = length-facing b xs in let h = P .skip-in in omega arith
 
-  module _ (d d' : List ℕ) (n : ℕ) (short : sumOf lenOf xs ≤ 268435455) (fits : n ≤ length d) (long : n ≡ heads + (length xs - skip)) where
-    done : (ys : List ℕ) (k : ℕ) → ys ≡ clippedOps xs a b → k ≡ clippedCount xs a b → d' ≡ splice d 0 ys → Settled (clippedInto xs a b d) (Done n k) d'
-    done ys k e f w =
+  module _ (d d' : List ℕ) (n : ℕ) (short : sumOf lenOf xs ≤ 268435455) (near : isBeyond xs a b ≡ false) (fits : n ≤ length d) (long : n ≡ heads + (length xs - skip)) where
+    done : (ys : List ℕ) → ys ≡ clippedOps xs a b → d' ≡ splice d 0 ys → Settled (clippedInto xs a b d) (Done n lost) d'
+    unfolding clippedCount
+    done ys e w =
         let l = plan-length in
         let m : n ≡ length (clippedOps xs a b) = omega arith in
-        settled (accepted xs a b d short (omega arith) ∙ outcome (ap (λ (i : ℕ). Done i k) m ∙ ap (Done (length (clippedOps xs a b))) f) (w ∙ ap (splice d 0) e))
+        let k : lost ≡ clippedCount xs a b = ap (λ (c : Cut). c .lost) (P .cut-is) in
+        settled (accepted xs a b d short near (omega arith) ∙ outcome (ap (λ (i : ℕ). Done i lost) m ∙ ap (Done (length (clippedOps xs a b))) k) (w ∙ ap (splice d 0) e))
 
     pub done-start : b ≡ true → d' ≡ splice d 0 (take heads (first ∷ (second ∷ [])) ++ drop skip xs) → Settled (clippedInto xs a b d) (Done n lost) d'
-    unfolding clippedOps clippedCount
-    done-start e w = done (take heads (first ∷ (second ∷ [])) ++ drop skip xs) lost (rw e (rw e at ops-are)) (ap (λ (c : Cut). c .lost) (P .cut-is) ∙ rw e refl) w
+    unfolding clippedOps
+    done-start e w = done (take heads (first ∷ (second ∷ [])) ++ drop skip xs) (rw e (rw e at ops-are)) w
 
-    pub done-end : b ≡ false → d' ≡ splice d 0 (reverse (take heads (first ∷ (second ∷ [])) ++ drop skip (reverse xs))) → Settled (clippedInto xs a b d) (Done n 0) d'
-    unfolding clippedOps clippedCount
-    done-end e w = done (reverse (take heads (first ∷ (second ∷ [])) ++ drop skip (reverse xs))) 0 (rw e (ap reverse (rw e at ops-are))) (rw e refl) w
+    pub done-end : b ≡ false → d' ≡ splice d 0 (reverse (take heads (first ∷ (second ∷ [])) ++ drop skip (reverse xs))) → Settled (clippedInto xs a b d) (Done n lost) d'
+    unfolding clippedOps
+    done-end e w = done (reverse (take heads (first ∷ (second ∷ [])) ++ drop skip (reverse xs))) (rw e (ap reverse (rw e at ops-are))) w
+
+-- a plan past 3 and 8
+pub planned : (limit : ℕ) (xs : List ℕ) (a : ℕ) (b : Bool) → length xs ≤ limit → sumOf lenOf xs ≤ 268435455 → (p : Planned) → MadeIs xs a b p → PlannedIs limit xs a b p
+planned limit xs a b h l (Planned.Made q) m = (h, l, m)
+planned limit xs a b h l (Planned.Refused r) m = inr (inr (h, l, m))
 
 -- a refusal that comes before the plan
-pub unplanned : (limit : ℕ) (xs : List ℕ) (a : ℕ) (b : Bool) (d : List ℕ) {r : Refusal} → Unplanned limit xs r → clippedUpTo limit xs a b d ≡ keeps (Refused r) d
+pub unplanned : (limit : ℕ) (xs : List ℕ) (a : ℕ) (b : Bool) (d : List ℕ) {r : Refusal} → PlannedIs limit xs a b (Planned.Refused r) → clippedUpTo limit xs a b d ≡ keeps (Refused r) d
 unfolding clippedUpTo
 unplanned limit xs a b d (inl (h, e)) = rw e (simp (lt-ltb limit (length xs) h))
-unplanned limit xs a b d (inr (h, l, e)) = rw e (simp (le-ltb limit (length xs) h) (too-long xs a b d l))
+unplanned limit xs a b d (inr (inl (h, l, e))) = rw e (simp (le-ltb limit (length xs) h) (too-long xs a b d l))
+unplanned limit xs a b d (inr (inr (h, l, m))) = rw (m .1) (simp (le-ltb limit (length xs) h) (beyond xs a b d l (m .0)))
 
--- what holds of an op list and an end holds of the list that it stands for and of the end that was chosen
-module _ (a : ℕ) (b c : Bool) (d : List ℕ) {xs ys m : List ℕ} {r : Clipped} (e : b ≡ c) (f : xs ≡ ys) where
-  pub over : (limit : ℕ) → Settled (clippedUpTo limit xs a c d) r m → Settled (clippedUpTo limit ys a b d) r m
-  over limit s = rw e (rw f at s)
+-- an answer without its count
+pub uncounted-settled : {o : Outcome Clipped} {a : Clipped} {r : Count} {m : List ℕ} → r ≡ uncounted a → Settled o a m → Settled (withoutCount o) r m
+uncounted-settled e s = record { answer = e ∙ ap uncounted (s .answer); memory = s .memory }
 
-  -- and with a limit of its own number of ops, no limit is left
-  pub over-own : (n : ℕ) → n ≡ length xs → Settled (clippedUpTo n xs a c d) r m → Settled (clippedInto ys a b d) r m
-  over-own n h s = rw e (rw f at (rw (within xs a c d {limit = n} (omega arith)) at s))
+-- with a limit of its own number of ops, no limit is left
+pub own-limit : (xs ys : List ℕ) (a : ℕ) (b : Bool) (d : List ℕ) (n : ℕ) → n ≡ length xs → xs ≡ ys → clippedInto ys a b d ≡ clippedUpTo n xs a b d
+own-limit xs ys a b d n h f = rw (within xs a b d {limit = n} (omega arith)) (rw f refl)

@@ -1,3 +1,4 @@
 pub mod CodeLaws
 pub mod RuleLaws
+pub mod BeyondLaws
 pub mod AnswerLaws

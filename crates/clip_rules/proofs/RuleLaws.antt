@@ -10,6 +10,7 @@ use lib.ListN.{length, drop}
 use lib.Dec.{eqb, leb}
 use borrow.Author.Tests.{le-leb, lt-leb, leb-true, leb-false, eq-eqb, ne-eqb, eqb-true, eqb-false}
 use Rattle.lists.specs.Lists.{sumOf}
+use Rattle.lists.proofs.Sums.{sum-le}
 use Rattle.sam.specs.Op.{lenOf, codeOf, opOf, refLen}
 use Rattle.ops.specs.Ops.{readLen}
 use Rattle.clip_runs.specs.Clips.{leadingClips}
@@ -17,7 +18,7 @@ use Rattle.clip_runs.specs.Walked.{OuterIs}
 use Rattle.clip_runs.proofs.RunLaws.{outer-total}
 use Rattle.clip_rules.specs.Clipping.{Taken, more, goes, ends, taking, Cut, softOf, upgraded, cutInto, clip}
 use Rattle.clip_rules.specs.InnerPlan.{takenOf, cutOf, TakingIs}
-use Rattle.clip_rules.proofs.CodeLaws.{read-le, read-D}
+use Rattle.clip_rules.proofs.CodeLaws.{read-le, read-D, read-all, read-is, cut-read}
 
 -- ---- taking
 
@@ -87,29 +88,64 @@ module _ (xs : List ℕ) (i n o bases lost : ℕ) where
   unfolding ends
   stop-cut r z e q = simp (ne-eqb n 0 z, ne-eqb (codeOf o) 1 e) (taken-eq (ap (λ (x : ℕ). x ∷ drop (i + 1) xs) q) refl refl)
 
-ends-total : (n o : ℕ) (xs : List ℕ) → goes n o ≡ false → ends n o xs .bases ≤ lenOf o + sumOf lenOf xs
-unfolding ends
-ends-total n o xs g = go (eqb n 0) refl (eqb (codeOf o) 1)
+-- ---- the read bases of a taking
+
+-- those taken, and those left
+abbrev readsOf : Taken → ℕ
+readsOf t = t .bases + sumOf readLen (t .left)
+
+ends-reads : (n o : ℕ) (xs : List ℕ) → goes n o ≡ false → readsOf (ends n o xs) ≡ readLen o + sumOf readLen xs
+unfolding ends sumOf
+ends-reads n o xs g = go (eqb n 0) refl (eqb (codeOf o) 1)
   where
     go : (b : Bool) → eqb n 0 ≡ b → (d : Bool)
-        → (cond {A = Taken} b (record { left = o ∷ xs; bases = 0; lost = 0 }) (cond {A = Taken} d (record { left = xs; bases = lenOf o; lost = 0 }) (record { left = opOf (lenOf o - n) (codeOf o) ∷ xs; bases = n; lost = n }))) .bases ≤ lenOf o + sumOf lenOf xs
+        → readsOf (cond b (record { left = o ∷ xs; bases = 0; lost = 0 }) (cond d (record { left = xs; bases = lenOf o; lost = 0 }) (record { left = opOf (lenOf o - n) (codeOf o) ∷ xs; bases = n; lost = n }))) ≡ readLen o + sumOf readLen xs
     go true q d = omega arith
-    go false q true = omega arith
-    go false q false = let s = goes-short n o g (eqb-false n 0 q) in let r = read-le o in omega arith
+    go false q true = let i = read-all n o (goes-short n o g (eqb-false n 0 q)) in let r = read-is o i in omega arith
+    go false q false =
+        let s = goes-short n o g (eqb-false n 0 q) in
+        let i = read-all n o s in
+        let r = read-is o i in
+        let c = cut-read (lenOf o - n) o i in
+        omega arith
 
-taking-total : (xs : List ℕ) (n : ℕ) → taking xs n .bases ≤ sumOf lenOf xs
+pub taking-reads : (xs : List ℕ) (n : ℕ) → readsOf (taking xs n) ≡ sumOf readLen xs
 unfolding taking sumOf
-taking-total [] n = omega arith
-taking-total (o ∷ xs) n = go (goes n o) refl (taking-total xs (n - readLen o))
+taking-reads [] n = refl
+taking-reads (o ∷ xs) n = go (goes n o) refl (taking-reads xs (n - readLen o))
   where
-    go : (b : Bool) → goes n o ≡ b → taking xs (n - readLen o) .bases ≤ sumOf lenOf xs
-        → cond b (more (readLen o) (refLen o) (taking xs (n - readLen o))) (ends n o xs) .bases ≤ lenOf o + sumOf lenOf xs
-    go true q h = let r = read-le o in omega arith
-    go false q h = ends-total n o xs q
+    go : (b : Bool) → goes n o ≡ b → readsOf (taking xs (n - readLen o)) ≡ sumOf readLen xs
+        → readsOf (cond b (more (readLen o) (refLen o) (taking xs (n - readLen o))) (ends n o xs)) ≡ readLen o + sumOf readLen xs
+    go true q h = omega arith
+    go false q h = ends-reads n o xs q
+
+-- where the list has as many as are wanted, so many are taken
+ends-enough : (n o : ℕ) (xs : List ℕ) → goes n o ≡ false → n ≤ ends n o xs .bases
+unfolding ends
+ends-enough n o xs g = go (eqb n 0) refl (eqb (codeOf o) 1)
+  where
+    go : (b : Bool) → eqb n 0 ≡ b → (d : Bool)
+        → n ≤ cond {A = Taken} b (record { left = o ∷ xs; bases = 0; lost = 0 }) (cond {A = Taken} d (record { left = xs; bases = lenOf o; lost = 0 }) (record { left = opOf (lenOf o - n) (codeOf o) ∷ xs; bases = n; lost = n })) .bases
+    go true q d = let z = eqb-true n 0 q in omega arith
+    go false q true = let s = goes-short n o g (eqb-false n 0 q) in let r = read-le o in omega arith
+    go false q false = omega arith
+
+pub taking-enough : (xs : List ℕ) (n : ℕ) → n ≤ sumOf readLen xs → n ≤ taking xs n .bases
+unfolding taking sumOf
+taking-enough [] n h = h
+taking-enough (o ∷ xs) n h = go (goes n o) refl (taking-enough xs (n - readLen o))
+  where
+    go : (b : Bool) → goes n o ≡ b → (n - readLen o ≤ sumOf readLen xs → n - readLen o ≤ taking xs (n - readLen o) .bases)
+        → n ≤ cond b (more (readLen o) (refLen o) (taking xs (n - readLen o))) (ends n o xs) .bases
+    go true q ih = let b = ih (omega arith) in omega arith
+    go false q ih = ends-enough n o xs q
 
 pub taking-fits : {xs : List ℕ} {from n next bases lost cut rest : ℕ} → TakingIs xs from n next bases lost cut rest → bases ≤ sumOf lenOf (drop from xs)
 taking-fits {xs} {from} {n} T =
-    let e = ap (λ (u : Taken). u .bases) (T .taken-is) in let b = taking-total (drop from xs) n in omega arith
+    let e = ap (λ (u : Taken). u .bases) (T .taken-is) in
+    let r = taking-reads (drop from xs) n in
+    let l = sum-le readLen lenOf read-le (drop from xs) in
+    omega arith
 
 -- ---- upgrading
 

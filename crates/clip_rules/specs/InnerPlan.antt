@@ -1,17 +1,17 @@
 -- What the planning functions hand on, as it stands to the rule of document 01, "Clipping" (`Clipping.antt`): places and numbers for lists.
 use Prim.Native.Nat.{ℕ, _≤_, _<_}
 use mathlib.Core.Path.{_≡_}
-use mathlib.Core.Bool.{Bool}
+use mathlib.Core.Bool.{Bool, true, false}
 use mathlib.Core.Logic.{_⊎_}
 use mathlib.Core.List.{List, [], _∷_, _++_}
 use lib.ListN.{length, take, drop}
 use Rattle.lists.specs.Lists.{facing, sumOf}
 use Rattle.sam.specs.Op.{lenOf}
-use Rattle.answers.specs.declared.Refusal.{Refusal}
-use Rattle.answers.specs.declared.Refusal.the-variants.{TooManyOps, TooLong}
+use Rattle.answers.specs.declared.Refusal.the-variants.{TooManyOps, TooLong, AmountBeyond}
 use Rattle.clip_rules.specs.declared.Planned.{Planned}
 use Rattle.clip_rules.specs.declared.Planned.the-variants as Planned
 use Rattle.clip_rules.specs.Clipping.{Taken, Cut, taking, clip}
+use Rattle.clip_rules.specs.Answer.{isBeyond}
 
 -- what is left of xs: the first `cut` of the one op `rest`, then the ops from place next on
 abbrev pub takenOf : List ℕ → ℕ → ℕ → ℕ → ℕ → ℕ → Taken
@@ -33,11 +33,15 @@ pub record PlanIs (xs : List ℕ) (amount skip heads first second lost : ℕ) : 
   pub skip-in : skip ≤ length xs
   pub heads-in : heads ≤ 2
 
--- what planning answers for a list of at most `limit` ops: 3, then 8, then a plan of the list as seen from the chosen end
-abbrev pub Unplanned : ℕ → List ℕ → Refusal → Type 0
-Unplanned limit xs r = ((limit < length xs) × (r ≡ TooManyOps)) ⊎ ((length xs ≤ limit) × (268435455 < sumOf lenOf xs) × (r ≡ TooLong))
+-- what planning answers for a list that is not too long: 19, or a plan of the list as seen from the chosen end
+abbrev pub MadeIs : List ℕ → ℕ → Bool → Planned → Type 0
+MadeIs xs amount start (Planned.Made p) = (isBeyond xs amount start ≡ false) × PlanIs (facing start xs) amount (p .skip) (p .heads) (p .first) (p .second) (p .lost)
+MadeIs xs amount start (Planned.Refused r) = (isBeyond xs amount start ≡ true) × (r ≡ AmountBeyond)
 
+-- for a list of at most `limit` ops: 3, then 8, then that
 abbrev pub PlannedIs : ℕ → List ℕ → ℕ → Bool → Planned → Type 0
-PlannedIs limit xs amount start (Planned.Made p) =
-    (length xs ≤ limit) × (sumOf lenOf xs ≤ 268435455) × PlanIs (facing start xs) amount (p .skip) (p .heads) (p .first) (p .second) (p .lost)
-PlannedIs limit xs amount start (Planned.Refused r) = Unplanned limit xs r
+PlannedIs limit xs amount start (Planned.Made p) = (length xs ≤ limit) × (sumOf lenOf xs ≤ 268435455) × MadeIs xs amount start (Planned.Made p)
+PlannedIs limit xs amount start (Planned.Refused r) =
+    ((limit < length xs) × (r ≡ TooManyOps))
+    ⊎ (((length xs ≤ limit) × (268435455 < sumOf lenOf xs) × (r ≡ TooLong))
+    ⊎ ((length xs ≤ limit) × (sumOf lenOf xs ≤ 268435455) × MadeIs xs amount start (Planned.Refused r)))

@@ -18,7 +18,7 @@ use Rattle.sam.specs.Op.{codeOf, isRef, isQuery, refLen, queryLen}
 use Rattle.ops.specs.Ops.{isClip}
 use Rattle.clip_runs.specs.Clips.{isSoft, lenIf, softLen, hardLen, run, afterRun, leadingClips, leadingSoft, leadingHard, hasInner, trailingSoft, trailingHard}
 use Rattle.clip_runs.specs.Walked.{RunIs}
-use Rattle.clip_runs.proofs.RunLaws.{run-sum, run-same, leading-parts}
+use Rattle.clip_runs.proofs.RunLaws.{run-sum, run-same, run-none, leading-parts}
 
 -- ---- a list of clips only
 
@@ -67,17 +67,8 @@ module _ (xs : List ℕ) (e : hasInner xs ≡ true) where
 abbrev other : ℕ → ℕ
 other o = cond (isClip (codeOf o)) 0 1
 
-run-none : (f : ℕ → ℕ) → ((o : ℕ) → isClip (codeOf o) ≡ true → f o ≡ 0) → (xs : List ℕ) → sumOf f (run isClip xs) ≡ 0
-unfolding leading sumOf
-run-none f w [] = refl
-run-none f w (o ∷ xs) = go (isClip (codeOf o)) refl (run-none f w xs)
-  where
-    go : (b : Bool) → isClip (codeOf o) ≡ b → sumOf f (run isClip xs) ≡ 0 → sumOf f (cond b (o ∷ run isClip xs) []) ≡ 0
-    go true e h = let q = w o e in omega arith
-    go false e h = refl
-
 run-others : (xs : List ℕ) → sumOf other (run isClip xs) ≡ 0
-run-others xs = run-none other (λ o e. simp e) xs
+run-others xs = run-none isClip other (λ o e. simp e) xs
 
 -- what stands after a run of clips begins with none
 after-others : (xs : List ℕ) → 0 < length (afterRun isClip xs) → 0 < sumOf other (afterRun isClip xs)
@@ -135,7 +126,7 @@ clip-query o e = go (isClip (codeOf o)) e (below-same (λ c. isClip c && isQuery
     go false q h = false-true q
 
 pub run-refs : (xs : List ℕ) → sumOf refLen (run isClip xs) ≡ 0
-run-refs xs = run-none refLen clip-ref xs
+run-refs xs = run-none isClip refLen clip-ref xs
 
 pub run-query : (xs : List ℕ) → sumOf queryLen (run isClip xs) ≡ leadingSoft xs
 unfolding leadingSoft

@@ -63,6 +63,16 @@ module _ (p : ℕ → Bool) where
       go true e h = let q = w o e in omega arith
       go false e h = refl
 
+  -- what no op of a run has, the run has none of
+  pub run-none : (f : ℕ → ℕ) → ((o : ℕ) → p (codeOf o) ≡ true → f o ≡ 0) → (xs : List ℕ) → sumOf f (run p xs) ≡ 0
+  unfolding leading sumOf
+  run-none f w [] = refl
+  run-none f w (o ∷ xs) = go (p (codeOf o)) refl (run-none f w xs)
+    where
+      go : (b : Bool) → p (codeOf o) ≡ b → sumOf f (run p xs) ≡ 0 → sumOf f (cond b (o ∷ run p xs) []) ≡ 0
+      go true e h = let q = w o e in omega arith
+      go false e h = refl
+
 -- two tests that agree on the codes make the same run
 module _ (p q : ℕ → Bool) (same : (o : ℕ) → p (codeOf o) ≡ q (codeOf o)) where
   runs-same : (xs : List ℕ) → run p xs ≡ run q xs

@@ -1,5 +1,5 @@
--- A sum over a list goes part by part, so it is the same from either end; and the other end of the other end is this one.
-use Prim.Native.Nat.{ℕ, _+_}
+-- A sum over a list goes part by part, so it is the same from either end, and no less of no less; and the other end of the other end is this one.
+use Prim.Native.Nat.{ℕ, _+_, _≤_}
 use mathlib.Core.Path.{_≡_, refl}
 use mathlib.Core.Bool.{Bool, true, false}
 use mathlib.Core.List.{List, [], _∷_, _++_, reverse, reverse-cons, reverse-reverse}
@@ -25,6 +25,11 @@ module _ (f : ℕ → ℕ) where
   pub sum-facing : (b : Bool) (xs : List ℕ) → sumOf f (facing b xs) ≡ sumOf f xs
   sum-facing true xs = refl
   sum-facing false xs = sum-reverse xs
+
+pub sum-le : (f g : ℕ → ℕ) → ((x : ℕ) → f x ≤ g x) → (xs : List ℕ) → sumOf f xs ≤ sumOf g xs
+unfolding sumOf
+sum-le f g w [] = omega arith
+sum-le f g w (x ∷ xs) = let e = w x in let h = sum-le f g w xs in omega arith
 
 pub facing-facing : (b : Bool) (xs : List ℕ) → facing b (facing b xs) ≡ xs
 facing-facing true xs = refl

@@ -1,28 +1,40 @@
--- Demand 3 of both calls, over the definitions in their contracts; and what a call settles is what it is said to answer.
+-- Demand 3 of the four calls, over the definitions in their contracts, once for each; what a call settles is what it is said to answer; and 19 is due for no amount of the demand's,
+-- and of the lists that it takes for every other.
 use Prim.Native.Nat.{ℕ, _≤_}
 use mathlib.Core.Path.{_≡_, ap, _∙_}
 use mathlib.Core.Bool.{Bool}
 use mathlib.Core.List.{List}
+use lib.Dec.{ltb}
 use lib.ListN.{length}
 use Rattle.lists.specs.Lists.{splice}
 use Rattle.answers.specs.Settled.{Outcome, Settled}
 use Rattle.oplist.specs.Ops.{mostOps}
-use Rattle.clip_rules.specs.Answer.{clipped, clippedRecord}
-use Rattle.clip_rules.specs.declared.Clipped.{Clipped}
-use Rattle.clip_rules.specs.declared.Clipped.the-variants.{Done}
-use Rattle.clip_laws.specs.Demand3.{Clipper, Answers, Demand3, Itself, InRecord}
-use Rattle.clip_laws.proofs.Demand3.{list-demand3, record-demand3}
+use Rattle.clip_rules.specs.Answer.{isBeyond, clippedStart, clippedEnd, recordStart, recordEnd}
+use Rattle.clip_laws.specs.Demand3.{Takes, most, Clipper, Leaves, Demand3Start, Demand3End, Itself, InRecord}
+use Rattle.clip_laws.proofs.Demand3 as Law
 
--- `clip_cigar_ops_raw`
-pub list : Demand3 mostOps Itself clipped
-list = list-demand3 mostOps
+-- `clip_cigar_start_raw`
+pub list-start : Demand3Start mostOps Itself clippedStart
+list-start = Law.list-start mostOps
 
--- `clip_cigar_ops`
-pub of-record : Demand3 mostOps InRecord clippedRecord
-of-record = record-demand3 mostOps
+-- `clip_cigar_end_raw`
+pub list-end : Demand3End mostOps Itself clippedEnd
+list-end = Law.list-end mostOps
+
+-- `clip_cigar_start`
+pub record-start : Demand3Start mostOps InRecord recordStart
+record-start = Law.record-start mostOps
+
+-- `clip_cigar_end`
+pub record-end : Demand3End mostOps InRecord recordEnd
+record-end = Law.record-end mostOps
 
 -- each outcome that a contract admits: the answer, and the buffer
-pub admitted : (f : Clipper) (s : List ℕ) (a : ℕ) (start : Bool) (ys : List ℕ) (count : ℕ) → Answers f s a start ys count
-    → (d : List ℕ) (r : Clipped) (m : List ℕ) → length ys ≤ length d → Settled (f s a start d) r m → (r ≡ Done (length ys) count) × (m ≡ splice d 0 ys)
-admitted f s a start ys count A d r m room S =
-    (S .answer ∙ ap (λ (o : Outcome Clipped). o .answer) (A d room), S .memory ∙ ap (λ (o : Outcome Clipped). o .left) (A d room))
+pub admitted : {A : Type 0} (f : Clipper A) (s : List ℕ) (a : ℕ) (answer : A) (ys : List ℕ) → Leaves f s a answer ys
+    → (d : List ℕ) (r : A) (m : List ℕ) → length ys ≤ length d → Settled (f s a d) r m → (r ≡ answer) × (m ≡ splice d 0 ys)
+admitted {A} f s a answer ys L d r m room S =
+    (S .answer ∙ ap (λ (o : Outcome A). o .answer) (L d room), S .memory ∙ ap (λ (o : Outcome A). o .left) (L d room))
+
+-- the amounts "up to the chosen end's clips plus inner M, I, = and X bases" are exactly those that 19 does not refuse
+pub beyond-exactly : {limit : ℕ} (xs : List ℕ) (start : Bool) (T : Takes limit xs) (a : ℕ) → isBeyond xs a start ≡ ltb (most (T .shape) start) a
+beyond-exactly xs start T a = Law.beyond-is xs start T a

@@ -7,7 +7,7 @@ use Rattle.sam.specs.Op.{indexOf, letterCode, isRef, isQuery, refLen, queryLen}
 use Rattle.ops.specs.Ops.{isRead, readLen, isClip}
 use Rattle.clip_runs.specs.Clips.{outerHard, nextSoft, inside, leadingClips}
 use Rattle.clip_rules.specs.Clipping.{goes, ends, taking, softOf, upgraded, cutInto, clip}
-use Rattle.clip_rules.specs.Answer.{clippedOps, clippedCount, clippedInto, clippedUpTo}
+use Rattle.clip_rules.specs.Answer.{clippedOps, clippedCount, clippable, isBeyond, clippedInto, clippedUpTo}
 use Rattle.text_rules.specs.Text.{effectOf, rowFrom, opsFrom}
 use Rattle.text_rules.specs.Valid.{isEmpty, allHard, anyRef, each, validMapped}
 use Rattle.text_rules.specs.Strict.{strict}
@@ -19,5 +19,5 @@ use Rattle.bin_rules.specs.Bin.{low16, firstAgreed, binTo, reg2bin}
 use Rattle.promises.specs.Marked.{marked, calls, sayings}
 
 pub p1-to-p10 : calls marked ≡ sayings marked
-unfolding splice sumOf isRef isQuery refLen queryLen isRead readLen isClip leading afterLeading goes ends taking softOf upgraded cutInto outerHard nextSoft inside leadingClips clip clippedOps clippedCount clippedInto clippedUpTo indexOf letterCode effectOf rowFrom opsFrom isEmpty allHard anyRef each validMapped strict parsed look lookup looked reached firstAbove placeOf examined checked sideOf eqℤ low16 firstAgreed binTo reg2bin
+unfolding splice sumOf isRef isQuery refLen queryLen isRead readLen isClip leading afterLeading goes ends taking softOf upgraded cutInto outerHard nextSoft inside leadingClips clip clippedOps clippedCount clippable isBeyond clippedInto clippedUpTo indexOf letterCode effectOf rowFrom opsFrom isEmpty allHard anyRef each validMapped strict parsed look lookup looked reached firstAbove placeOf examined checked sideOf eqℤ low16 firstAgreed binTo reg2bin
 p1-to-p10 = refl

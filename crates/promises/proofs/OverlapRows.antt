@@ -5,15 +5,15 @@ use mathlib.Core.Bool.{Bool, true, false, cond, _||_, _&&_}
 use mathlib.Core.List.{List, [], _∷_, _++_}
 use lib.IntN.{ℤ, pos, negsuc, _+ℤ_}
 use lib.ListN.{length}
-use lib.Dec.{ltb, eqb}
+use lib.Dec.{ltb}
 use lib.Signed.{ltZ}
 use Rattle.signed.specs.Whole.{checked, sideOf, sumAt}
 use Rattle.signed.specs.declared.Side.the-variants.{Below, Within, Above}
 use Rattle.signed.specs.declared.Sum.{Sum}
 use Rattle.sam.specs.Record.{posOf, matePosOf, isShort}
-use Rattle.answers.specs.Answers.{numberOf, tellFlag, tellCount}
-use Rattle.answers.specs.declared.Refusal.{Refusal}
-use Rattle.answers.specs.declared.Refusal.the-variants.{ShortRecord, AreaOverrun, TooManyOps, Overflow, NotACigar, NoRoom, BadCode, TooLong, BadStart, BadLength}
+use Rattle.answers.specs.Answers.{tellFlag, tellCount}
+use Rattle.answers.proofs.Numbers.{not-zero}
+use Rattle.answers.specs.declared.Refusal.the-variants.{ShortRecord, TooManyOps, Overflow, NoRoom}
 use Rattle.answers.specs.declared.Count.the-variants as Count
 use Rattle.answers.specs.declared.Flag.{Flag}
 use Rattle.answers.specs.declared.Flag.the-variants as Flag
@@ -118,22 +118,9 @@ list-rows fr b xs d m =
 abbrev LeftBy : List ℕ → List ℕ → List ℕ → Flag → List Row → Type 0
 LeftBy b xs d fr rows = GivesFilled tellOverhang (pairListLeft fr b xs d) d rows (Overhang.Bases (basesAt (placedPair (isYes fr) b (matePosOf b)) b xs) (length xs)) xs
 
--- no refusal has the number 0
-numbered : (r : Refusal) → eqb (numberOf r) 0 ≡ false
-numbered ShortRecord = refl
-numbered AreaOverrun = refl
-numbered TooManyOps = refl
-numbered Overflow = refl
-numbered NotACigar = refl
-numbered NoRoom = refl
-numbered BadCode = refl
-numbered TooLong = refl
-numbered BadStart = refl
-numbered BadLength = refl
-
 left-rows : (b xs d : List ℕ) → isShort b ≡ false → LeftBy b xs d (isFrBy b xs) (pairRows b ++ (placeRow (isYes (isFrBy b xs)) (posOf b) (matePosOf b) ∷ noRoom d (length xs) ∷ []))
 left-rows b xs d l =
-    pair-rows (LeftBy b xs d) (record { stops = λ r rows e. kept-refusal tellOverhang (Overhang.Refused r) refl e (numbered r); alike = λ fr rows rows' e q. like-filled tellOverhang e q })
+    pair-rows (LeftBy b xs d) (record { stops = λ r rows e. kept-refusal tellOverhang (Overhang.Refused r) refl e (not-zero r); alike = λ fr rows rows' e q. like-filled tellOverhang e q })
     (λ t. placeRow t (posOf b) (matePosOf b) ∷ noRoom d (length xs) ∷ []) (λ t. list-rows t b xs d (matePosOf b)) _ b l
 
 -- an answer leaves the parsed list in the first places; a text that the strict reader refuses answers 0 and leaves the room as it was

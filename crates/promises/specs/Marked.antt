@@ -6,7 +6,7 @@ use lib.IntN.{ℤ, pos}
 use Rattle.sam.specs.Op.{opOf}
 use Rattle.answers.specs.Answers.{Told, answered, some, none, tellCount, tellNat}
 use Rattle.answers.specs.Settled.{Outcome, keeps}
-use Rattle.clip_rules.specs.Answer.{clipped, tellClipped}
+use Rattle.clip_rules.specs.Answer.{clippedStart, clippedEnd, tellClipped}
 use Rattle.strict_text.specs.Parsed.{parsed}
 use Rattle.lookup_rules.specs.Lookup.{looked, tellFound}
 use Rattle.bin_rules.specs.Bin.{reg2bin}
@@ -49,18 +49,22 @@ soft5 = s 5 ∷ m 20 ∷ d 2 ∷ m 5 ∷ []
 abbrev inserted : List ℕ
 inserted = m 5 ∷ i 3 ∷ d 2 ∷ m 6 ∷ []
 
-abbrev clips : List ℕ → ℕ → Bool → Outcome Told → Example
-clips xs amount start out = record { call = told tellClipped (clipped xs amount start room); says = out }
+abbrev clips : List ℕ → ℕ → Outcome Told → Example
+clips xs amount out = record { call = told tellClipped (clippedStart xs amount room); says = out }
+
+abbrev clipsEnd : List ℕ → ℕ → Outcome Told → Example
+clipsEnd xs amount out = record { call = told tellCount (clippedEnd xs amount room); says = out }
 
 -- n ops, and the count; what the room holds
 abbrev cut : ℕ → ℕ → List ℕ → Outcome Told
 cut n count left = record { answer = answered (pos n ∷ pos count ∷ []); left = left }
 
-abbrev reads : List ℕ → Outcome Told → Example
-reads text out = record { call = told tellCount (parsed text room); says = out }
-
+-- n ops; what the room holds
 abbrev accepted : ℕ → List ℕ → Outcome Told
 accepted n left = record { answer = answered (pos n ∷ []); left = left }
+
+abbrev reads : List ℕ → Outcome Told → Example
+reads text out = record { call = told tellCount (parsed text room); says = out }
 
 abbrev refused5 : Outcome Told
 refused5 = keeps (record { number = 5; values = [] }) room
@@ -74,14 +78,16 @@ bins beg end bin = record { call = alone (tellNat (reg2bin (pos beg) (pos end)))
 abbrev pub marked : List Example
 marked =
     -- P1 5S20M2D5M start 3: 3H2S20M2D5M, 0. P2 start 25: 25H5M, 22. P3 start 26: 26H4M, 23
-    clips soft5 3 true (cut 5 0 (h 3 ∷ s 2 ∷ m 20 ∷ d 2 ∷ m 5 ∷ 6 ∷ []))
-    ∷ clips soft5 25 true (cut 2 22 (h 25 ∷ m 5 ∷ 3 ∷ 4 ∷ 5 ∷ 6 ∷ []))
-    ∷ clips soft5 26 true (cut 2 23 (h 26 ∷ m 4 ∷ 3 ∷ 4 ∷ 5 ∷ 6 ∷ []))
-    -- P4 same list, end 5: 5S20M5H, 0
-    ∷ clips soft5 5 false (cut 3 0 (s 5 ∷ m 20 ∷ h 5 ∷ 4 ∷ 5 ∷ 6 ∷ []))
+    clips soft5 3 (cut 5 0 (h 3 ∷ s 2 ∷ m 20 ∷ d 2 ∷ m 5 ∷ 6 ∷ []))
+    ∷ clips soft5 25 (cut 2 22 (h 25 ∷ m 5 ∷ 3 ∷ 4 ∷ 5 ∷ 6 ∷ []))
+    ∷ clips soft5 26 (cut 2 23 (h 26 ∷ m 4 ∷ 3 ∷ 4 ∷ 5 ∷ 6 ∷ []))
+    -- P4 same list, end 5: 5S20M5H; document 02, item 12: without a count
+    ∷ clipsEnd soft5 5 (accepted 3 (s 5 ∷ m 20 ∷ h 5 ∷ 4 ∷ 5 ∷ 6 ∷ []))
     -- P5 5M3I2D6M start 6: 8H2D6M, 5. P6 start 8: 8H6M, 7
-    ∷ clips inserted 6 true (cut 3 5 (h 8 ∷ d 2 ∷ m 6 ∷ 4 ∷ 5 ∷ 6 ∷ []))
-    ∷ clips inserted 8 true (cut 2 7 (h 8 ∷ m 6 ∷ 3 ∷ 4 ∷ 5 ∷ 6 ∷ []))
+    ∷ clips inserted 6 (cut 3 5 (h 8 ∷ d 2 ∷ m 6 ∷ 4 ∷ 5 ∷ 6 ∷ []))
+    ∷ clips inserted 8 (cut 2 7 (h 8 ∷ m 6 ∷ 3 ∷ 4 ∷ 5 ∷ 6 ∷ []))
+    -- "document 01's 4M3S start 9 now gives it": 19
+    ∷ clips (m 4 ∷ s 3 ∷ []) 9 (keeps (record { number = 19; values = [] }) room)
     -- P7 text 010M accepted; 268435456M refused
     ∷ reads (48 ∷ 49 ∷ 48 ∷ 77 ∷ []) (accepted 1 (m 10 ∷ 2 ∷ 3 ∷ 4 ∷ 5 ∷ 6 ∷ []))
     ∷ reads (50 ∷ 54 ∷ 56 ∷ 52 ∷ 51 ∷ 53 ∷ 52 ∷ 53 ∷ 54 ∷ 77 ∷ []) refused5

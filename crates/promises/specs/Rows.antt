@@ -1,16 +1,17 @@
 -- Document 01, "Numbers and their bounds", the refusal table: each number with the words of its row, then the rows of each call in its order:
 -- "list calls 3, 8, 9, 4, 6; printing 1, 7, 6; strict text 5, 3, 6; records 1, 3, 2, 8, 4, 6." Document 02, item 7: "2 and 4 now come from these callers, after 1",
--- wherever end, bin, pair tests and overhang ask for a record's reference length.
-use Prim.Native.Nat.{ℕ}
+-- wherever end, bin, pair tests and overhang ask for a record's reference length. Item 12: 19 of the two clipping calls, "directly after 8".
+use Prim.Native.Nat.{ℕ, _+_}
 use mathlib.Core.Bool.{Bool, true, false, cond, not, _||_, _&&_}
 use mathlib.Core.List.{List, [], _∷_, _++_}
 use lib.Dec.{ltb, eqb}
 use lib.IntN.{ℤ, pos, negsuc, _+ℤ_, _-ℤ_}
 use lib.ListN.{length}
 use lib.Signed.{ltZ}
-use Rattle.lists.specs.Lists.{sumOf}
+use Rattle.lists.specs.Lists.{facing, sumOf}
 use Rattle.signed.specs.Whole.{clamp32}
 use Rattle.sam.specs.Op.{lenOf, refLen}
+use Rattle.ops.specs.Ops.{readLen}
 use Rattle.sam.specs.Record.{posOf, matePosOf, flagsOf, isUnmapped, isReverse, opsEnd, isShort}
 use Rattle.clip_runs.specs.Clips.{leadingClips, clipsAfterReference}
 use Rattle.bin_rules.specs.Bin.{spanOf}
@@ -27,7 +28,7 @@ use Rattle.answers.specs.declared.Flag.the-variants as Flag
 use Rattle.pairs_rules.specs.Pairs.{isOpposite, isFrWithMate, areOpposite, isPrimaryFr}
 use Rattle.promises.specs.Table.{Row, _when_, only}
 
--- ---- the ten numbers
+-- ---- the numbers
 
 -- 1: "a record has under 32 bytes"
 abbrev pub short : List ℕ → Row
@@ -75,6 +76,10 @@ badStart start = 9 when (ltb start 1 || ltb 2147483648 start)
 -- 10: "`CigarOp::new`: length 0 or above 268,435,455"
 abbrev pub badLength : ℕ → Row
 badLength n = 10 when (eqb n 0 || ltb 268435455 n)
+
+-- 19, document 02: "amounts beyond the end's clip run plus the list's M, I, = and X bases", "and not for an empty list"
+abbrev pub beyond : List ℕ → ℕ → Bool → Row
+beyond xs amount start = 19 when (not (eqb (length xs) 0) && ltb (leadingClips (facing start xs) + sumOf readLen xs) amount)
 
 -- ---- a record's reference length, where it is asked for: 2, 4
 
@@ -173,13 +178,13 @@ lookupRows xs start = tooMany xs ∷ badStart start ∷ []
 
 -- ---- clipping
 
--- `clip_cigar_ops_raw`
+-- `clip_cigar_start_raw`, and with `start` false `clip_cigar_end_raw`
 abbrev pub clipRows : List ℕ → ℕ → Bool → List ℕ → List Row
-clipRows xs amount start d = tooMany xs ∷ tooLong xs ∷ noRoom d (length (clippedOps xs amount start)) ∷ []
+clipRows xs amount start d = tooMany xs ∷ tooLong xs ∷ beyond xs amount start ∷ noRoom d (length (clippedOps xs amount start)) ∷ []
 
--- `clip_cigar_ops`
+-- `clip_cigar_start`, `clip_cigar_end`
 abbrev pub clipRecordRows : List ℕ → ℕ → Bool → List ℕ → List Row
-clipRecordRows b amount start d = short b ∷ tooLong (recordOps b) ∷ noRoom d (length (clippedOps (recordOps b) amount start)) ∷ []
+clipRecordRows b amount start d = short b ∷ tooLong (recordOps b) ∷ beyond (recordOps b) amount start ∷ noRoom d (length (clippedOps (recordOps b) amount start)) ∷ []
 
 -- ---- pair tests and overhang
 

@@ -94,6 +94,10 @@ pub fn cigar_to_string(bam: &[u8], out: &mut [u8]) -> Count {
     RawRecordView::new(bam).cigar_to_string(out)
 }
 
-pub fn clip_cigar_ops(bam: &[u8], amount: u64, from_start: bool, out: &mut [u32]) -> Clipped {
-    RawRecordView::new(bam).clip_cigar_ops(amount, from_start, out)
+pub fn clip_cigar_start(bam: &[u8], amount: u64, out: &mut [u32]) -> Clipped {
+    RawRecordView::new(bam).clip_cigar_start(amount, out)
+}
+
+pub fn clip_cigar_end(bam: &[u8], amount: u64, out: &mut [u32]) -> Count {
+    RawRecordView::new(bam).clip_cigar_end(amount, out)
 }

@@ -1,5 +1,5 @@
 // Runs each method of the view on document 01's record, in reverse, unmapped and at the ends of the range, and on short and damaged records. A record has five lines:
-// its fields; the part that holds its ops, and the number beside it; lengths and ends; its text, in 12 places; and its ops clipped at the start by 25, at the end by 5 and by 0, in 3 places.
+// its fields; the part that holds its ops, and the number beside it; lengths and ends; its text, in 12 places; and its ops clipped at the start by 25, at the end by 5, by 0 and by 26, in 3 places.
 mod asked;
 mod record;
 mod shown;
@@ -82,10 +82,17 @@ fn printed(bam: &[u8]) {
     shown::end();
 }
 
-fn clipped(bam: &[u8], amount: u64, from_start: bool) {
+fn clipped_start(bam: &[u8], amount: u64) {
     let mut out = [112u32; 3];
-    let got = asked::clip_cigar_ops(bam, amount, from_start, &mut out);
-    shown::clipped(got, &out);
+    let got = asked::clip_cigar_start(bam, amount, &mut out);
+    shown::clipped_start(got, &out);
+}
+
+fn clipped_end(bam: &[u8], amount: u64) {
+    let mut out = [112u32; 3];
+    let got = asked::clip_cigar_end(bam, amount, &mut out);
+    shown::text(b"; ");
+    shown::clipped_end(got, &out);
 }
 
 fn show(name: &[u8], bam: &[u8]) {
@@ -99,11 +106,10 @@ fn show(name: &[u8], bam: &[u8]) {
     sums(bam);
     printed(bam);
     shown::text(b"  clipped ");
-    clipped(bam, 25, true);
-    shown::text(b"; ");
-    clipped(bam, 5, false);
-    shown::text(b"; ");
-    clipped(bam, 0, false);
+    clipped_start(bam, 25);
+    clipped_end(bam, 5);
+    clipped_end(bam, 0);
+    clipped_end(bam, 26);
     shown::end();
 }
 

@@ -133,19 +133,30 @@ fn first(words: &[u32], n: usize) {
     }
 }
 
-// The list written and the count; or the refusal, and what the output holds.
-pub fn clipped(answer: Clipped, out: &[u32]) {
+// A refusal, and what the output holds.
+fn refused_beside(why: Refusal, out: &[u32]) {
+    refused(why);
+    text(b" leaves ");
+    list(out);
+}
+
+// The list written and the count.
+pub fn clipped_start(answer: Clipped, out: &[u32]) {
     match answer {
         Clipped::Done(n, count) => {
             first(out, n as usize);
             text(b" ");
             natural(count);
         }
-        Clipped::Refused(why) => {
-            refused(why);
-            text(b" leaves ");
-            list(out);
-        }
+        Clipped::Refused(why) => refused_beside(why, out),
+    }
+}
+
+// The list written.
+pub fn clipped_end(answer: Count, out: &[u32]) {
+    match answer {
+        Count::Number(n) => first(out, n as usize),
+        Count::Refused(why) => refused_beside(why, out),
     }
 }
 

@@ -6,7 +6,7 @@ ghost use Rattle.fields.specs.Fields.{intField, natField, posField, partRefusal
 ghost use Rattle.lengths.specs.Lengths.{checkedRefLength, recordQueryLength, recordLengths};
 ghost use Rattle.ends_rules.specs.Ends.{unclippedOf, alignmentStart, alignmentEnd};
 ghost use Rattle.print_rules.specs.Text.{printed};
-ghost use Rattle.clip_rules.specs.Answer.{clippedRecord};
+ghost use Rattle.clip_rules.specs.Answer.{recordStart, recordEnd};
 use answers::Count;
 use answers::Int;
 use answers::Nat;
@@ -141,9 +141,15 @@ impl<'a> RawRecordView<'a> {
         print::cigar_to_bytes_into(self.0, out)
     }
 
-    pub fn clip_cigar_ops(&self, amount: u64, from_start: bool, out: &mut [u32]) -> Clipped
-        ensures { λ r. ⌜ Settled (clippedRecord (now (now (self .entry) .0)) amount «from_start» (now (out .entry))) r (now (out .exit)) ⌝ }
+    pub fn clip_cigar_start(&self, amount: u64, out: &mut [u32]) -> Clipped
+        ensures { λ r. ⌜ Settled (recordStart (now (now (self .entry) .0)) amount (now (out .entry))) r (now (out .exit)) ⌝ }
     {
-        clip::clip_cigar_ops(self.0, amount, from_start, out)
+        clip::clip_cigar_start(self.0, amount, out)
+    }
+
+    pub fn clip_cigar_end(&self, amount: u64, out: &mut [u32]) -> Count
+        ensures { λ r. ⌜ Settled (recordEnd (now (now (self .entry) .0)) amount (now (out .entry))) r (now (out .exit)) ⌝ }
+    {
+        clip::clip_cigar_end(self.0, amount, out)
     }
 }

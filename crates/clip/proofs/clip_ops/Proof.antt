@@ -40,23 +40,23 @@ count-requires : tie.Need-count-requires
 count-requires c κs = search needs
 
 sub-n : tie.Need-sub-n
-sub-n c = let g = c .before .before .before in let s = plan-skip (seen g) (end g) (made g .2) in omega arith
+sub-n c = let g = c .before .before .before in let s = plan-skip (seen g) (end g) (made g .2 .1) in omega arith
 
 add-n : tie.Need-add-n
-add-n c = let g = c .before .before .before .before in omega (arith, made g .2 .heads-in)
+add-n c = let g = c .before .before .before .before in omega (arith, made g .2 .1 .heads-in)
 
 returns : tie.Need-returns
 returns c =
     let g = c .before .before .before .before .before in
     let a = start-of g .args in
-    let l = plan-length (seen g) (end g) (made g .2) in
-    settled (within (seen g) (a .amount) (end g) (a .out .now) (made g .0) ∙ no-room (seen g) (a .amount) (end g) (a .out .now) (made g .1) (omega arith))
+    let l = plan-length (seen g) (end g) (made g .2 .1) in
+    settled (within (seen g) (a .amount) (end g) (a .out .now) (made g .0) ∙ no-room (seen g) (a .amount) (end g) (a .out .now) (made g .1) (made g .2 .0) (omega arith))
 
 write-start-requires : tie.Need-write-start-requires
 write-start-requires c κs =
     let g = c .before .before .before .before .before .before .before in
-    let s = plan-skip (seen g) (end g) (made g .2) in
-    (made g .2 .heads-in, (s, omega arith))
+    let s = plan-skip (seen g) (end g) (made g .2 .1) in
+    (made g .2 .1 .heads-in, (s, omega arith))
 
 same-length : tie.Need-same-length
 same-length c = search needs
@@ -71,13 +71,13 @@ returns-2 c =
     let p = g .p .given .0 .0 in
     let a = start-of g .args in
     rw (within (seen g) (a .amount) (end g) (a .out .now) (made g .0))
-    (done-start (seen g) (end g) (made g .2) (a .out .now) _ _ (made g .1) (e .if1 .left) (ap (λ (k : ℕ). p .heads + (k - p .skip)) (n .count .ensures .0)) (t .if2 .taken) (w .write-start .ensures))
+    (done-start (seen g) (end g) (made g .2 .1) (a .out .now) _ _ (made g .1) (made g .2 .0) (e .if1 .left) (ap (λ (k : ℕ). p .heads + (k - p .skip)) (n .count .ensures .0)) (t .if2 .taken) (w .write-start .ensures))
 
 write-end-requires : tie.Need-write-end-requires
 write-end-requires c κs =
     let g = c .before .before .before .before .before .before .before in
-    let s = plan-skip (seen g) (end g) (made g .2) in
-    (made g .2 .heads-in, (s, omega arith))
+    let s = plan-skip (seen g) (end g) (made g .2 .1) in
+    (made g .2 .1 .heads-in, (s, omega arith))
 
 enum-known-why : tie.Need-enum-known-why
 enum-known-why c = search needs
@@ -95,7 +95,7 @@ returns-3 c =
     let p = g .p .given .0 .0 in
     let a = start-of g .args in
     rw (within (seen g) (a .amount) (end g) (a .out .now) (made g .0))
-    (done-end (seen g) (end g) (made g .2) (a .out .now) _ _ (made g .1) (e .if1 .left) (ap (λ (k : ℕ). p .heads + (k - p .skip)) (n .count .ensures .0)) (t .if2 .left) (w .write-end .ensures))
+    (done-end (seen g) (end g) (made g .2 .1) (a .out .now) _ _ (made g .1) (made g .2 .0) (e .if1 .left) (ap (λ (k : ℕ). p .heads + (k - p .skip)) (n .count .ensures .0)) (t .if2 .left) (w .write-end .ensures))
 
 returns-4 : tie.Need-returns-4
 returns-4 c =

@@ -1,6 +1,6 @@
--- Each way out is one case of the rule; the lengths fit, since all of them fit together.
+-- Each way out is one case of the rule, and 19 is due where the taking fell short; the lengths fit, since all of them fit together.
 use Prim.Native.Nat.{ℕ, _+_, _<_, _≤_}
-use mathlib.Core.Path.{_≡_, sym, _∙_}
+use mathlib.Core.Path.{_≡_, refl, sym, _∙_}
 use mathlib.Core.List.{List}
 use native.Mathlib.Omega.{arith}
 use lib.ListN.{length, drop}
@@ -11,6 +11,7 @@ use Rattle.lists.proofs.Sums.{sum-facing}
 use Rattle.sam.specs.Op.{lenOf}
 use Rattle.oplist.specs.Ops.{opsOf}
 use Rattle.clip_rules.proofs.RuleLaws.{taking-fits, clip-none, clip-empty, outer-fits, clip-upgrade, clip-cut}
+use Rattle.clip_rules.proofs.BeyondLaws.{not-of-none, not-within, not-in-clips, short-beyond, enough-within}
 use Rattle.clip_plan.proofs.make_plan.Statement.{statement}
 use Rattle.clip_plan.proofs.make_plan.Tie as tie
 
@@ -39,8 +40,11 @@ fits k =
 bases-fit : (t : tie.After-take-bases) → t .take-bases .result .bases ≤ sumOf lenOf (drop (t .before .before .outer-runs .result .next) (X (start-of (t .before .before))))
 bases-fit t = taking-fits (t .take-bases .ensures)
 
-any : (k : tie.After-outer-runs) → length (X (start-of k)) ≡ 0 → ⊥
-any k e = k .before .before .if2 .left (k .before .before .before .count .ensures .0 ∙ sym (long (start-of k)) ∙ e)
+any : (k : tie.After-outer-runs) → length (Xs (start-of k)) ≡ 0 → ⊥
+any k e = k .before .before .if2 .left (k .before .before .before .count .ensures .0 ∙ e)
+
+any-seen : (k : tie.After-outer-runs) → length (X (start-of k)) ≡ 0 → ⊥
+any-seen k e = any k (sym (long (start-of k)) ∙ e)
 
 unchanged-requires : tie.Need-unchanged-requires
 unchanged-requires c κs = search needs
@@ -48,7 +52,10 @@ unchanged-requires c κs = search needs
 returns : tie.Need-returns
 returns c = let s = c .before .before .before .before in
     let u = c .unchanged .ensures in
-    record { cut-is = rw (u .0, u .1, u .2) (clip-none (X s) (s .args .amount) (c .before .if1 .taken)); skip-in = omega arith; heads-in = omega arith }
+    let z : s .args .amount ≡ 0 = c .before .if1 .taken in (
+      not-within (Xs s) (s .args .amount) (s .args .start) (omega arith),
+      record { cut-is = rw (u .0, u .1, u .2) (clip-none (X s) (s .args .amount) z); skip-in = omega arith; heads-in = omega arith },
+    )
 
 count-requires : tie.Need-count-requires
 count-requires c κs = search needs
@@ -59,11 +66,10 @@ unchanged-requires-2 c κs = search needs
 returns-2 : tie.Need-returns-2
 returns-2 c = let s = c .before .before .before .before .before .before in
     let u = c .unchanged2 .ensures in
-    record {
-      cut-is = rw (u .0, u .1, u .2) (clip-empty (X s) (s .args .amount) (c .before .before .before .if1 .left) (long s ∙ sym (c .before .before .count .ensures .0) ∙ c .before .if2 .taken));
-      skip-in = omega arith;
-      heads-in = omega arith;
-    }
+    let z : length (Xs s) ≡ 0 = sym (c .before .before .count .ensures .0) ∙ c .before .if2 .taken in (
+      not-of-none (Xs s) (s .args .amount) (s .args .start) z,
+      record { cut-is = rw (u .0, u .1, u .2) (clip-empty (X s) (s .args .amount) (c .before .before .before .if1 .left) (long s ∙ z)); skip-in = omega arith; heads-in = omega arith },
+    )
 
 leading-clips-requires : tie.Need-leading-clips-requires
 leading-clips-requires c κs = search needs
@@ -76,40 +82,55 @@ upgrade-requires c κs = let f = fits (c .before) in omega arith
 
 returns-3 : tie.Need-returns-3
 returns-3 c = let k = c .before .before in
-    record {
-      cut-is = c .upgrade .ensures .0 (X (start-of k))
-          ∙ clip-upgrade (k .before .leading-clips .ensures) (k .outer-runs .ensures) (start-of k .args .amount) (k .before .before .before .before .if1 .left) (any k) (c .before .if3 .taken);
-      skip-in = omega arith;
-      heads-in = c .upgrade .ensures .1 .1;
-    }
+    let a = start-of k .args in (
+      not-in-clips (Xs (start-of k)) (a .amount) (a .start) (k .before .leading-clips .ensures) (c .before .if3 .taken),
+      record {
+        cut-is = c .upgrade .ensures .0 (X (start-of k))
+            ∙ clip-upgrade (k .before .leading-clips .ensures) (k .outer-runs .ensures) (a .amount) (k .before .before .before .before .if1 .left) (any-seen k) (c .before .if3 .taken);
+        skip-in = omega arith;
+        heads-in = c .upgrade .ensures .1 .1;
+      },
+    )
 
-sub-take-bases : tie.Need-sub-take-bases
-sub-take-bases c = search needs
+sub-n : tie.Need-sub-n
+sub-n c = search needs
 
 take-bases-requires : tie.Need-take-bases-requires
 take-bases-requires c κs = let l = long (start-of (c .before)) in omega arith
 
-add-t10 : tie.Need-add-t10
-add-t10 c = search needs
+returns-4 : tie.Need-returns-4
+returns-4 c = let t = c .before .before in
+    let k = t .before .before in
+    let a = start-of k .args in (
+      short-beyond (Xs (start-of k)) (a .amount) (a .start) (k .before .leading-clips .ensures) (k .outer-runs .ensures) (t .before .if3 .left) (t .take-bases .ensures) (any k) (omega arith),
+      refl,
+    )
+
+add-t12 : tie.Need-add-t12
+add-t12 c = search needs
 
 add-encode-op : tie.Need-add-encode-op
-add-encode-op c = let f = fits (c .before .before .before .before) in omega arith
+add-encode-op c = let f = fits (c .before .before .before .before .before .before) in omega arith
 
 add-encode-op-2 : tie.Need-add-encode-op-2
-add-encode-op-2 c = let t = c .before .before .before in let f = fits (t .before .before) in let g = bases-fit t in omega arith
+add-encode-op-2 c = let t = c .before .before .before .before .before in let f = fits (t .before .before) in let g = bases-fit t in omega arith
 
 encode-op-requires : tie.Need-encode-op-requires
-encode-op-requires c κs = let t = c .before .before .before in let f = fits (t .before .before) in let g = bases-fit t in omega arith
+encode-op-requires c κs = let t = c .before .before .before .before .before in let f = fits (t .before .before) in let g = bases-fit t in omega arith
 
-returns-4 : tie.Need-returns-4
-returns-4 c = let t = c .before .before .before .before in
+returns-5 : tie.Need-returns-5
+returns-5 c = let e = c .before .before .before .before in
+    let t = e .before .before in
     let k = t .before .before in
-    record {
-      cut-is = clip-cut (k .before .leading-clips .ensures) (k .outer-runs .ensures) (start-of k .args .amount) (k .before .before .before .before .if1 .left) (any k)
-          (c .encode-op .result) (t .before .if3 .left) (t .take-bases .ensures) (c .encode-op .ensures);
-      skip-in = t .take-bases .ensures .next-in;
-      heads-in = omega arith;
-    }
+    let a = start-of k .args in (
+      enough-within (Xs (start-of k)) (a .amount) (a .start) (k .before .leading-clips .ensures) (k .outer-runs .ensures) (t .before .if3 .left) (t .take-bases .ensures) (omega arith),
+      record {
+        cut-is = clip-cut (k .before .leading-clips .ensures) (k .outer-runs .ensures) (a .amount) (k .before .before .before .before .if1 .left) (any-seen k)
+            (c .encode-op .result) (t .before .if3 .left) (t .take-bases .ensures) (c .encode-op .ensures);
+        skip-in = t .take-bases .ensures .next-in;
+        heads-in = omega arith;
+      },
+    )
 
 pub make-plan-spec : {M : Type 1} → statement M
 make-plan-spec =
@@ -124,10 +145,11 @@ make-plan-spec =
     outer-runs-requires
     upgrade-requires
     returns-3
-    sub-take-bases
+    sub-n
     take-bases-requires
-    add-t10
+    returns-4
+    add-t12
     add-encode-op
     add-encode-op-2
     encode-op-requires
-    returns-4)
+    returns-5)

@@ -1,4 +1,4 @@
--- Each refusal is its test's, and the plan is made of what both have passed.
+-- 3 and 8 are their tests', and the plan, or 19, is that of what both have passed.
 use Prim.Native.Nat.{_≤_}
 use mathlib.Core.Path.{refl, sym, _∙_}
 use mathlib.Core.Logic.{inl, inr}
@@ -7,6 +7,7 @@ use borrow.Author.Tests.{ltb-true, ltb-false}
 use Rattle.lists.specs.Lists.{sumOf}
 use Rattle.sam.specs.Op.{lenOf}
 use Rattle.oplist.specs.Ops.{opsOf}
+use Rattle.clip_rules.proofs.AnswerLaws.{planned}
 use borrow.Author.Needs.{needs}
 use Rattle.clip_plan.proofs.plan_clip.Statement.{statement}
 use Rattle.clip_plan.proofs.plan_clip.Tie as tie
@@ -27,13 +28,15 @@ is-too-long-requires : tie.Need-is-too-long-requires
 is-too-long-requires c κs = search needs
 
 returns-2 : tie.Need-returns-2
-returns-2 c = inr (omega arith, ltb-true 268435455 _ (sym (c .before .is-too-long .ensures) ∙ c .if2 .taken), refl)
+returns-2 c = inr (inl (omega arith, ltb-true 268435455 _ (sym (c .before .is-too-long .ensures) ∙ c .if2 .taken), refl))
 
 make-plan-requires : tie.Need-make-plan-requires
 make-plan-requires c κs = omega (arith, fits c)
 
 returns-3 : tie.Need-returns-3
-returns-3 c = (omega arith, fits (c .before), c .make-plan .ensures)
+returns-3 c = let s = c .before .before .before .before .before .before .before in
+    let a = s .args in
+    planned (a .limit) (opsOf (a .words .now) (a .rec .now) (a .list)) (a .amount) (a .start) (omega arith) (fits (c .before)) (c .make-plan .result) (c .make-plan .ensures)
 
 pub plan-clip-spec : {M : Type 1} → statement M
 plan-clip-spec =
