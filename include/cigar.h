@@ -6,6 +6,7 @@
  *    3 a list has over 65,535 ops           8 clipping: total length 2^28 or more
  *    4 a signed 32-bit sum overflows        9 lookup: start outside 1 to 2^31
  *    5 the text is no valid mapped CIGAR   10 op_new: length 0 or above 268,435,455
+ *   17 CSI: min_shift or depth out of range 18 CSI: not 0 <= beg < end <= 2^(min_shift + 3 * depth)
  *   19 clipping: the amount is beyond what can be clipped
  * A call that cannot refuse returns its value.
  *
@@ -124,6 +125,11 @@ struct cigar_count cigar_reg2bin(int32_t beg, int32_t end);
 struct cigar_count cigar_bin_from_raw_bam(const uint8_t *rec, size_t rec_len);
 /* The same, and written to bytes 10 and 11 of the record, which keeps its content where the call refuses. Refusals 1, 2, 4 */
 struct cigar_count cigar_set_bin_from_raw_bam(uint8_t *rec, size_t rec_len);
+/* The CSI bin of the region from beg to end, counted from 0, end not included: the smallest that holds it. min_shift is 10 to 20, depth 1 to 8; with 14 and 5 it is
+ * cigar_reg2bin's. Refusals 17, 18 */
+struct cigar_count cigar_csi_reg2bin(int64_t beg, int64_t end, uint32_t min_shift, uint32_t depth);
+/* All CSI bins that may overlap the region into out, level by level from the coarsest, ascending: how many. Refusals 17, 18, 6 */
+struct cigar_count cigar_csi_reg2bins(int64_t beg, int64_t end, uint32_t min_shift, uint32_t depth, uint32_t *out, size_t out_len);
 
 /* ======== libexports_reads.a ======== */
 

@@ -32,13 +32,14 @@ static uint32_t list_area[2][MOST];
 static uint32_t ops_room[MOST + GUARD];
 static uint8_t bytes_room[MOST + GUARD];
 
-/* ---- the calls: name; arguments (R bytes, W bytes lent to be written, L list, o and b lent outputs of ops and bytes, i and u 32 bits, U 64 bits, f flag);
+/* ---- the calls: name; arguments (R bytes, W bytes lent to be written, L list, o and b lent outputs of ops and bytes, i and u 32 bits, I and U 64 bits, f flag);
  * values (s signed, u unsigned, n none or a number, c a signed position, or unmapped, or no ops, p a part of the record); and how they are passed */
 
 #define BUFFER(i, part) null_if_empty && !arg[i].n ? 0 : arg[i].part, arg[i].n
 #define BYTES(i) BUFFER(i, bytes)
 #define OPS(i) BUFFER(i, ops)
 #define I32(i) (int32_t)arg[i].number
+#define I64(i) (int64_t)arg[i].number
 #define U32(i) (uint32_t)arg[i].number
 #define U64(i) arg[i].number
 #define FLAG(i) (uint8_t)arg[i].number
@@ -96,7 +97,9 @@ static uint8_t bytes_room[MOST + GUARD];
     CALL(num_bases_extending_past_mate_text_raw, "RRo", "uu", BYTES(0), BYTES(1), OPS(2)) \
     CALL(reg2bin, "ii", "u", I32(0), I32(1)) \
     CALL(bin_from_raw_bam, "R", "u", BYTES(0)) \
-    CALL(set_bin_from_raw_bam, "W", "u", BYTES(0))
+    CALL(set_bin_from_raw_bam, "W", "u", BYTES(0)) \
+    CALL(csi_reg2bin, "IIuu", "u", I64(0), I64(1), U32(2), U32(3)) \
+    CALL(csi_reg2bins, "IIuuo", "u", I64(0), I64(1), U32(2), U32(3), OPS(4))
 
 /* A call that the library lacks is a null pointer here, and a bad request. */
 #define CALL(name, args, kinds, ...) extern __typeof__(cigar_##name) cigar_##name __attribute__((weak));
@@ -233,12 +236,13 @@ static int up_to(uint64_t most, uint64_t *n)
     return decimal(n) && *n <= most;
 }
 
-static int read_i32(struct arg *a)
+/* A number from -most - 1 to most. */
+static int read_signed(struct arg *a, uint64_t most)
 {
     if (*at != '-')
-        return up_to(2147483647u, &a->number);
+        return up_to(most, &a->number);
     at++;
-    if (!up_to(2147483648u, &a->number))
+    if (!up_to(most + 1, &a->number))
         return 0;
     a->number = -a->number;
     return 1;
@@ -322,7 +326,9 @@ static int read_arg(char kind, int i)
     case 'b':
         return read_room(a, kind == 'o');
     case 'i':
-        return read_i32(a);
+        return read_signed(a, 2147483647u);
+    case 'I':
+        return read_signed(a, 9223372036854775807u);
     case 'u':
         return up_to(4294967295u, &a->number);
     case 'U':

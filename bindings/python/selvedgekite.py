@@ -10,7 +10,7 @@ The shared library is libselvedgekite.so, that ./build-libraries writes to targe
 SELVEDGEKITE_LIB names another folder."""
 import os
 from array import array
-from ctypes import CDLL, POINTER, Structure, c_bool, c_char_p, c_int32, c_size_t, c_uint8, c_uint16, c_uint32, c_uint64
+from ctypes import CDLL, POINTER, Structure, c_bool, c_char_p, c_int32, c_int64, c_size_t, c_uint8, c_uint16, c_uint32, c_uint64
 from operator import index
 
 WORDS = {
@@ -24,6 +24,8 @@ WORDS = {
     8: 'clipping: the lengths sum to 2^28 or more',
     9: 'lookup: alignment start outside 1 to 2^31',
     10: 'op length 0 or above 268,435,455',
+    17: 'CSI bins: min_shift outside 10 to 20, or depth outside 1 to 8',
+    18: 'CSI bins: not 0 <= beg < end <= 2^(min_shift + 3 * depth)',
     19: 'clipping: the amount is beyond what can be clipped',
 }
 
@@ -101,6 +103,8 @@ DECLARED = [
     (c_uint32, [c_uint32], 'op_kind op_len'),
     (Found, [c_uint32, c_uint32], 'op_new'),
     (Count, [c_int32, c_int32], 'reg2bin'),
+    (Count, [c_int64, c_int64, c_uint32, c_uint32], 'csi_reg2bin'),
+    (Count, [c_int64, c_int64, c_uint32, c_uint32] + OPS, 'csi_reg2bins'),
     (Count, BYTES + OPS, 'get_cigar_ops parse_cigar_string_ops num_bases_extending_past_mate_cigar_raw'),
     (Count, BYTES + ROOM, 'cigar_to_bytes_into'),
     (c_int32, [c_int32, c_uint8] + BYTES, 'mate_unclipped_5prime mate_unclipped_5prime_1based'),
@@ -168,6 +172,10 @@ def _i32(n):
 
 def _u32(n):
     return _fits(n, 0, 2**32 - 1)
+
+
+def _i64(n):
+    return _fits(n, -2**63, 2**63 - 1)
 
 
 def _u64(n):
@@ -378,6 +386,17 @@ def bin_from_raw_bam(bam):
 def set_bin_from_raw_bam(bam):
     """Writes the bin to bytes 10 and 11 of the record, a bytearray, and answers it."""
     return _value(C.cigar_set_bin_from_raw_bam((c_uint8 * len(bam)).from_buffer(bam), len(bam)))
+
+
+def csi_reg2bin(beg, end, min_shift, depth):
+    """The CSI bin of the region from beg to end, counted from 0, end not included: the smallest that holds it. With 14 and 5 it is reg2bin's."""
+    return _value(C.cigar_csi_reg2bin(_i64(beg), _i64(end), _u32(min_shift), _u32(depth)))
+
+
+def csi_reg2bins(beg, end, min_shift, depth):
+    """All CSI bins that may overlap the region, level by level from the coarsest, ascending."""
+    answer, out = _filled(C.cigar_csi_reg2bins, _i64(beg), _i64(end), _u32(min_shift), _u32(depth))
+    return out[:answer.value]
 
 
 # ---- text

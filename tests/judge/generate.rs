@@ -1,5 +1,6 @@
 //! Seeded request lines over every call: short lists and texts exhaustively, boundaries, damaged and truncated records, rooms full and short.
 
+use crate::csi;
 use crate::protocol::{put_hex, put_list, put_number, put_signed};
 use crate::rules;
 use original::{cigar, overlap};
@@ -45,13 +46,14 @@ impl Rng {
 enum Arg<'a> {
     Number(u64),
     Signed(i32),
+    Wide(i64),
     Flag(bool),
     Bytes(&'a [u8]),
     List(&'a [u32]),
     Room(usize),
 }
 
-use Arg::{Bytes, Flag, List, Number, Room, Signed};
+use Arg::{Bytes, Flag, List, Number, Room, Signed, Wide};
 
 type Done = io::Result<()>;
 
@@ -81,7 +83,10 @@ pub fn all(seed: u64, size: u64, emit: &mut dyn FnMut(&[u8]) -> Done) -> Done {
     out.damaged_pairs()?;
     out.bins()?;
     out.giants()?;
-    out.reserved_positions()
+    out.reserved_positions()?;
+    out.csi_edges()?;
+    out.csi_ranges()?;
+    out.csi_random()
 }
 
 // ---- ops, lists and texts
@@ -412,6 +417,7 @@ impl Out<'_> {
             match *arg {
                 Number(n) => put_number(n, line),
                 Signed(n) => put_signed(n.into(), line),
+                Wide(n) => put_signed(n, line),
                 Flag(f) => line.push(b'0' + u8::from(f)),
                 Bytes(bytes) => put_hex(bytes, line),
                 List(list) => put_list(list, line),
@@ -999,5 +1005,65 @@ impl Out<'_> {
         let bytes = record.bytes(&mut self.rng);
         self.record_calls(&bytes)?;
         self.say("get_cigar_ops", &[Bytes(&bytes), Room(count)])
+    }
+
+    // ---- CSI bins
+
+    /// Both calls; a list of more than 3,000 bins gets too little room.
+    fn csi_calls(&mut self, beg: i64, end: i64, min_shift: u32, depth: u32) -> Done {
+        let (shift, levels) = (min_shift.into(), depth.into());
+        self.say("csi_reg2bin", &[Wide(beg), Wide(end), Number(shift), Number(levels)])?;
+        let places = if csi::refusal(beg, end, min_shift, depth).is_some() { 2 } else { csi::count(beg, end, min_shift, depth).min(3_000) as usize };
+        let room = self.room(places);
+        self.say("csi_reg2bins", &[Wide(beg), Wide(end), Number(shift), Number(levels), room])
+    }
+
+    /// All regions between places at most one off an edge of a bin, of genomes of 8 and 64 bins of 1,024 bases.
+    fn csi_edges(&mut self) -> Done {
+        for depth in [1, 2] {
+            let places: Vec<i64> = (0..=1i64 << (3 * depth)).flat_map(|i| [1024 * i - 1, 1024 * i, 1024 * i + 1]).collect();
+            for &beg in &places {
+                for &end in &places {
+                    self.csi_calls(beg, end, 10, depth)?;
+                }
+            }
+        }
+        Ok(())
+    }
+
+    /// Shifts and depths in range and out of it, each with regions at both ends of the genome, outside it, empty, turned round and as far as 64 bits go.
+    fn csi_ranges(&mut self) -> Done {
+        const FAR: [i64; 8] = [i64::MIN, i64::MIN + 1, -1, 0, 1, 1 << 44, i64::MAX - 1, i64::MAX];
+        for min_shift in (0..=24).chain([31, 32, 63, 64, u32::MAX]) {
+            for depth in (0..=11).chain([21, 64, u32::MAX]) {
+                let genome = 1 << (min_shift.min(20) + 3 * depth.min(8));
+                for (beg, end) in [(0, 1), (genome - 1, genome), (genome, genome + 1), (genome - 1, genome + 1), (0, genome), (0, genome + 1), (5, 5), (6, 5), (-1, 1)] {
+                    self.csi_calls(beg, end, min_shift, depth)?;
+                }
+                let (beg, end) = (self.rng.pick(&FAR), self.rng.pick(&FAR));
+                self.csi_calls(beg, end, min_shift, depth)?;
+            }
+        }
+        Ok(())
+    }
+
+    /// Regions of all lengths, anywhere or at an edge of some level's bins.
+    fn csi_random(&mut self) -> Done {
+        for _ in 0..60_000 * self.size {
+            let (min_shift, depth) = (10 + self.rng.below(11) as u32, 1 + self.rng.below(8) as u32);
+            let bits = u64::from(min_shift + 3 * depth);
+            let mut beg = self.rng.below(1 << bits) as i64;
+            if self.rng.one_in(3) {
+                let level = min_shift + 3 * self.rng.below(depth.into()) as u32;
+                beg = ((beg >> level) << level) + self.rng.range(-1, 1);
+            }
+            let longest = self.rng.below((u64::from(min_shift) + 6).min(bits) + 1);
+            let mut end = beg + 1 + self.rng.below(1 << longest) as i64;
+            if self.rng.one_in(16) {
+                end = (1 << bits) + self.rng.range(-1, 1);
+            }
+            self.csi_calls(beg, end, min_shift, depth)?;
+        }
+        Ok(())
     }
 }

@@ -1,7 +1,8 @@
-//! The judge: `judge oracle` answers request lines by the original, `judge generate SEED [SIZE]` writes request lines, `judge pairs SEED [SIZE]`
+//! The judge: `judge oracle` answers request lines by the original, and where it has no such call by a plain second program, `judge generate SEED [SIZE]` writes request lines, `judge pairs SEED [SIZE]`
 //! writes both with a tab between, `judge differ` reads such lines and tells how many answers are not its own, `judge table SEED [SIZE]` counts the
 //! answers of each kind, `judge record SEED` keeps some of each kind, `judge calls` names the calls.
 
+mod csi;
 mod generate;
 mod oracle;
 mod protocol;

@@ -1,6 +1,8 @@
 //! Every call of the protocol, answered by the original inside document 01's domain. The refusal that is due is computed first, by `rules`;
-//! the original is then held to it: it has to stop exactly where 4, 7 or 10 is due, and nowhere else. Where document 02 parts from the original, its answer is folded.
+//! the original is then held to it: it has to stop exactly where 4, 7 or 10 is due, and nowhere else. Where document 02 parts from the original, its answer is folded;
+//! a call that the original lacks is answered by a plain second program.
 
+use crate::csi;
 use crate::protocol::{FILL_BYTES, FILL_OPS, Reply, Said, Words, split};
 use crate::rules;
 use original::cigar::{self, CigarKind, CigarOp};
@@ -449,8 +451,31 @@ fn set_bin_from_raw_bam(words: &mut Words) -> Option<Reply> {
     Some(Reply { said: said(answer, |written| one(u16::from_le_bytes([written[10], written[11]]))), lent: Some(lent) })
 }
 
+// ---- CSI bins, which the original lacks
+
+fn csi_reg2bin(words: &mut Words) -> Option<Reply> {
+    let (beg, end, min_shift, depth) = (words.i64()?, words.i64()?, words.u32()?, words.u32()?);
+    words.done()?;
+    alone(match csi::refusal(beg, end, min_shift, depth) {
+        Some(n) => Said::Refusal(n),
+        None => one(csi::bin(beg, end, min_shift, depth)),
+    })
+}
+
+/// 6 is decided by the count, before a list that may have millions of bins is made.
+fn csi_reg2bins(words: &mut Words) -> Option<Reply> {
+    let (beg, end, min_shift, depth, room) = (words.i64()?, words.i64()?, words.u32()?, words.u32()?, words.room()?);
+    words.done()?;
+    let answer = match csi::refusal(beg, end, min_shift, depth) {
+        Some(n) => Err(Said::Refusal(n)),
+        None if csi::count(beg, end, min_shift, depth) > room as i64 => Err(Said::Refusal(6)),
+        None => Ok(counted(csi::bins(beg, end, min_shift, depth))),
+    };
+    lend(room, FILL_OPS, answer)
+}
+
 /// Every call of the protocol, in its order.
-pub const CALLS: [(&str, Call); 53] = [
+pub const CALLS: [(&str, Call); 55] = [
     ("ref_id", |w| of_record(w, never, fields::ref_id, one)),
     ("pos", |w| of_record(w, never, fields::pos, one)),
     ("l_read_name", |w| of_record(w, never, fields::reach::l_read_name, one)),
@@ -504,6 +529,8 @@ pub const CALLS: [(&str, Call); 53] = [
     ("reg2bin", reg2bin),
     ("bin_from_raw_bam", |w| of_asked(w, rules::asked_at_a_place, rules::bin_overflows, bin::bin_from_raw_bam, one)),
     ("set_bin_from_raw_bam", set_bin_from_raw_bam),
+    ("csi_reg2bin", csi_reg2bin),
+    ("csi_reg2bins", csi_reg2bins),
 ];
 
 /// The answer to a request, or none for a bad one.

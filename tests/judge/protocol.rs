@@ -69,12 +69,16 @@ impl<'a> Words<'a> {
         u32::try_from(self.u64()?).ok()
     }
 
-    pub fn i32(&mut self) -> Option<i32> {
+    pub fn i64(&mut self) -> Option<i64> {
         let word = self.word()?;
         match word.strip_prefix(b"-") {
-            Some(digits) => i32::try_from(-i64::try_from(decimal(digits)?).ok()?).ok(),
-            None => i32::try_from(decimal(word)?).ok(),
+            Some(digits) => 0i64.checked_sub_unsigned(decimal(digits)?),
+            None => i64::try_from(decimal(word)?).ok(),
         }
+    }
+
+    pub fn i32(&mut self) -> Option<i32> {
+        i32::try_from(self.i64()?).ok()
     }
 
     pub fn flag(&mut self) -> Option<bool> {

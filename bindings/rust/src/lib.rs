@@ -32,6 +32,10 @@ pub enum Refusal {
     BadStart = 9,
     /// `CigarOp::new`: length 0 or above 268,435,455.
     BadLength = 10,
+    /// CSI bins: min_shift outside 10 to 20, or depth outside 1 to 8.
+    BadLevels = 17,
+    /// CSI bins: the region is empty, begins below 0 or ends past the levels.
+    BadRegion = 18,
     /// Clipping: the amount is beyond what can be clipped.
     AmountBeyond = 19,
 }
@@ -47,6 +51,8 @@ const REFUSALS: &[(Refusal, &str)] = &[
     (Refusal::TooLong, "clipping: the lengths sum to 2^28 or more"),
     (Refusal::BadStart, "lookup: alignment start outside 1 to 2^31"),
     (Refusal::BadLength, "op length 0 or above 268,435,455"),
+    (Refusal::BadLevels, "CSI bins: min_shift outside 10 to 20, or depth outside 1 to 8"),
+    (Refusal::BadRegion, "CSI bins: not 0 <= beg < end <= 2^(min_shift + 3 * depth)"),
     (Refusal::AmountBeyond, "clipping: the amount is beyond what can be clipped"),
 ];
 
@@ -495,4 +501,16 @@ pub fn reg2bin(beg: i32, end: i32) -> Result<u16, Refusal> {
 #[inline]
 pub fn set_bin_from_raw_bam(bam: &mut [u8]) -> Result<u16, Refusal> {
     count(unsafe { raw::cigar_set_bin_from_raw_bam(bam.as_mut_ptr(), bam.len()) }).map(|x| x as u16)
+}
+
+/// The CSI bin of the region from `beg` to `end`, counted from 0, `end` not included: the smallest that holds it. With 14 and 5 it is [`reg2bin`]'s.
+#[inline]
+pub fn csi_reg2bin(beg: i64, end: i64, min_shift: u32, depth: u32) -> Result<u32, Refusal> {
+    count(unsafe { raw::cigar_csi_reg2bin(beg, end, min_shift, depth) }).map(|x| x as u32)
+}
+
+/// All CSI bins that may overlap the region, into the first places of `out`, level by level from the coarsest, ascending; how many.
+#[inline]
+pub fn csi_reg2bins(beg: i64, end: i64, min_shift: u32, depth: u32, out: &mut [u32]) -> Result<usize, Refusal> {
+    count(unsafe { raw::cigar_csi_reg2bins(beg, end, min_shift, depth, out.as_mut_ptr(), out.len()) })
 }

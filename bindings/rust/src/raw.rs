@@ -90,6 +90,8 @@ extern "C" {
     pub fn cigar_reg2bin(beg: i32, end: i32) -> Count;
     pub fn cigar_bin_from_raw_bam(rec: *const u8, rec_len: usize) -> Count;
     pub fn cigar_set_bin_from_raw_bam(rec: *mut u8, rec_len: usize) -> Count;
+    pub fn cigar_csi_reg2bin(beg: i64, end: i64, min_shift: u32, depth: u32) -> Count;
+    pub fn cigar_csi_reg2bins(beg: i64, end: i64, min_shift: u32, depth: u32, out: *mut u32, out_len: usize) -> Count;
     pub fn cigar_cigar_to_bytes_into(rec: *const u8, rec_len: usize, out: *mut u8, out_len: usize) -> Count;
     pub fn cigar_parse_cigar_string_ops(text: *const u8, text_len: usize, out: *mut u32, out_len: usize) -> Count;
     pub fn cigar_is_valid_mapped_cigar(ops: *const u32, ops_len: usize) -> Flag;

@@ -14,6 +14,8 @@ pub enum Refusal {
     TooLong,
     BadStart,
     BadLength,
+    BadLevels,
+    BadRegion,
     AmountBeyond,
 }
 
@@ -75,6 +77,8 @@ pub fn number(why: Refusal) -> u32
         Refusal::TooLong => 8,
         Refusal::BadStart => 9,
         Refusal::BadLength => 10,
+        Refusal::BadLevels => 17,
+        Refusal::BadRegion => 18,
         Refusal::AmountBeyond => 19,
     }
 }

@@ -1,6 +1,7 @@
 pub mod RowLaws
 pub mod LengthRows
 pub mod LeafRows
+pub mod CsiRows
 pub mod TextRows
 pub mod EndRows
 pub mod ClipRows
@@ -11,6 +12,7 @@ pub mod Demand3
 pub mod RoundTrip
 pub mod SamLaws
 pub mod ReadLaws
+pub mod CsiLaws
 pub mod AsBefore
 pub mod ThreeAnswers
 pub mod Marked

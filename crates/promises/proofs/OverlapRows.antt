@@ -12,9 +12,9 @@ use Rattle.signed.specs.declared.Side.the-variants.{Below, Within, Above}
 use Rattle.signed.specs.declared.Sum.{Sum}
 use Rattle.sam.specs.Record.{posOf, matePosOf, isShort}
 use Rattle.answers.specs.Answers.{tellFlag, tellCount}
-use Rattle.answers.proofs.Numbers.{not-zero}
 use Rattle.answers.specs.declared.Refusal.the-variants.{ShortRecord, TooManyOps, Overflow, NoRoom}
 use Rattle.answers.specs.declared.Count.the-variants as Count
+use Rattle.answers.proofs.Numbers.{not-zero}
 use Rattle.answers.specs.declared.Flag.{Flag}
 use Rattle.answers.specs.declared.Flag.the-variants as Flag
 use Rattle.ends_rules.specs.Sums.{both}

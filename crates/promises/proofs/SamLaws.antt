@@ -111,5 +111,5 @@ clip-drops xs a start = Dropped.clip-drops xs a start
 
 -- for 0 ≤ beg < end ≤ 2^29 `reg2bin` answers the smallest bin that holds the region
 pub bin-smallest : (beg end : ℕ) → beg < end → end ≤ 536870912
-    → (reg2bin (pos beg) (pos end) ≡ Number (low16 (binOf (pos beg) (pos (end - 1))))) × SmallestBin beg end (low16 (binOf (pos beg) (pos (end - 1))))
+    → (reg2bin (pos beg) (pos end) ≡ Number (low16 (binOf (pos beg) (pos (end - 1))))) × SmallestBin 14 5 beg end (low16 (binOf (pos beg) (pos (end - 1))))
 bin-smallest beg end h g = (Bins.answered beg end h g, Bins.smallest beg end h g)

@@ -1,6 +1,6 @@
 -- Document 01, "Numbers and their bounds", the refusal table: each number with the words of its row, then the rows of each call in its order:
 -- "list calls 3, 8, 9, 4, 6; printing 1, 7, 6; strict text 5, 3, 6; records 1, 3, 2, 8, 4, 6." Document 02, item 7: "2 and 4 now come from these callers, after 1",
--- wherever end, bin, pair tests and overhang ask for a record's reference length. Item 12: 19 of the two clipping calls, "directly after 8".
+-- wherever end, bin, pair tests and overhang ask for a record's reference length. Item 12: 19 of the two clipping calls, "directly after 8". Item 11: "17 [..], 18 [..]; then 6."
 use Prim.Native.Nat.{ℕ, _+_}
 use mathlib.Core.Bool.{Bool, true, false, cond, not, _||_, _&&_}
 use mathlib.Core.List.{List, [], _∷_, _++_}
@@ -15,6 +15,7 @@ use Rattle.ops.specs.Ops.{readLen}
 use Rattle.sam.specs.Record.{posOf, matePosOf, flagsOf, isUnmapped, isReverse, opsEnd, isShort}
 use Rattle.clip_runs.specs.Clips.{leadingClips, clipsAfterReference}
 use Rattle.bin_rules.specs.Bin.{spanOf}
+use Rattle.csi_rules.specs.Csi.{served, inside, regionBins}
 use Rattle.print_rules.specs.Text.{anyBad, textOf}
 use Rattle.oplist.specs.Ops.{mostOps, recordOps}
 use Rattle.text_rules.specs.Text.{textOps}
@@ -77,6 +78,14 @@ badStart start = 9 when (ltb start 1 || ltb 2147483648 start)
 abbrev pub badLength : ℕ → Row
 badLength n = 10 when (eqb n 0 || ltb 268435455 n)
 
+-- 17: "depth or shift out of range", which are 1 to 8 and 10 to 20
+abbrev pub badLevels : ℕ → ℕ → Row
+badLevels s d = 17 when not (served s d)
+
+-- 18: "unless 0 ≤ beg < end ≤ 2^(min_shift + 3 × depth)"
+abbrev pub badRegion : ℤ → ℤ → ℕ → ℕ → Row
+badRegion beg end s d = 18 when not (inside s d beg end)
+
 -- 19, document 02: "amounts beyond the end's clip run plus the list's M, I, = and X bases", "and not for an empty list"
 abbrev pub beyond : List ℕ → ℕ → Bool → Row
 beyond xs amount start = 19 when (not (eqb (length xs) 0) && ltb (leadingClips (facing start xs) + sumOf readLen xs) amount)
@@ -128,6 +137,14 @@ abbrev pub binRows : List ℕ → List Row
 binRows b =
     let end = posOf b +ℤ spanOf (refsOf b) in
     short b ∷ only (not (ltZ (posOf b) (pos 0))) (asked b ++ (over (end ∷ (end -ℤ pos 1) ∷ []) ∷ []))
+
+-- `csi_reg2bin`
+abbrev pub csiRows : ℤ → ℤ → ℕ → ℕ → List Row
+csiRows beg end s d = badLevels s d ∷ badRegion beg end s d ∷ []
+
+-- `csi_reg2bins`
+abbrev pub csiListRows : ℤ → ℤ → ℕ → ℕ → List ℕ → List Row
+csiListRows beg end s d out = badLevels s d ∷ badRegion beg end s d ∷ noRoom out (length (regionBins beg end s d)) ∷ []
 
 -- ---- text
 

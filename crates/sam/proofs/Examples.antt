@@ -1,10 +1,10 @@
 -- The specification's own examples, computed from its definitions: the alignments of 1.1 by their bases, r001/1 as a record, texts, clips that may
 -- stand and that may not, the levels of bins.
-use Prim.Native.Nat.{ℕ, _+_, _/_, _^_, _≤_}
+use Prim.Native.Nat.{ℕ, _≤_}
 use mathlib.Core.Path.{_≡_, refl, ap}
 use mathlib.Core.Bool.{true, false}
 use mathlib.Core.List.{List, [], _∷_}
-use mathlib.Core.Logic.{_⊎_, inl, inr, ⊎-elim}
+use mathlib.Core.Logic.{⊎-elim}
 use native.Mathlib.Omega.{arith}
 use lib.IntN.{pos}
 use lib.ListN.{length}
@@ -14,7 +14,7 @@ use Rattle.sam.specs.Op.{isQuery, isRef, queryLen, refLen}
 use Rattle.sam.specs.Record.{refIdOf, posOf, nameLenOf, storedBinOf, opCountOf, flagsOf, seqLenOf, mateRefIdOf, matePosOf, templateLenOf, isPaired, isUnmapped, isMateUnmapped, isReverse, isMateReverse, opsStart, opsIn}
 use Rattle.sam.specs.Placement.{WellPlaced}
 use Rattle.sam.specs.Text.{Digit, value, Spells, end, op}
-use Rattle.sam.specs.Bins.{Level, l29, l26, l23, l20, l17, l14, Holds}
+use Rattle.sam.specs.Bins.{firstOf, sizeOf, Holds}
 
 -- 8M2I4M1D3M, 3S6M1P1I4M, 5S6M, 6M14N5M, 6H5M, 9M: their query and reference bases
 abbrev Bases : List ℕ → ℕ → ℕ → Type 0
@@ -69,14 +69,13 @@ hard-inside w = ⊎-elim no no (w .hards (160 ∷ []) 85 (160 ∷ []) refl refl)
     no : _≡_ {A = List ℕ} (160 ∷ []) [] → ⊥
     no e = absurd (omega (arith, ap length e))
 
--- each level has eight times the bins of the one above, and its numbers follow that one's
-pub levels-follow : {m f : ℕ} → Level m f → (m ≡ 2 ^ 14) ⊎ Level (m / 8) (f + 2 ^ 29 / m)
-levels-follow l29 = inr l26
-levels-follow l26 = inr l23
-levels-follow l23 = inr l20
-levels-follow l20 = inr l17
-levels-follow l17 = inr l14
-levels-follow l14 = inl refl
+-- 5.1.1: bin 0 spans 2^29 bases, bins 1 to 8 span 2^26, 9 to 72 2^23, 73 to 584 2^20, 585 to 4680 2^17, and 4681 to 37448 2^14
+abbrev Spans : ℕ → ℕ → ℕ → Type 0
+Spans level first size = (firstOf level ≡ first) × (sizeOf 14 5 level ≡ size)
+
+pub bai-levels : Spans 0 0 536870912 × Spans 1 1 67108864 × Spans 2 9 8388608 × Spans 3 73 1048576 × Spans 4 585 131072 × Spans 5 4681 16384 × (firstOf 6 ≡ 37449)
+unfolding firstOf
+bai-levels = ((refl, refl), (refl, refl), (refl, refl), (refl, refl), (refl, refl), (refl, refl), refl)
 
 -- the first bin of a size holds as many places as its size, and no more
 pub first-bin : (m : ℕ) → Holds m 0 0 m

@@ -11,7 +11,7 @@ use lib.Dec.{T, ltb, ltb→lt, nltb→le}
 use lib.Signed.{leZ, ltZ, nonNeg}
 use borrow.Author.Tests.{lt-ltb, le-ltb, le-leb, lt-leb, leb-true, leb-false, ltb-true, ltb-false}
 use mir.Syntax.{w32, w64}
-use mir.Val.{SFits}
+use mir.Val.{Fits, SFits}
 
 abbrev pub up : ℤ → ℕ
 up (pos n) = n
@@ -183,6 +183,24 @@ pub natural-high : (z : ℤ) → SFits w32 z → 2147483648 ≤ raised z → rai
 unfolding raised
 natural-high (pos n) f h = omega arith
 natural-high (negsuc n) f h = omega arith
+
+-- `natural` as a half
+pub natural-up : (z : ℤ) → natural z ≡ up z
+natural-up (pos n) = refl
+natural-up (negsuc n) = refl
+
+-- `natural` from a test: 0 below 0, else the absolute value, which 64 bits hold
+pub natural-below : (z : ℤ) → ltZ z (pos 0) ≡ true → 0 ≡ natural z
+natural-below (pos n) e = absurd (omega (arith, ltb-true n 0 e))
+natural-below (negsuc n) e = refl
+
+pub natural-abs : (z : ℤ) → ltZ z (pos 0) ≡ false → natAbs z ≡ natural z
+natural-abs (pos n) e = refl
+natural-abs (negsuc n) e = true-false e
+
+pub fits-abs : (z : ℤ) → SFits w64 z → ltZ z (pos 0) ≡ false → Fits w64 (natAbs z)
+fits-abs (pos n) f e = record { fits = omega (arith, f .sfits) }
+fits-abs (negsuc n) f e = true-false e
 
 -- the 64 bits from the raised number
 pub bits-raised : (z : ℤ) → SFits w32 z → (raised z + 18446744071562067968) % 2 ^ 64 ≡ twos64 z

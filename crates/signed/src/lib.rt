@@ -36,6 +36,16 @@ pub fn natural_of(x: i32) -> u64
     u - 2147483648
 }
 
+// The same of 64 bits.
+pub fn natural64(x: i64) -> u64
+    ensures { λ r. ⌜ r ≡ natural x ⌝ }
+{
+    if x < 0 {
+        return 0;
+    }
+    x as u64
+}
+
 // The number that 32 bits mean in two's complement.
 pub fn of_bits(n: u32) -> i32
     ensures { λ r. ⌜ r ≡ twos32 n ⌝ }

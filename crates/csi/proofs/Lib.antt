@@ -1,0 +1,4 @@
+pub mod Region
+pub mod Up
+pub mod Listing
+pub mod Examples

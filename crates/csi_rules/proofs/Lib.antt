@@ -1,0 +1,4 @@
+pub mod Overlap
+pub mod Ranges
+pub mod Cases
+pub mod Meaning
