@@ -6,6 +6,7 @@
  *    3 a list has over 65,535 ops           8 clipping: total length 2^28 or more
  *    4 a signed 32-bit sum overflows        9 lookup: start outside 1 to 2^31
  *    5 the text is no valid mapped CIGAR   10 op_new: length 0 or above 268,435,455
+ *   14 a start below 0, no block, or an N before the first or after the last block
  *   17 CSI: min_shift or depth out of range 18 CSI: not 0 <= beg < end <= 2^(min_shift + 3 * depth)
  *   19 clipping: the amount is beyond what can be clipped
  * A call that cannot refuse returns its value.
@@ -13,7 +14,7 @@
  * A buffer is a pointer and the number of its elements: `rec` and `mate` are BAM records (the bytes behind block_size), `ops` and
  * `mate_ops` lists of ops as a record holds them (length * 16 + code), `text` a CIGAR as text. The pointer must be valid for that many
  * elements and aligned; it may be NULL where the number is 0. Any bytes, ops and numbers may stand in a buffer.
- * A lent output `out` keeps its content where the call refuses; an answer fills its first places, and those after them keep theirs.
+ * A lent output `out`, `sizes` or `starts` keeps its content where the call refuses; an answer fills its first places, and those after them keep theirs.
  * What an output that overlaps another buffer of the same call does is not promised.
  *
  * A flag as an argument is a byte: anything but 0 counts as 1. Positions are counted as each call says.
@@ -47,6 +48,8 @@ struct cigar_position { uint32_t refusal; uint32_t which; int32_t value; };
 struct cigar_two { uint32_t refusal; uint64_t first; uint64_t second; };
 /* Reference and query length, and the soft and hard bases of the run of clips at each end */
 struct cigar_lengths { uint32_t refusal; int32_t reference; uint64_t query; uint64_t leading_soft; uint64_t leading_hard; uint64_t trailing_soft; uint64_t trailing_hard; };
+/* Where an alignment starts and ends in its reference, counted from 0, the end not included, and how many blocks it has: 16 bytes, for registers */
+struct cigar_blocks { uint32_t refusal; uint32_t chrom_start; uint32_t chrom_end; uint32_t block_count; };
 
 /* ======== libexports.a ======== */
 
@@ -170,6 +173,12 @@ struct cigar_count cigar_clip_cigar_end_raw(const uint32_t *ops, size_t ops_len,
 /* Of a record; an area that overruns is an empty list. Refusals 1, 8, 19, 6 */
 struct cigar_two cigar_clip_cigar_start(const uint8_t *rec, size_t rec_len, uint64_t amount, uint32_t *out, size_t out_len);
 struct cigar_count cigar_clip_cigar_end(const uint8_t *rec, size_t rec_len, uint64_t amount, uint32_t *out, size_t out_len);
+
+/* ---- blocks: what stands between two N's, or an N and an end of the list, by its reference bases, if it has any; a D stays within its block */
+
+/* The blocks of an alignment that starts at `start`, counted from 0: their sizes, and where they start, counted from that start, into the first places of the
+ * two outputs. Refusals 3, 14, 4 (the end passes 2^31 - 1), 6 (either output has fewer places than there are blocks) */
+struct cigar_blocks cigar_bed_blocks(int32_t start, const uint32_t *ops, size_t ops_len, uint32_t *sizes, size_t sizes_len, uint32_t *starts, size_t starts_len);
 
 /* ---- pair tests. A reverse record is asked for its length, unless its flags, references or strands already fail */
 

@@ -95,6 +95,32 @@ macro_rules! pair {
     }};
 }
 
+/// Blocks, of which the original has none: end, sizes and starts in one pass, as a plain Rust program might have them.
+fn plain_blocks(start: i32, ops: &[u32]) -> Option<(i32, Vec<u32>, Vec<u32>)> {
+    let (mut sizes, mut starts, mut at, mut size) = (Vec::new(), Vec::new(), 0u32, 0u32);
+    for &op in ops {
+        match op & 15 {
+            3 => {
+                if size > 0 {
+                    sizes.push(size);
+                    starts.push(at);
+                } else if sizes.is_empty() {
+                    return None;
+                }
+                (at, size) = (at.checked_add(size)?.checked_add(op >> 4)?, 0);
+            }
+            0 | 2 | 7 | 8 => size = size.checked_add(op >> 4)?,
+            _ => {}
+        }
+    }
+    if size == 0 {
+        return None;
+    }
+    sizes.push(size);
+    starts.push(at);
+    Some((start.checked_add_unsigned(at.checked_add(size)?)?, sizes, starts))
+}
+
 fn lists(n: usize, random: &mut Random) {
     let l: Vec<Vec<u32>> = (0..INPUTS).map(|_| list(random, n)).collect();
     let mut out = vec![0u32; n + 2];
@@ -107,6 +133,8 @@ fn lists(n: usize, random: &mut Random) {
     let amounts: Vec<usize> = l.iter().map(|x| amount(x)).collect();
     pair!("clip_cigar_start_raw", n, "the Rust allocates", cigar::clip_cigar_ops_raw => fn(&[u32], usize, bool) -> (Vec<u32>, usize), port::clip_cigar_start_raw => fn(&[u32], usize, &mut [u32]) -> Result<(usize, usize), port::Refusal>, |i, f| f(&l[i], amounts[i], true), |i, g| g(&l[i], amounts[i], &mut out));
     pair!("clip_cigar_end_raw", n, "the Rust allocates", cigar::clip_cigar_ops_raw => fn(&[u32], usize, bool) -> (Vec<u32>, usize), port::clip_cigar_end_raw => fn(&[u32], usize, &mut [u32]) -> Result<usize, port::Refusal>, |i, f| f(&l[i], amounts[i], false), |i, g| g(&l[i], amounts[i], &mut out));
+    let mut starts = vec![0u32; n + 2];
+    pair!("bed_blocks", n, "beside a plain Rust program, which allocates", plain_blocks => fn(i32, &[u32]) -> Option<(i32, Vec<u32>, Vec<u32>)>, port::bed_blocks => fn(i32, &[u32], &mut [u32], &mut [u32]) -> Result<port::BedBlocks, port::Refusal>, |i, f| f(1000, &l[i]), |i, g| g(1000, &l[i], &mut out, &mut starts));
     let mate = |i: usize| &l[(i + 1) % INPUTS];
     pair!("bases_extending_past_mate_ops", n, "", overlap::bases_extending_past_mate_ops => fn(bool, i32, &[u32], i32, &[u32]) -> usize, port::bases_extending_past_mate_ops => fn(bool, i32, &[u32], i32, &[u32]) -> Result<usize, port::Refusal>, |i, f| f(false, 1000, &l[i], 1010, mate(i)), |i, g| g(false, 1000, &l[i], 1010, mate(i)));
 }

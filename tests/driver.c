@@ -10,7 +10,7 @@ long read(int file, void *to, size_t bytes);
 long write(int file, const void *from, size_t bytes);
 void exit(int status);
 
-enum { MOST = 1 << 21, LONGEST_LINE = 1 << 23, BLOCK = 1 << 16, ARGS = 5, GUARD = 4 };
+enum { MOST = 1 << 21, LONGEST_LINE = 1 << 23, BLOCK = 1 << 16, ARGS = 5, ROOMS = 2, GUARD = 4 };
 
 static const uint32_t FILL_OPS = 2779096485u;
 static const uint8_t FILL_BYTES = 165;
@@ -29,8 +29,8 @@ static int null_if_empty;
 
 static uint8_t record_area[2][LONGEST_LINE / 2];
 static uint32_t list_area[2][MOST];
-static uint32_t ops_room[MOST + GUARD];
-static uint8_t bytes_room[MOST + GUARD];
+static uint32_t ops_room[ROOMS][MOST + GUARD];
+static uint8_t bytes_room[ROOMS][MOST + GUARD];
 
 /* ---- the calls: name; arguments (R bytes, W bytes lent to be written, L list, o and b lent outputs of ops and bytes, i and u 32 bits, I and U 64 bits, f flag);
  * values (s signed, u unsigned, n none or a number, c a signed position, or unmapped, or no ops, p a part of the record); and how they are passed */
@@ -88,6 +88,7 @@ static uint8_t bytes_room[MOST + GUARD];
     CALL(clip_cigar_end_raw, "LUo", "u", OPS(0), U64(1), OPS(2)) \
     CALL(clip_cigar_start, "RUo", "uu", BYTES(0), U64(1), OPS(2)) \
     CALL(clip_cigar_end, "RUo", "u", BYTES(0), U64(1), OPS(2)) \
+    CALL(bed_blocks, "iLoo", "uuu", I32(0), OPS(1), OPS(2), OPS(3)) \
     CALL(is_mapped_opposite_strand_pair_raw, "R", "u", BYTES(0)) \
     CALL(is_fr_pair_raw, "R", "u", BYTES(0)) \
     CALL(is_primary_fr_pair_raw, "RR", "u", BYTES(0), BYTES(1)) \
@@ -124,13 +125,14 @@ static struct answer of_lengths(struct cigar_lengths a)
 {
     return (struct answer){a.refusal, {(uint64_t)(int64_t)a.reference, a.query, a.leading_soft, a.leading_hard, a.trailing_soft, a.trailing_hard}};
 }
+static struct answer of_blocks(struct cigar_blocks a) { return (struct answer){a.refusal, {a.chrom_start, a.chrom_end, a.block_count}}; }
 static struct answer of_bool(bool a) { return (struct answer){0, {a, 0}}; }
 static struct answer of_u32(uint32_t a) { return (struct answer){0, {a, 0}}; }
 static struct answer of_i32(int32_t a) { return (struct answer){0, {(uint64_t)(int64_t)a, 0}}; }
 
 #define ANSWER(a) \
     _Generic((a), struct cigar_int: of_int, struct cigar_count: of_count, struct cigar_flag: of_flag, struct cigar_found: of_found, struct cigar_lookup: of_lookup, \
-        struct cigar_position: of_position, struct cigar_two: of_two, struct cigar_lengths: of_lengths, bool: of_bool, uint32_t: of_u32, int32_t: of_i32)(a)
+        struct cigar_position: of_position, struct cigar_two: of_two, struct cigar_lengths: of_lengths, struct cigar_blocks: of_blocks, bool: of_bool, uint32_t: of_u32, int32_t: of_i32)(a)
 
 #define CALL(name, args, kinds, ...) \
     static struct answer run_##name(void) { return ANSWER(cigar_##name(__VA_ARGS__)); }
@@ -296,20 +298,20 @@ static int read_list(struct arg *a, uint32_t *into)
     }
 }
 
-/* The places of a lent output, and as many behind them, are filled. */
-static int read_room(struct arg *a, int of_ops)
+/* The places of a lent output, and GUARD behind them, are filled. */
+static int read_room(struct arg *a, int of_ops, int room)
 {
     uint64_t places;
     if (*at++ != '@' || !up_to(MOST, &places))
         return 0;
     a->n = places;
-    a->ops = ops_room;
-    a->bytes = bytes_room;
+    a->ops = ops_room[room];
+    a->bytes = bytes_room[room];
     for (size_t i = 0; i < places + GUARD; i++)
         if (of_ops)
-            ops_room[i] = FILL_OPS;
+            a->ops[i] = FILL_OPS;
         else
-            bytes_room[i] = FILL_BYTES;
+            a->bytes[i] = FILL_BYTES;
     return 1;
 }
 
@@ -324,7 +326,7 @@ static int read_arg(char kind, int i)
         return read_list(a, list_area[i > 2]);
     case 'o':
     case 'b':
-        return read_room(a, kind == 'o');
+        return read_room(a, kind == 'o', i & 1);
     case 'i':
         return read_signed(a, 2147483647u);
     case 'I':
@@ -408,7 +410,7 @@ static void put_strays(const struct call *c, const struct answer *a)
         put_text(" ; a value beside none");
     for (int i = 0; c->args[i]; i++)
         for (size_t g = 0; g < GUARD; g++)
-            if ((c->args[i] == 'o' && ops_room[arg[i].n + g] != FILL_OPS) || (c->args[i] == 'b' && bytes_room[arg[i].n + g] != FILL_BYTES))
+            if ((c->args[i] == 'o' && arg[i].ops[arg[i].n + g] != FILL_OPS) || (c->args[i] == 'b' && arg[i].bytes[arg[i].n + g] != FILL_BYTES))
                 put_text(" ; a place written astray");
 }
 

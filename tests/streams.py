@@ -30,13 +30,13 @@ def ops_of(text):
     return ops
 
 
-def record(ops, pos=99, flags=0, l_seq=None, name=b'r\0', stored_bin=0, count=None, seq=None, tail=b''):
+def record(ops, pos=99, flags=0, l_seq=None, name=b'r\0', stored_bin=0, count=None, seq=None, tail=b'', reference=0, mapq=0):
     """A record without its size. `ops` is text or a list of numbers; `count` and `l_seq` may lie."""
     ops = ops_of(ops) if isinstance(ops, str) else ops
     query = sum(op >> 4 for op in ops if op & 15 in QUERY)
     l_seq = query if l_seq is None else l_seq
     seq = bytes((l_seq + 1) // 2 + l_seq) if seq is None else seq
-    fixed = struct.pack('<iiBBHHHIiii', 0, pos, len(name) & 255, 0, stored_bin, (len(ops) if count is None else count) & 65535, flags, l_seq & 0xFFFFFFFF, -1, -1, 0)
+    fixed = struct.pack('<iiBBHHHIiii', reference, pos, len(name) & 255, mapq, stored_bin, (len(ops) if count is None else count) & 65535, flags, l_seq & 0xFFFFFFFF, -1, -1, 0)
     return fixed + name + struct.pack(f'<{len(ops)}I', *ops) + seq + tail
 
 

@@ -24,6 +24,7 @@ WORDS = {
     8: 'clipping: the lengths sum to 2^28 or more',
     9: 'lookup: alignment start outside 1 to 2^31',
     10: 'op length 0 or above 268,435,455',
+    14: 'no blocks: a start below 0, no block, or an N before the first or after the last',
     17: 'CSI bins: min_shift outside 10 to 20, or depth outside 1 to 8',
     18: 'CSI bins: not 0 <= beg < end <= 2^(min_shift + 3 * depth)',
     19: 'clipping: the amount is beyond what can be clipped',
@@ -82,6 +83,10 @@ class Lengths(Structure):
                 ('trailing_hard', c_uint64)]
 
 
+class Blocks(Structure):
+    _fields_ = [('refusal', c_uint32), ('chrom_start', c_uint32), ('chrom_end', c_uint32), ('block_count', c_uint32)]
+
+
 BYTES = [c_char_p, c_size_t]
 OPS = [POINTER(c_uint32), c_size_t]
 ROOM = [POINTER(c_uint8), c_size_t]
@@ -114,6 +119,7 @@ DECLARED = [
     (Count, OPS + [c_uint64] + OPS, 'clip_cigar_end_raw'),
     (Two, BYTES + [c_uint64] + OPS, 'clip_cigar_start'),
     (Count, BYTES + [c_uint64] + OPS, 'clip_cigar_end'),
+    (Blocks, [c_int32] + OPS + OPS + OPS, 'bed_blocks'),
     (Flag, BYTES + BYTES, 'is_primary_fr_pair_raw'),
     (Count, BYTES + BYTES, 'num_bases_extending_past_mate_vs_mate_raw'),
     (Count, [c_uint8, c_int32] + OPS + [c_int32] + OPS, 'bases_extending_past_mate_ops'),
@@ -200,14 +206,14 @@ def _found(answer):
     return answer.value if _sure(answer).found else None
 
 
-def _filled(call, *arguments, kind=c_uint32):
-    """The answer of a call that fills an output, and the output: room is lent until it is enough."""
+def _filled(call, *arguments, kind=c_uint32, outputs=1):
+    """The answer of a call that fills outputs, and the outputs: room is lent until it is enough."""
     places = 64
     while True:
-        out = (kind * places)()
-        answer = call(*arguments, out, places)
+        out = [(kind * places)() for _ in range(outputs)]
+        answer = call(*arguments, *(word for each in out for word in (each, places)))
         if answer.refusal != 6:
-            return _sure(answer), out
+            return _sure(answer), *out
         places *= 8
 
 
@@ -478,6 +484,16 @@ def clip_cigar_start(bam, clip_amount):
     """A record's ops clipped at the start, and the reference bases lost."""
     answer, out = _filled(C.cigar_clip_cigar_start, *_record(bam), _u64(clip_amount))
     return out[:answer.first], answer.second
+
+
+# ---- blocks
+
+
+def bed_blocks(start, ops):
+    """The blocks of an alignment, by its start, counted from 0, and its ops: where it starts and ends in its reference, the blocks' sizes, a list, and where they start, counted from
+    its start, a list."""
+    answer, sizes, starts = _filled(C.cigar_bed_blocks, _i32(start), *_ops(ops), outputs=2)
+    return answer.chrom_start, answer.chrom_end, sizes[:answer.block_count], starts[:answer.block_count]
 
 
 def clip_cigar_end(bam, clip_amount):

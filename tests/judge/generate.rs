@@ -2,7 +2,7 @@
 
 use crate::csi;
 use crate::protocol::{put_hex, put_list, put_number, put_signed};
-use crate::rules;
+use crate::{bed, rules};
 use original::{cigar, overlap};
 use std::io;
 
@@ -72,6 +72,8 @@ pub fn all(seed: u64, size: u64, emit: &mut dyn FnMut(&[u8]) -> Done) -> Done {
     out.short_lists()?;
     out.random_lists()?;
     out.lookups()?;
+    out.short_blocks()?;
+    out.random_blocks()?;
     out.short_texts()?;
     out.random_texts()?;
     out.random_fields()?;
@@ -256,6 +258,22 @@ fn nth_text(mut number: u64, length: u32) -> Vec<u8> {
             byte
         })
         .collect()
+}
+
+/// Stretches of all sizes, 0 among them, with N's of all lengths between them, and now and then at an end.
+fn spliced_list(rng: &mut Rng) -> Vec<u32> {
+    let (longest, skip) = (rng.pick(&[1, 3, 100]), rng.pick(&[1, 3, 5000, MOST_LENGTH]));
+    let stretch = |rng: &mut Rng| any_list(rng, 3, &[0, 0, 0, 1, 2, 4, 5, 6, 7, 8, 9, 15], longest);
+    let mut list = if rng.one_in(12) { Vec::new() } else { vec![op(rng.pick(&[0, 2, 7, 8]), 1 + rng.below(longest))] };
+    for _ in 0..rng.below(6) {
+        list.extend(stretch(rng));
+        list.push(op(3, rng.below(skip + 1)));
+        if !rng.one_in(8) {
+            list.push(op(rng.pick(&[0, 2, 7, 8]), 1 + rng.below(longest)));
+        }
+    }
+    list.extend(stretch(rng));
+    list
 }
 
 /// All lists of a length over 16 codes and lengths 0 to 3, by their number.
@@ -585,6 +603,47 @@ impl Out<'_> {
             };
             let last = self.rng.one_in(2);
             self.say("read_pos_at_ref_pos_raw", &[List(&list), Number(start), Number(position), Flag(last)])?;
+        }
+        Ok(())
+    }
+
+    // ---- blocks
+
+    /// Both rooms in turn full, short and roomy.
+    fn blocks_of(&mut self, start: i32, list: &[u32]) -> Done {
+        let places = bed::blocks(0, list).map_or(1, |(_, blocks)| blocks.len());
+        let (sizes, starts) = (self.room(places), self.room(places));
+        self.say("bed_blocks", &[Signed(start), List(list), sizes, starts])
+    }
+
+    /// All lists of up to 6 ops over 0M 1M 2D 0N 1N 1I, and of up to 2 over 16 codes and lengths 0 to 3.
+    fn short_blocks(&mut self) -> Done {
+        let ops = [op(0, 0), op(0, 1), op(2, 2), op(3, 0), op(3, 1), op(1, 1)];
+        for length in 0..=6 {
+            for number in 0..6u32.pow(length) {
+                let list: Vec<u32> = (0..length).map(|i| ops[(number / 6u32.pow(i) % 6) as usize]).collect();
+                let start = self.rng.pick(&[0, 0, 100, -1]);
+                self.blocks_of(start, &list)?;
+            }
+        }
+        for length in 0..=2 {
+            for number in 0..64u64.pow(length) {
+                self.blocks_of(0, &nth_list(number, length))?;
+            }
+        }
+        Ok(())
+    }
+
+    /// Starts on both sides of 0, and at which the end comes to 2^31 - 1 or passes it.
+    fn random_blocks(&mut self) -> Done {
+        for _ in 0..60_000 * self.size {
+            let list = if self.rng.one_in(4) { random_list(&mut self.rng) } else { spliced_list(&mut self.rng) };
+            let start = match self.rng.below(8) {
+                0 => self.rng.pick(&[-1, i32::MIN, i32::MAX, 0]),
+                1 | 2 => self.rng.i32_near(SECOND_HALF - 1 - rules::reference_total(&list)),
+                _ => self.rng.range(0, 100_000) as i32,
+            };
+            self.blocks_of(start, &list)?;
         }
         Ok(())
     }
@@ -951,6 +1010,7 @@ impl Out<'_> {
                 list[count - 1] = op(4, 2);
                 self.giant_list(&list)?;
             }
+            self.giant_blocks(count)?;
             self.giant_text(&vec![op(0, 1); count])?;
             if let Ok(ops) = u16::try_from(count) {
                 self.giant_record(ops.into())?;
@@ -982,6 +1042,20 @@ impl Out<'_> {
         }
         let last = self.fr_record_at(99, i32::MAX);
         self.say("num_bases_extending_past_mate_cigar_raw", &[Bytes(&last), List(list)])
+    }
+
+    /// A block for every other op; with one N more at the end; and one block of all ops.
+    fn giant_blocks(&mut self, count: usize) -> Done {
+        let spliced: Vec<u32> = (0..count).map(|i| if i % 2 == 0 { op(0, 2) } else { op(3, 3) }).collect();
+        for list in [&spliced[..count - (count + 1) % 2], &spliced[..count - count % 2], &vec![op(2, 1); count][..]] {
+            for start in [0, -1, i32::MAX] {
+                self.blocks_of(start, list)?;
+            }
+            self.say("bed_blocks", &[Signed(7), List(list), Room(32_767), Room(32_768)])?;
+            self.say("bed_blocks", &[Signed(7), List(list), Room(32_768), Room(32_767)])?;
+            self.say("bed_blocks", &[Signed(7), List(list), Room(32_769), Room(32_768)])?;
+        }
+        Ok(())
     }
 
     fn giant_text(&mut self, list: &[u32]) -> Done {

@@ -2,6 +2,7 @@
 //! writes both with a tab between, `judge differ` reads such lines and tells how many answers are not its own, `judge table SEED [SIZE]` counts the
 //! answers of each kind, `judge record SEED` keeps some of each kind, `judge calls` names the calls.
 
+mod bed;
 mod csi;
 mod generate;
 mod oracle;

@@ -4,7 +4,7 @@
 
 use crate::csi;
 use crate::protocol::{FILL_BYTES, FILL_OPS, Reply, Said, Words, split};
-use crate::rules;
+use crate::{bed, rules};
 use original::cigar::{self, CigarKind, CigarOp};
 use original::fields::{self, RawRecordView};
 use original::{bin, overlap};
@@ -93,7 +93,7 @@ fn some(value: Option<usize>) -> Said {
 }
 
 fn alone(said: Said) -> Option<Reply> {
-    Some(Reply { said, lent: None })
+    Some(Reply { said, lent: Vec::new() })
 }
 
 fn bytes_as_list(bytes: &[u8]) -> Vec<u32> {
@@ -111,7 +111,7 @@ fn lend(room: usize, fill: u32, result: Result<(Vec<u32>, Said), Said>) -> Optio
             said
         }
     };
-    Some(Reply { said, lent: Some(out) })
+    Some(Reply { said, lent: vec![out] })
 }
 
 fn counted(list: Vec<u32>) -> (Vec<u32>, Said) {
@@ -185,7 +185,7 @@ fn cigar_raw_bytes(words: &mut Words) -> Option<Reply> {
         None => hold(None, || bytes_as_list(RawRecordView::new(&record).cigar_raw_bytes())),
     };
     let lent = part.as_ref().map_or(Vec::new(), Vec::clone);
-    Some(Reply { said: said(part, |_| Said::Values(Vec::new())), lent: Some(lent) })
+    Some(Reply { said: said(part, |_| Said::Values(Vec::new())), lent: vec![lent] })
 }
 
 fn get_cigar_ops(words: &mut Words) -> Option<Reply> {
@@ -360,6 +360,26 @@ fn clip_record(words: &mut Words, start: bool) -> Option<Reply> {
     lend(room, FILL_OPS, answer)
 }
 
+/// The original has no such call: the answer is that of a second program.
+fn bed_blocks(words: &mut Words) -> Option<Reply> {
+    let (start, list, sizes, starts) = (words.i32()?, words.list()?, words.room()?, words.room()?);
+    words.done()?;
+    let answer = rules::too_many(&list).map_or_else(|| bed::blocks(start, &list), Err);
+    let mut lent = vec![vec![FILL_OPS; sizes], vec![FILL_OPS; starts]];
+    let said = match answer {
+        Err(n) => Said::Refusal(n),
+        Ok((_, blocks)) if blocks.len() > sizes.min(starts) => Said::Refusal(6),
+        Ok((end, blocks)) => {
+            for (place, &(at, size)) in blocks.iter().enumerate() {
+                lent[0][place] = u32::try_from(size).expect("a block ends below 2^31");
+                lent[1][place] = u32::try_from(at).expect("a block ends below 2^31");
+            }
+            Said::Values(vec![start.into(), end, count(blocks.len())])
+        }
+    };
+    Some(Reply { said, lent })
+}
+
 fn is_primary_fr_pair_raw(words: &mut Words) -> Option<Reply> {
     let (a, b) = (words.bytes()?, words.bytes()?);
     words.done()?;
@@ -448,7 +468,7 @@ fn set_bin_from_raw_bam(words: &mut Words) -> Option<Reply> {
         None => hold_asking(rules::asked_at_a_place(&record), rules::bin_overflows(&record), run),
     };
     let lent = bytes_as_list(answer.as_ref().unwrap_or(&record));
-    Some(Reply { said: said(answer, |written| one(u16::from_le_bytes([written[10], written[11]]))), lent: Some(lent) })
+    Some(Reply { said: said(answer, |written| one(u16::from_le_bytes([written[10], written[11]]))), lent: vec![lent] })
 }
 
 // ---- CSI bins, which the original lacks
@@ -475,7 +495,7 @@ fn csi_reg2bins(words: &mut Words) -> Option<Reply> {
 }
 
 /// Every call of the protocol, in its order.
-pub const CALLS: [(&str, Call); 55] = [
+pub const CALLS: [(&str, Call); 56] = [
     ("ref_id", |w| of_record(w, never, fields::ref_id, one)),
     ("pos", |w| of_record(w, never, fields::pos, one)),
     ("l_read_name", |w| of_record(w, never, fields::reach::l_read_name, one)),
@@ -519,6 +539,7 @@ pub const CALLS: [(&str, Call); 55] = [
     ("clip_cigar_end_raw", |w| clip_raw(w, false)),
     ("clip_cigar_start", |w| clip_record(w, true)),
     ("clip_cigar_end", |w| clip_record(w, false)),
+    ("bed_blocks", bed_blocks),
     ("is_mapped_opposite_strand_pair_raw", |w| of_record(w, never, overlap::is_mapped_opposite_strand_pair_raw, one)),
     ("is_fr_pair_raw", |w| of_asked(w, rules::asked_by_its_pair, never, overlap::reach::is_fr_pair_raw, one)),
     ("is_primary_fr_pair_raw", is_primary_fr_pair_raw),

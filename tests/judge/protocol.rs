@@ -131,10 +131,10 @@ pub enum Said {
     Mismatch(String),
 }
 
-/// The answer, and the whole of what was lent, after the call.
+/// The answer, and the whole of each thing that was lent, after the call.
 pub struct Reply {
     pub said: Said,
-    pub lent: Option<Vec<u32>>,
+    pub lent: Vec<Vec<u32>>,
 }
 
 pub fn put_number(n: u64, line: &mut Vec<u8>) {
@@ -209,7 +209,7 @@ impl Reply {
                 line.extend_from_slice(why.as_bytes());
             }
         }
-        if let Some(content) = &self.lent {
+        for content in &self.lent {
             line.extend_from_slice(b" ; ");
             put_list(content, line);
         }

@@ -32,6 +32,8 @@ pub enum Refusal {
     BadStart = 9,
     /// `CigarOp::new`: length 0 or above 268,435,455.
     BadLength = 10,
+    /// Blocks: a start below 0, no block, or an N before the first or after the last block.
+    NoBlocks = 14,
     /// CSI bins: min_shift outside 10 to 20, or depth outside 1 to 8.
     BadLevels = 17,
     /// CSI bins: the region is empty, begins below 0 or ends past the levels.
@@ -51,6 +53,7 @@ const REFUSALS: &[(Refusal, &str)] = &[
     (Refusal::TooLong, "clipping: the lengths sum to 2^28 or more"),
     (Refusal::BadStart, "lookup: alignment start outside 1 to 2^31"),
     (Refusal::BadLength, "op length 0 or above 268,435,455"),
+    (Refusal::NoBlocks, "no blocks: a start below 0, no block, or an N before the first or after the last"),
     (Refusal::BadLevels, "CSI bins: min_shift outside 10 to 20, or depth outside 1 to 8"),
     (Refusal::BadRegion, "CSI bins: not 0 <= beg < end <= 2^(min_shift + 3 * depth)"),
     (Refusal::AmountBeyond, "clipping: the amount is beyond what can be clipped"),
@@ -441,6 +444,25 @@ pub fn clip_cigar_start(bam: &[u8], clip_amount: usize, out: &mut [u32]) -> Resu
 #[inline]
 pub fn clip_cigar_end(bam: &[u8], clip_amount: usize, out: &mut [u32]) -> Result<usize, Refusal> {
     count(unsafe { raw::cigar_clip_cigar_end(bam.as_ptr(), bam.len(), clip_amount as u64, out.as_mut_ptr(), out.len()) })
+}
+
+/// Where an alignment starts and ends in its reference, counted from 0, the end not included, and how many blocks it has.
+#[derive(Clone, Copy, Debug, PartialEq, Eq)]
+pub struct BedBlocks {
+    /// chromStart
+    pub start: u32,
+    /// chromEnd
+    pub end: u32,
+    /// blockCount
+    pub count: usize,
+}
+
+/// The blocks of an alignment, as BED12 has them, by its start, counted from 0, and its ops: their sizes into the first places of `sizes`, and where they start,
+/// counted from `start`, into those of `starts`.
+#[inline]
+pub fn bed_blocks(start: i32, ops: &[u32], sizes: &mut [u32], starts: &mut [u32]) -> Result<BedBlocks, Refusal> {
+    let found = unsafe { raw::cigar_bed_blocks(start, ops.as_ptr(), ops.len(), sizes.as_mut_ptr(), sizes.len(), starts.as_mut_ptr(), starts.len()) };
+    unless(found.refusal, BedBlocks { start: found.chrom_start, end: found.chrom_end, count: found.block_count as usize })
 }
 
 /// The same of two records, by the reverse one.

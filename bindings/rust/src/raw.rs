@@ -57,6 +57,14 @@ pub struct Lengths {
     pub trailing_hard: u64,
 }
 
+#[repr(C)]
+pub struct Blocks {
+    pub refusal: u32,
+    pub chrom_start: u32,
+    pub chrom_end: u32,
+    pub block_count: u32,
+}
+
 extern "C" {
     pub fn cigar_ref_id(rec: *const u8, rec_len: usize) -> Int;
     pub fn cigar_pos(rec: *const u8, rec_len: usize) -> Int;
@@ -106,6 +114,7 @@ extern "C" {
     pub fn cigar_clip_cigar_end_raw(ops: *const u32, ops_len: usize, amount: u64, out: *mut u32, out_len: usize) -> Count;
     pub fn cigar_clip_cigar_start(rec: *const u8, rec_len: usize, amount: u64, out: *mut u32, out_len: usize) -> Two;
     pub fn cigar_clip_cigar_end(rec: *const u8, rec_len: usize, amount: u64, out: *mut u32, out_len: usize) -> Count;
+    pub fn cigar_bed_blocks(start: i32, ops: *const u32, ops_len: usize, sizes: *mut u32, sizes_len: usize, starts: *mut u32, starts_len: usize) -> Blocks;
     pub fn cigar_is_mapped_opposite_strand_pair_raw(rec: *const u8, rec_len: usize) -> Flag;
     pub fn cigar_is_fr_pair_raw(rec: *const u8, rec_len: usize) -> Flag;
     pub fn cigar_is_primary_fr_pair_raw(rec: *const u8, rec_len: usize, mate: *const u8, mate_len: usize) -> Flag;

@@ -7,7 +7,7 @@ use lib.Dec.{eqb}
 use lib.ListN.{getD}
 use Rattle.signed.specs.Whole.{natural}
 use Rattle.answers.specs.Answers.{Told}
-use Rattle.answers.specs.Settled.{Outcome}
+use Rattle.answers.specs.Settled.{Outcome, OutcomeTwo}
 use Rattle.border.specs.declared.ToldInt.{ToldInt}
 use Rattle.border.specs.declared.ToldCount.{ToldCount}
 use Rattle.border.specs.declared.ToldFlag.{ToldFlag}
@@ -16,6 +16,7 @@ use Rattle.border.specs.declared.ToldLookup.{ToldLookup}
 use Rattle.border.specs.declared.ToldPosition.{ToldPosition}
 use Rattle.border.specs.declared.ToldTwo.{ToldTwo}
 use Rattle.border.specs.declared.ToldLengths.{ToldLengths}
+use Rattle.border.specs.declared.ToldBlocks.{ToldBlocks}
 
 -- the value at a place, 0 where there is none; and a value that is a flag
 abbrev pub valueAt : ℕ → Told → ℤ
@@ -65,9 +66,17 @@ lengthsOf t = record {
   «trailing_hard» = natural (valueAt 5 t);
 }
 
+-- three numbers that are never negative
+abbrev pub blocksOf : Told → ToldBlocks
+blocksOf t = record { refusal = t .number; «chrom_start» = natural (valueAt 0 t); «chrom_end» = natural (valueAt 1 t); «block_count» = natural (valueAt 2 t) }
+
 -- a call with lent memory: its answer in the shape that it has, and the memory as the call leaves it
 abbrev pub across : {A B : Type 0} → (Told → B) → (A → Told) → Outcome A → Outcome B
 across shape tell o = record { answer = shape (tell (o .answer)); left = o .left }
+
+-- the same of a call with two lent memories
+abbrev pub acrossTwo : {A B : Type 0} → (Told → B) → (A → Told) → OutcomeTwo A → OutcomeTwo B
+acrossTwo shape tell o = record { answer = shape (tell (o .answer)); first = o .first; second = o .second }
 
 -- a flag as an argument: "anything but 0 counts as 1"
 abbrev pub flagged : ℕ → Bool

@@ -76,6 +76,15 @@ pub struct ToldLengths {
     pub trailing_hard: u64,
 }
 
+// Where an alignment starts and ends, and how many blocks it has: in 16 bytes, so that registers hold it.
+#[repr(C)]
+pub struct ToldBlocks {
+    pub refusal: u32,
+    pub chrom_start: u32,
+    pub chrom_end: u32,
+    pub block_count: u32,
+}
+
 // A flag from the other side: anything but 0 is yes.
 pub fn flag(n: u8) -> bool
     ensures { λ r. ⌜ r ≡ flagged n ⌝ }

@@ -1,10 +1,13 @@
-// How the answers of the unclipped position, clipping, lookup and the overhang by text cross the C border. An inner crate of the static library `exports_reads`.
+// How the answers of the unclipped position, clipping, lookup, the overhang by text and the blocks cross the C border. An inner crate of the static library `exports_reads`.
 ghost use mathlib.Core.Path.{_≡_};
+ghost use Rattle.bed_rules.specs.Bed.{tellBed};
 ghost use Rattle.ends_rules.specs.Ends.{tellUnclipped};
 ghost use Rattle.clip_rules.specs.Answer.{tellClipped};
 ghost use Rattle.lookup_rules.specs.Lookup.{tellFound};
 ghost use Rattle.overlap_rules.specs.Overlap.{tellOverhang};
-ghost use Rattle.border.specs.Border.{positionOf, twoOf, lookupOf};
+ghost use Rattle.border.specs.Border.{positionOf, twoOf, lookupOf, blocksOf};
+use bed_rules::Bed;
+use border::ToldBlocks;
 use border::ToldLookup;
 use border::ToldPosition;
 use border::ToldTwo;
@@ -84,5 +87,25 @@ pub fn told_overhang(answer: Overhang) -> ToldTwo
     match answer {
         Overhang::Bases(bases, written) => border::two(bases, written),
         Overhang::Refused(why) => border::refused_two(why),
+    }
+}
+
+// chromStart, chromEnd and blockCount.
+pub fn told_blocks(answer: Bed) -> ToldBlocks
+    ensures { λ r. ⌜ r ≡ blocksOf (tellBed answer) ⌝ }
+{
+    match answer {
+        Bed::Blocks(start, end, n) => ToldBlocks {
+            refusal: 0,
+            chrom_start: start,
+            chrom_end: end,
+            block_count: n,
+        },
+        Bed::Refused(why) => ToldBlocks {
+            refusal: answers::number(why),
+            chrom_start: 0,
+            chrom_end: 0,
+            block_count: 0,
+        },
     }
 }

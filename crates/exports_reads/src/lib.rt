@@ -1,4 +1,5 @@
-// The static library, second part: text, ends, lookup, clipping, pairs and overhang, as include/cigar.h declares them.
+// The static library, second part: text, ends, lookup, clipping, pairs and overhang, blocks, as include/cigar.h declares them.
+mod bed_calls;
 mod clip_calls;
 mod end_calls;
 mod lookup_calls;

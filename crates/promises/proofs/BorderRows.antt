@@ -21,7 +21,7 @@ use Rattle.lengths.specs.Lengths.{checkedRefLength}
 use Rattle.ends_rules.specs.Sums.{both, _⊕_}
 use Rattle.ends_rules.specs.Ends.{toPlace1, plusOne, alignmentStart, endAt, alignmentEnd}
 use Rattle.answers.specs.Answers.{Told}
-use Rattle.border.specs.Border.{intOf, countOf, flagOf, foundOf, positionOf, twoOf, lengthsOf}
+use Rattle.border.specs.Border.{intOf, countOf, flagOf, foundOf, positionOf, twoOf, lengthsOf, blocksOf}
 use Rattle.border.specs.declared.ToldInt.{ToldInt}
 use Rattle.border.specs.declared.ToldCount.{ToldCount}
 use Rattle.border.specs.declared.ToldFlag.{ToldFlag}
@@ -29,6 +29,7 @@ use Rattle.border.specs.declared.ToldFound.{ToldFound}
 use Rattle.border.specs.declared.ToldPosition.{ToldPosition}
 use Rattle.border.specs.declared.ToldTwo.{ToldTwo}
 use Rattle.border.specs.declared.ToldLengths.{ToldLengths}
+use Rattle.border.specs.declared.ToldBlocks.{ToldBlocks}
 use Rattle.promises.specs.Table.{Row, Gives, Crosses}
 
 module _ {t : Told} {rows : List Row} (g : Gives t rows) where
@@ -52,6 +53,9 @@ module _ {t : Told} {rows : List Row} (g : Gives t rows) where
 
   pub lengths-crosses : Crosses (λ (b : ToldLengths). b .refusal) (λ (n : ℕ). record { refusal = n; reference = pos 0; query = 0; «leading_soft» = 0; «leading_hard» = 0; «trailing_soft» = 0; «trailing_hard» = 0 }) (lengthsOf t) rows
   lengths-crosses = record { number-is = g .number; alone = λ h. rw (g .alone h, g .number) }
+
+  pub blocks-crosses : Crosses (λ (b : ToldBlocks). b .refusal) (λ (n : ℕ). record { refusal = n; «chrom_start» = 0; «chrom_end» = 0; «block_count» = 0 }) (blocksOf t) rows
+  blocks-crosses = record { number-is = g .number; alone = λ h. rw (g .alone h, g .number) }
 
 -- ---- the positions that start and end find are never negative, so that they cross as they are
 

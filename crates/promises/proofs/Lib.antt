@@ -5,6 +5,7 @@ pub mod CsiRows
 pub mod TextRows
 pub mod EndRows
 pub mod ClipRows
+pub mod BedRows
 pub mod OverlapRows
 pub mod BorderRows
 pub mod Settles
@@ -12,6 +13,7 @@ pub mod Demand3
 pub mod RoundTrip
 pub mod SamLaws
 pub mod ReadLaws
+pub mod BedLaws
 pub mod CsiLaws
 pub mod AsBefore
 pub mod ThreeAnswers

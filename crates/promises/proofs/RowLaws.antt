@@ -17,9 +17,9 @@ use Rattle.signed.specs.declared.Side.the-variants.{Below, Within, Above}
 use Rattle.signed.specs.declared.Sum.{Sum}
 use Rattle.signed.specs.declared.Sum.the-variants.{Number, Over}
 use Rattle.answers.specs.Answers.{Told}
-use Rattle.answers.specs.Settled.{Outcome, keeps}
-use Rattle.promises.specs.Table.{Row, _when_, only, first, refuses, Gives, Fills, GivesFilled}
-use Rattle.promises.specs.Rows.{anyOutside, over, noRoom}
+use Rattle.answers.specs.Settled.{Outcome, keeps, OutcomeTwo, keepsBoth}
+use Rattle.promises.specs.Table.{Row, _when_, only, first, refuses, Gives, Fills, GivesFilled, GivesFilledTwo}
+use Rattle.promises.specs.Rows.{anyOutside, over, noRoom, noRoomTwo}
 
 -- rows under a condition that holds are these rows, and under one that doesn't hold give nothing
 only-all : (rows : List Row) → only true rows ≡ rows
@@ -133,6 +133,15 @@ module _ {A : Type 0} (tell : A → Told) {d : List ℕ} where
         fills = λ h. record { first-places = refl; other-places = refl; as-many = refl };
       }
 
+  -- an answer, where no row holds: the list ys
+  filled : (ys : List ℕ) (b : A) → tell b .number ≡ 0 → length ys ≤ length d → GivesFilled tell (record { answer = b; left = splice d 0 ys }) d ((6 when false) ∷ []) b ys
+  filled ys b z h =
+      record {
+        refusal = record { gives = answer z refl; kept = λ (h : false ≡ true). absurd (subst T (sym h) tt) };
+        answer = λ h. refl;
+        fills = λ _. splice-fills d ys h;
+      }
+
   -- the last row, and past it the list ys
   pub last-row : (ys : List ℕ) (a b : A) → tell a ≡ number-alone 6 → tell b .number ≡ 0
       → GivesFilled tell (cond (ltb (length d) (length ys)) (keeps a d) (record { answer = b; left = splice d 0 ys })) d (noRoom d (length ys) ∷ []) b ys
@@ -140,9 +149,26 @@ module _ {A : Type 0} (tell : A → Told) {d : List ℕ} where
     where
       go : (t : Bool) → ltb (length d) (length ys) ≡ t → GivesFilled tell (cond t (keeps a d) (record { answer = b; left = splice d 0 ys })) d ((6 when t) ∷ []) b ys
       go true e = kept-refusal a p refl refl
-      go false e =
-          record {
-            refusal = record { gives = answer z refl; kept = λ (h : false ≡ true). absurd (subst T (sym h) tt) };
-            answer = λ h. refl;
-            fills = λ h. splice-fills d ys (ltb-false (length d) (length ys) e);
-          }
+      go false e = filled ys b z (ltb-false (length d) (length ys) e)
+
+-- ---- with two outputs d and e lent
+
+module _ {A : Type 0} (tell : A → Told) {d e : List ℕ} where
+  pub kept-both : (t : Bool) (a : A) (n : ℕ) {x : OutcomeTwo A} {rows : List Row} {b : A} {ys zs : List ℕ} → tell a ≡ number-alone n → eqb n 0 ≡ false
+      → (t ≡ false → GivesFilledTwo tell x d e rows b ys zs) → GivesFilledTwo tell (cond t (keepsBoth a d e) x) d e (n when t ∷ rows) b ys zs
+  kept-both true a n p some q = record { first-output = kept-refusal tell a p refl some; second-output = kept-refusal tell a p refl some }
+  kept-both false a n p some q = record { first-output = like-filled tell refl (q refl .first-output); second-output = like-filled tell refl (q refl .second-output) }
+
+  -- the last row, and past it the lists ys and zs, of n elements each
+  pub last-both : (n : ℕ) (ys zs : List ℕ) (a b : A) → length ys ≡ n → length zs ≡ n → tell a ≡ number-alone 6 → tell b .number ≡ 0
+      → GivesFilledTwo tell (cond (ltb (length d) n || ltb (length e) n) (keepsBoth a d e) (record { answer = b; first = splice d 0 ys; second = splice e 0 zs })) d e (noRoomTwo d e n ∷ []) b ys zs
+  last-both n ys zs a b k l p z = go (ltb (length d) n) refl (ltb (length e) n) refl
+    where
+      go : (t : Bool) → ltb (length d) n ≡ t → (u : Bool) → ltb (length e) n ≡ u
+          → GivesFilledTwo tell (cond (t || u) (keepsBoth a d e) (record { answer = b; first = splice d 0 ys; second = splice e 0 zs })) d e ((6 when (t || u)) ∷ []) b ys zs
+      go true f u g = record { first-output = kept-refusal tell a p refl refl; second-output = kept-refusal tell a p refl refl }
+      go false f true g = record { first-output = kept-refusal tell a p refl refl; second-output = kept-refusal tell a p refl refl }
+      go false f false g =
+          let x = ltb-false (length d) n f in
+          let y = ltb-false (length e) n g in
+          record { first-output = filled tell ys b z (omega arith); second-output = filled tell zs b z (omega arith) }

@@ -1,6 +1,6 @@
 -- Document 01, "Numbers and their bounds", the refusal table: each number with the words of its row, then the rows of each call in its order:
 -- "list calls 3, 8, 9, 4, 6; printing 1, 7, 6; strict text 5, 3, 6; records 1, 3, 2, 8, 4, 6." Document 02, item 7: "2 and 4 now come from these callers, after 1",
--- wherever end, bin, pair tests and overhang ask for a record's reference length. Item 12: 19 of the two clipping calls, "directly after 8". Item 11: "17 [..], 18 [..]; then 6."
+-- wherever end, bin, pair tests and overhang ask for a record's reference length; item 5: 14 "after 3 and before 4". Item 12: 19 of the two clipping calls, "directly after 8". Item 11: "17 [..], 18 [..]; then 6."
 use Prim.Native.Nat.{ℕ, _+_}
 use mathlib.Core.Bool.{Bool, true, false, cond, not, _||_, _&&_}
 use mathlib.Core.List.{List, [], _∷_, _++_}
@@ -13,6 +13,8 @@ use Rattle.signed.specs.Whole.{clamp32}
 use Rattle.sam.specs.Op.{lenOf, refLen}
 use Rattle.ops.specs.Ops.{readLen}
 use Rattle.sam.specs.Record.{posOf, matePosOf, flagsOf, isUnmapped, isReverse, opsEnd, isShort}
+use Rattle.bed_rules.specs.Blocks.{blocks}
+use Rattle.bed_rules.specs.Bed.{unfit}
 use Rattle.clip_runs.specs.Clips.{leadingClips, clipsAfterReference}
 use Rattle.bin_rules.specs.Bin.{spanOf}
 use Rattle.csi_rules.specs.Csi.{served, inside, regionBins}
@@ -77,6 +79,10 @@ badStart start = 9 when (ltb start 1 || ltb 2147483648 start)
 -- 10: "`CigarOp::new`: length 0 or above 268,435,455"
 abbrev pub badLength : ℕ → Row
 badLength n = 10 when (eqb n 0 || ltb 268435455 n)
+
+-- 14, document 02: "a start below 0, no block, or an N before the first or after the last block"
+abbrev pub noBlocks : ℤ → List ℕ → Row
+noBlocks start xs = 14 when (ltZ start (pos 0) || unfit xs)
 
 -- 17: "depth or shift out of range", which are 1 to 8 and 10 to 20
 abbrev pub badLevels : ℕ → ℕ → Row
@@ -202,6 +208,16 @@ clipRows xs amount start d = tooMany xs ∷ tooLong xs ∷ beyond xs amount star
 -- `clip_cigar_start`, `clip_cigar_end`
 abbrev pub clipRecordRows : List ℕ → ℕ → Bool → List ℕ → List Row
 clipRecordRows b amount start d = short b ∷ tooLong (recordOps b) ∷ beyond (recordOps b) amount start ∷ noRoom d (length (clippedOps (recordOps b) amount start)) ∷ []
+
+-- ---- blocks
+
+-- 6 of two outputs: either is too short
+abbrev pub noRoomTwo : List ℕ → List ℕ → ℕ → Row
+noRoomTwo d e n = 6 when (ltb (length d) n || ltb (length e) n)
+
+-- `bed_blocks`: 4 where chromEnd, the start and the reference length, passes 2^31 - 1
+abbrev pub bedRows : ℤ → List ℕ → List ℕ → List ℕ → List Row
+bedRows start xs d e = tooMany xs ∷ noBlocks start xs ∷ over ((start +ℤ pos (sumOf refLen xs)) ∷ []) ∷ noRoomTwo d e (length (blocks xs)) ∷ []
 
 -- ---- pair tests and overhang
 

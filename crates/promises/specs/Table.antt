@@ -6,7 +6,7 @@ use mathlib.Core.List.{List, [], _∷_}
 use lib.Dec.{eqb}
 use lib.ListN.{length, take, drop}
 use Rattle.answers.specs.Answers.{Told}
-use Rattle.answers.specs.Settled.{Outcome}
+use Rattle.answers.specs.Settled.{Outcome, OutcomeTwo, ofFirst, ofSecond}
 
 -- a row: a number, and the condition on the input under which it is due
 pub record Row : Type 0 where
@@ -52,6 +52,11 @@ pub record GivesFilled {A : Type 0} (tell : A → Told) (want : Outcome A) (d : 
   pub refusal : GivesKept tell want d rows
   pub answer : refuses rows ≡ false → want .answer ≡ a
   pub fills : refuses rows ≡ false → Fills d ys (want .left)
+
+-- a call with two outputs d and e: of each what a call with that one gives
+pub record GivesFilledTwo {A : Type 0} (tell : A → Told) (want : OutcomeTwo A) (d e : List ℕ) (rows : List Row) (a : A) (ys zs : List ℕ) : Type 0 where
+  pub first-output : GivesFilled tell (ofFirst want) d rows a ys
+  pub second-output : GivesFilled tell (ofSecond want) e rows a zs
 
 -- across the C border: the struct's number is that of the first row that holds, and where one does, the struct is the one of that number alone
 pub record Crosses {B : Type 0} (number : B → ℕ) (refusal : ℕ → B) (b : B) (rows : List Row) : Type 0 where

@@ -1,0 +1,4 @@
+pub mod Blocks
+pub mod Bed
+pub mod Meaning
+pub mod InnerWalk
