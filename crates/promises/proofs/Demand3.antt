@@ -2,15 +2,16 @@
 -- and of the lists that it takes for every other.
 use Prim.Native.Nat.{ℕ, _≤_}
 use mathlib.Core.Path.{_≡_, ap, _∙_}
-use mathlib.Core.Bool.{Bool}
+use mathlib.Core.Bool.{Bool, false}
 use mathlib.Core.List.{List}
 use lib.Dec.{ltb}
 use lib.ListN.{length}
+use borrow.Author.Tests.{le-ltb}
 use Rattle.lists.specs.Lists.{splice}
 use Rattle.answers.specs.Settled.{Outcome, Settled}
 use Rattle.oplist.specs.Ops.{mostOps}
 use Rattle.clip_rules.specs.Answer.{isBeyond, clippedStart, clippedEnd, recordStart, recordEnd}
-use Rattle.clip_laws.specs.Demand3.{Takes, most, Clipper, Leaves, Demand3Start, Demand3End, Itself, InRecord}
+use Rattle.clip_laws.specs.Demand3.{Takes, most, Clipper, Leaves, Given, Demand3Start, Demand3End, Itself, InRecord}
 use Rattle.clip_laws.proofs.Demand3 as Law
 
 -- `clip_cigar_start_raw`
@@ -38,3 +39,7 @@ admitted {A} f s a answer ys L d r m room S =
 -- the amounts "up to the chosen end's clips plus inner M, I, = and X bases" are exactly those that 19 does not refuse
 pub beyond-exactly : {limit : ℕ} (xs : List ℕ) (start : Bool) (T : Takes limit xs) (a : ℕ) → isBeyond xs a start ≡ ltb (most (T .shape) start) a
 beyond-exactly xs start T a = Law.beyond-is xs start T a
+
+-- so under demand 3's premises it is never given
+pub never-beyond : {limit : ℕ} {Holds : List ℕ → List ℕ → Type 0} {start : Bool} {s xs : List ℕ} {a : ℕ} → Given limit Holds start s xs a → isBeyond xs a start ≡ false
+never-beyond {start = start} {xs = xs} {a = a} G = beyond-exactly xs start (G .takes) a ∙ le-ltb (most (G .takes .shape) start) a (G .within)
