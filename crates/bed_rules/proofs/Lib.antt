@@ -1,3 +1,4 @@
+pub mod Alignments
 pub mod WalkLaws
 pub mod FitLaws
 pub mod BlockLaws
