@@ -1,11 +1,14 @@
 /* CIGAR arithmetic over BAM records, op lists and text: the proved calls, for C.
  *
  * A call that can refuse returns a struct: its `refusal` is 0, or the number of the refusal, and then every other field is 0 (false).
- *    1 a record has under 32 bytes          6 the answer is longer than a lent output
- *    2 the op area ends past the record     7 printing met a code 9 to 15
- *    3 a list has over 65,535 ops           8 clipping: total length 2^28 or more
- *    4 a signed 32-bit sum overflows        9 lookup: start outside 1 to 2^31
- *    5 the text is no valid mapped CIGAR   10 op_new: length 0 or above 268,435,455
+ *    1 a record has under 32 bytes            6 the answer is longer than a lent output
+ *    2 the op area ends past the record       7 printing met a code 9 to 15
+ *    3 a list has too many ops: over 65,535   8 clipping: total length 2^28 or more
+ *      (long lists: over 1,048,576)           9 lookup: start outside 1 to 2^31
+ *    4 a signed 32-bit sum overflows         10 op_new: length 0 or above 268,435,455
+ *    5 the text is no valid mapped CIGAR
+ *   12 behind a placeholder: bases, qualities or tags up to the first CG overrun the record, or a tag among these has no known type
+ *   13 the tag CG is no array of unsigned 32-bit numbers (B of I)
  *   14 a start below 0, no block, or an N before the first or after the last block
  *   17 CSI: min_shift or depth out of range 18 CSI: not 0 <= beg < end <= 2^(min_shift + 3 * depth)
  *   19 clipping: the amount is beyond what can be clipped
@@ -19,7 +22,7 @@
  *
  * A flag as an argument is a byte: anything but 0 counts as 1. Positions are counted as each call says.
  *
- * The calls are in two archives, each said above its calls: link the ones that you need. libselvedgekite.so has all of them.
+ * The calls are in three archives, each said above its calls: link the ones that you need. libselvedgekite.so has all of them.
  */
 #ifndef CIGAR_H
 #define CIGAR_H
@@ -200,6 +203,40 @@ struct cigar_count cigar_num_bases_extending_past_mate_vs_mate_raw(const uint8_t
 /* The mate's ops from text into out: `first` the overhang, `second` the ops written; text that the strict reader refuses by 5 answers 0 and 0 and writes
  * nothing. Refusals 1, 3, 2, 4, 6 */
 struct cigar_two cigar_num_bases_extending_past_mate_text_raw(const uint8_t *rec, size_t rec_len, const uint8_t *text, size_t text_len, uint32_t *out, size_t out_len);
+
+/* ======== libexports_long.a ======== */
+
+/* ---- a record's true op list. A record of over 65,535 ops holds a placeholder, an S as long as its sequence and an N, and the list in its tag CG, as a B array of
+ * type I: there the first CG counts. Without placeholder or CG the record's own ops are the list. Lists have at most 1,048,576 ops.
+ * The calls of the other archives read the two ops of a placeholder as they stand */
+
+/* The part of the record that holds the list: `first` its offset, `second` its length in bytes. Refusals 1, 2, 12, 13, 3 */
+struct cigar_two cigar_true_cigar_raw_bytes(const uint8_t *rec, size_t rec_len);
+/* Its ops into out: how many. Refusals 1, 2, 12, 13, 3, 6 */
+struct cigar_count cigar_true_cigar_ops(const uint8_t *rec, size_t rec_len, uint32_t *out, size_t out_len);
+/* Its lengths, as cigar_cigar_lengths has them. Refusals 1, 2, 12, 13, 3, 4 */
+struct cigar_lengths cigar_true_cigar_lengths(const uint8_t *rec, size_t rec_len);
+/* Its text into out: how many bytes. Refusals 1, 2, 12, 13, 3, 7, 6 */
+struct cigar_count cigar_true_cigar_to_bytes_into(const uint8_t *rec, size_t rec_len, uint8_t *out, size_t out_len);
+/* The record's unclipped 5' position by it, as cigar_unclipped_5prime_from_raw_bam has it by its own ops: an unmapped record is told before anything else is read.
+ * Refusals 1, 2, 12, 13, 3, 4 */
+struct cigar_position cigar_true_unclipped_5prime_from_raw_bam(const uint8_t *rec, size_t rec_len);
+/* It clipped at the start and at the end, as cigar_clip_cigar_start and _end clip the record's own ops. The clipped list may be lent to the calls for long lists.
+ * Refusals 1, 2, 12, 13, 3, 8, 19, 6 */
+struct cigar_two cigar_true_clip_cigar_start(const uint8_t *rec, size_t rec_len, uint64_t amount, uint32_t *out, size_t out_len);
+struct cigar_count cigar_true_clip_cigar_end(const uint8_t *rec, size_t rec_len, uint64_t amount, uint32_t *out, size_t out_len);
+
+/* ---- long lists: the calls without `long`, of up to 1,048,576 ops */
+
+/* The reference length of a list. Refusals 3, 4 */
+struct cigar_int cigar_long_reference_length_from_cigar(const uint32_t *ops, size_t ops_len);
+/* The query length of a list. Refusal 3 */
+struct cigar_count cigar_long_query_length_from_cigar(const uint32_t *ops, size_t ops_len);
+/* Lookup. Refusals 3, 9 */
+struct cigar_lookup cigar_long_read_pos_at_ref_pos_raw(const uint32_t *ops, size_t ops_len, uint64_t start, uint64_t position, uint8_t last_base_if_deleted);
+/* Clipping. Refusals 3, 8, 19, 6 */
+struct cigar_two cigar_long_clip_cigar_start_raw(const uint32_t *ops, size_t ops_len, uint64_t amount, uint32_t *out, size_t out_len);
+struct cigar_count cigar_long_clip_cigar_end_raw(const uint32_t *ops, size_t ops_len, uint64_t amount, uint32_t *out, size_t out_len);
 
 #ifdef __cplusplus
 }

@@ -285,8 +285,39 @@ fn foreseen(n: usize, op: &str) {
     pair!(&format!("mate_unclipped_5prime, reverse, {op} repeated"), n, "further", cigar::mate_unclipped_5prime => fn(i32, bool, &[u8]) -> i32, port::mate_unclipped_5prime => fn(i32, bool, &[u8]) -> i32, |i, f| f(1000, true, t[i].as_bytes()), |i, g| g(1000, true, t[i].as_bytes()));
 }
 
+/// A record whose ops are a placeholder, with the list in CG behind two other tags.
+fn tagged(random: &mut Random, ops: &[u32]) -> Vec<u8> {
+    let mut r = record(random, &[150 << 4 | 4, 9999 << 4 | 3], false, 2000);
+    r[16..20].copy_from_slice(&150u32.to_le_bytes());
+    r.extend((0..75 + 150).map(|i| i as u8));
+    r.extend_from_slice(b"NMC\x05RGZgroup\0CGBI");
+    r.extend_from_slice(&(ops.len() as u32).to_le_bytes());
+    r.extend(ops.iter().flat_map(|o| o.to_le_bytes()));
+    r
+}
+
+/// The true lengths of a record, beside the reference and the query length of the same ops, lent, and beside the reference length alone; and its true list clipped by 7, beside the same
+/// ops lent: both are the port's.
+fn long(n: usize, random: &mut Random) {
+    const FEW: usize = 4;
+    let l: Vec<Vec<u32>> = (0..FEW).map(|_| list(random, n)).collect();
+    let r: Vec<Vec<u8>> = l.iter().map(|x| tagged(random, x)).collect();
+    let sums = |ops: &[u32]| (port::long_reference_length_from_cigar(ops), port::long_query_length_from_cigar(ops));
+    let lengths = |i: usize| { let _ = black_box(port::true_cigar_lengths(&r[i % FEW])); };
+    row("true_cigar_lengths", n, "a lent list", |i| { let _ = black_box(sums(&l[i % FEW])); }, lengths);
+    row("true_cigar_lengths, beside the reference length alone", n, "a lent list", |i| { let _ = black_box(port::long_reference_length_from_cigar(&l[i % FEW])); }, lengths);
+    let (mut out, mut other) = (vec![0; n + 1], vec![0; n + 1]);
+    row("true_clip_cigar_start", n, "a lent list", |i| { let _ = black_box(port::long_clip_cigar_start_raw(&l[i % FEW], 7, &mut out)); }, |i| { let _ = black_box(port::true_clip_cigar_start(&r[i % FEW], 7, &mut other)); });
+}
+
 fn main() {
     let random = &mut Random(7);
+    for n in [10, 100, 10_000, 65_535, 1_000_000] {
+        long(n, random);
+    }
+    if std::env::args().any(|word| word == "long") {
+        return;
+    }
     for n in [1, 3, 10, 100, 10_000] {
         lists(n, random);
         records(n, random);

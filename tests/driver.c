@@ -10,7 +10,7 @@ long read(int file, void *to, size_t bytes);
 long write(int file, const void *from, size_t bytes);
 void exit(int status);
 
-enum { MOST = 1 << 21, LONGEST_LINE = 1 << 23, BLOCK = 1 << 16, ARGS = 5, ROOMS = 2, GUARD = 4 };
+enum { MOST = 1 << 21, LONGEST_LINE = 1 << 24, BLOCK = 1 << 16, ARGS = 5, ROOMS = 2, GUARD = 4 };
 
 static const uint32_t FILL_OPS = 2779096485u;
 static const uint8_t FILL_BYTES = 165;
@@ -100,7 +100,19 @@ static uint8_t bytes_room[ROOMS][MOST + GUARD];
     CALL(bin_from_raw_bam, "R", "u", BYTES(0)) \
     CALL(set_bin_from_raw_bam, "W", "u", BYTES(0)) \
     CALL(csi_reg2bin, "IIuu", "u", I64(0), I64(1), U32(2), U32(3)) \
-    CALL(csi_reg2bins, "IIuuo", "u", I64(0), I64(1), U32(2), U32(3), OPS(4))
+    CALL(csi_reg2bins, "IIuuo", "u", I64(0), I64(1), U32(2), U32(3), OPS(4)) \
+    CALL(true_cigar_raw_bytes, "R", "p", BYTES(0)) \
+    CALL(true_cigar_ops, "Ro", "u", BYTES(0), OPS(1)) \
+    CALL(true_cigar_lengths, "R", "suuuuu", BYTES(0)) \
+    CALL(true_cigar_to_bytes_into, "Rb", "u", BYTES(0), BYTES(1)) \
+    CALL(true_unclipped_5prime_from_raw_bam, "R", "c", BYTES(0)) \
+    CALL(true_clip_cigar_start, "RUo", "uu", BYTES(0), U64(1), OPS(2)) \
+    CALL(true_clip_cigar_end, "RUo", "u", BYTES(0), U64(1), OPS(2)) \
+    CALL(long_reference_length_from_cigar, "L", "s", OPS(0)) \
+    CALL(long_query_length_from_cigar, "L", "u", OPS(0)) \
+    CALL(long_read_pos_at_ref_pos_raw, "LUUf", "nu", OPS(0), U64(1), U64(2), FLAG(3)) \
+    CALL(long_clip_cigar_start_raw, "LUo", "uu", OPS(0), U64(1), OPS(2)) \
+    CALL(long_clip_cigar_end_raw, "LUo", "u", OPS(0), U64(1), OPS(2))
 
 /* A call that the library lacks is a null pointer here, and a bad request. */
 #define CALL(name, args, kinds, ...) extern __typeof__(cigar_##name) cigar_##name __attribute__((weak));

@@ -3,7 +3,7 @@
 A record is bytes, or whatever holds bytes (those behind block_size); a text is bytes or a str; a list of ops is a list or an
 array('I') of their numbers (length * 16 + code). A call that would lend memory answers a list or bytes of its own instead.
 Every call answers or raises `Refusal`, whose `number` is the refusal's; where the original answers none, so does the call.
-`unclipped_5prime_from_raw_bam` answers a number, `UNMAPPED` or `NO_OPS`.
+`unclipped_5prime_from_raw_bam` and `true_unclipped_5prime_from_raw_bam` answer a number, `UNMAPPED` or `NO_OPS`.
 A number that its place can't hold is an OverflowError, and what is no record, text, list or number a TypeError.
 
 The shared library is libselvedgekite.so, that ./build-libraries writes to target/libraries/ at the top of the repository;
@@ -16,7 +16,7 @@ from operator import index
 WORDS = {
     1: 'a record has under 32 bytes',
     2: 'the op area ends past the record',
-    3: 'a list has over 65,535 ops',
+    3: 'a list has over 65,535 ops (a long one over 1,048,576)',
     4: 'a signed 32-bit sum overflows',
     5: 'the text is no valid mapped CIGAR',
     6: 'the answer is longer than the lent output',
@@ -24,6 +24,8 @@ WORDS = {
     8: 'clipping: the lengths sum to 2^28 or more',
     9: 'lookup: alignment start outside 1 to 2^31',
     10: 'op length 0 or above 268,435,455',
+    12: 'behind a placeholder, bases, qualities or tags overrun the record, or a tag has no known type',
+    13: 'the tag CG is no array of unsigned 32-bit numbers',
     14: 'no blocks: a start below 0, no block, or an N before the first or after the last',
     17: 'CSI bins: min_shift outside 10 to 20, or depth outside 1 to 8',
     18: 'CSI bins: not 0 <= beg < end <= 2^(min_shift + 3 * depth)',
@@ -31,7 +33,7 @@ WORDS = {
 }
 
 
-# what `unclipped_5prime_from_raw_bam` answers in place of a position, for an unmapped record, and for one without ops
+# what the unclipped position is told as in place of a number, for an unmapped record, and for one without ops
 UNMAPPED, NO_OPS = 'unmapped', 'no_ops'
 
 
@@ -96,12 +98,12 @@ DECLARED = [
     (Count, BYTES, 'l_read_name bin n_cigar_op flags l_seq query_length bin_from_raw_bam'),
     (Flag, BYTES, 'is_mapped_opposite_strand_pair_raw is_fr_pair_raw'),
     (Found, BYTES, 'alignment_start_from_raw alignment_end_from_raw'),
-    (Position, BYTES, 'unclipped_5prime_from_raw_bam'),
-    (Two, BYTES, 'cigar_raw_bytes'),
-    (Lengths, BYTES, 'cigar_lengths'),
+    (Position, BYTES, 'unclipped_5prime_from_raw_bam true_unclipped_5prime_from_raw_bam'),
+    (Two, BYTES, 'cigar_raw_bytes true_cigar_raw_bytes'),
+    (Lengths, BYTES, 'cigar_lengths true_cigar_lengths'),
     (Count, ROOM, 'set_bin_from_raw_bam'),
-    (Int, OPS, 'reference_length_from_cigar saturating_reference_length'),
-    (Count, OPS, 'query_length_from_cigar'),
+    (Int, OPS, 'reference_length_from_cigar saturating_reference_length long_reference_length_from_cigar'),
+    (Count, OPS, 'query_length_from_cigar long_query_length_from_cigar'),
     (Flag, OPS, 'is_valid_mapped_cigar'),
     (c_bool, [c_uint32], 'consumes_ref consumes_query consumes_read op_consumes_query op_consumes_ref'),
     (Found, [c_uint32], 'from_op_type as_char'),
@@ -110,15 +112,15 @@ DECLARED = [
     (Count, [c_int32, c_int32], 'reg2bin'),
     (Count, [c_int64, c_int64, c_uint32, c_uint32], 'csi_reg2bin'),
     (Count, [c_int64, c_int64, c_uint32, c_uint32] + OPS, 'csi_reg2bins'),
-    (Count, BYTES + OPS, 'get_cigar_ops parse_cigar_string_ops num_bases_extending_past_mate_cigar_raw'),
-    (Count, BYTES + ROOM, 'cigar_to_bytes_into'),
+    (Count, BYTES + OPS, 'get_cigar_ops true_cigar_ops parse_cigar_string_ops num_bases_extending_past_mate_cigar_raw'),
+    (Count, BYTES + ROOM, 'cigar_to_bytes_into true_cigar_to_bytes_into'),
     (c_int32, [c_int32, c_uint8] + BYTES, 'mate_unclipped_5prime mate_unclipped_5prime_1based'),
     (Int, BYTES + [c_int32, c_uint8], 'unclipped_5prime_raw'),
-    (Lookup, OPS + [c_uint64, c_uint64, c_uint8], 'read_pos_at_ref_pos_raw'),
-    (Two, OPS + [c_uint64] + OPS, 'clip_cigar_start_raw'),
-    (Count, OPS + [c_uint64] + OPS, 'clip_cigar_end_raw'),
-    (Two, BYTES + [c_uint64] + OPS, 'clip_cigar_start'),
-    (Count, BYTES + [c_uint64] + OPS, 'clip_cigar_end'),
+    (Lookup, OPS + [c_uint64, c_uint64, c_uint8], 'read_pos_at_ref_pos_raw long_read_pos_at_ref_pos_raw'),
+    (Two, OPS + [c_uint64] + OPS, 'clip_cigar_start_raw long_clip_cigar_start_raw'),
+    (Count, OPS + [c_uint64] + OPS, 'clip_cigar_end_raw long_clip_cigar_end_raw'),
+    (Two, BYTES + [c_uint64] + OPS, 'clip_cigar_start true_clip_cigar_start'),
+    (Count, BYTES + [c_uint64] + OPS, 'clip_cigar_end true_clip_cigar_end'),
     (Blocks, [c_int32] + OPS + OPS + OPS, 'bed_blocks'),
     (Flag, BYTES + BYTES, 'is_primary_fr_pair_raw'),
     (Count, BYTES + BYTES, 'num_bases_extending_past_mate_vs_mate_raw'),
@@ -206,6 +208,26 @@ def _found(answer):
     return answer.value if _sure(answer).found else None
 
 
+def _part(call, bam):
+    """The part of the record that a call finds."""
+    data, n = _record(bam)
+    part = _sure(call(data, n))
+    return data[part.first:part.first + part.second]
+
+
+def _lengths(answer):
+    found = _sure(answer)
+    return found.reference, found.query, found.leading_soft, found.leading_hard, found.trailing_soft, found.trailing_hard
+
+
+def _unclipped(answer):
+    return (answer.value, UNMAPPED, NO_OPS)[_sure(answer).which]
+
+
+def _lookup(answer):
+    return _found(answer), answer.examined
+
+
 def _filled(call, *arguments, kind=c_uint32, outputs=1):
     """The answer of a call that fills outputs, and the outputs: room is lent until it is enough."""
     places = 64
@@ -215,6 +237,18 @@ def _filled(call, *arguments, kind=c_uint32, outputs=1):
         if answer.refusal != 6:
             return _sure(answer), *out
         places *= 8
+
+
+def _list(call, *arguments):
+    """What a call writes to its output."""
+    answer, out = _filled(call, *arguments)
+    return out[:answer.value]
+
+
+def _cut(call, *arguments):
+    """The list that a call clips at the start, and the reference bases lost."""
+    answer, out = _filled(call, *arguments)
+    return out[:answer.first], answer.second
 
 
 # ---- fields of a record
@@ -272,9 +306,7 @@ def template_length(bam):
 
 def cigar_raw_bytes(bam):
     """The part of the record that holds its ops, as bytes; empty where the area overruns."""
-    data, n = _record(bam)
-    part = _sure(C.cigar_cigar_raw_bytes(data, n))
-    return data[part.first:part.first + part.second]
+    return _part(C.cigar_cigar_raw_bytes, bam)
 
 
 # ---- ops
@@ -282,8 +314,7 @@ def cigar_raw_bytes(bam):
 
 def get_cigar_ops(bam):
     """The record's ops, a list."""
-    answer, out = _filled(C.cigar_get_cigar_ops, *_record(bam))
-    return out[:answer.value]
+    return _list(C.cigar_get_cigar_ops, *_record(bam))
 
 
 def consumes_ref(op_type):
@@ -372,8 +403,7 @@ def query_length(bam):
 
 def cigar_lengths(bam):
     """Reference and query length of a record, then the soft and hard bases of the clips that it begins with, and of those that it ends with (0 where it has clips only)."""
-    found = _sure(C.cigar_cigar_lengths(*_record(bam)))
-    return found.reference, found.query, found.leading_soft, found.leading_hard, found.trailing_soft, found.trailing_hard
+    return _lengths(C.cigar_cigar_lengths(*_record(bam)))
 
 
 # ---- bins
@@ -401,8 +431,7 @@ def csi_reg2bin(beg, end, min_shift, depth):
 
 def csi_reg2bins(beg, end, min_shift, depth):
     """All CSI bins that may overlap the region, level by level from the coarsest, ascending."""
-    answer, out = _filled(C.cigar_csi_reg2bins, _i64(beg), _i64(end), _u32(min_shift), _u32(depth))
-    return out[:answer.value]
+    return _list(C.cigar_csi_reg2bins, _i64(beg), _i64(end), _u32(min_shift), _u32(depth))
 
 
 # ---- text
@@ -416,8 +445,7 @@ def cigar_to_bytes_into(bam):
 
 def parse_cigar_string_ops(text):
     """The text's ops, a list."""
-    answer, out = _filled(C.cigar_parse_cigar_string_ops, *_text(text))
-    return out[:answer.value]
+    return _list(C.cigar_parse_cigar_string_ops, *_text(text))
 
 
 def is_valid_mapped_cigar(ops):
@@ -440,8 +468,7 @@ def mate_unclipped_5prime_1based(mate_pos_0based, mate_reverse, mc_cigar):
 
 def unclipped_5prime_from_raw_bam(bam):
     """The unclipped 5' position, counted from 1; UNMAPPED for an unmapped record, which is asked first, NO_OPS for one that has no ops, or whose ops overrun it."""
-    answer = _sure(C.cigar_unclipped_5prime_from_raw_bam(*_record(bam)))
-    return (answer.value, UNMAPPED, NO_OPS)[answer.which]
+    return _unclipped(C.cigar_unclipped_5prime_from_raw_bam(*_record(bam)))
 
 
 def unclipped_5prime_raw(bam, pos, is_reverse):
@@ -461,8 +488,7 @@ def alignment_end_from_raw(bam):
 
 def read_pos_at_ref_pos_raw(ops, alignment_start, ref_pos, return_last_base_if_deleted):
     """The query position, counted from 1, at a reference position, None where there is none; and how many ops were examined for it."""
-    answer = C.cigar_read_pos_at_ref_pos_raw(*_ops(ops), _u64(alignment_start), _u64(ref_pos), bool(return_last_base_if_deleted))
-    return _found(answer), answer.examined
+    return _lookup(C.cigar_read_pos_at_ref_pos_raw(*_ops(ops), _u64(alignment_start), _u64(ref_pos), bool(return_last_base_if_deleted)))
 
 
 # ---- clipping
@@ -470,20 +496,22 @@ def read_pos_at_ref_pos_raw(ops, alignment_start, ref_pos, return_last_base_if_d
 
 def clip_cigar_start_raw(ops, clip_amount):
     """The list clipped at the start, and the reference bases lost."""
-    answer, out = _filled(C.cigar_clip_cigar_start_raw, *_ops(ops), _u64(clip_amount))
-    return out[:answer.first], answer.second
+    return _cut(C.cigar_clip_cigar_start_raw, *_ops(ops), _u64(clip_amount))
 
 
 def clip_cigar_end_raw(ops, clip_amount):
     """The list clipped at the end."""
-    answer, out = _filled(C.cigar_clip_cigar_end_raw, *_ops(ops), _u64(clip_amount))
-    return out[:answer.value]
+    return _list(C.cigar_clip_cigar_end_raw, *_ops(ops), _u64(clip_amount))
 
 
 def clip_cigar_start(bam, clip_amount):
     """A record's ops clipped at the start, and the reference bases lost."""
-    answer, out = _filled(C.cigar_clip_cigar_start, *_record(bam), _u64(clip_amount))
-    return out[:answer.first], answer.second
+    return _cut(C.cigar_clip_cigar_start, *_record(bam), _u64(clip_amount))
+
+
+def clip_cigar_end(bam, clip_amount):
+    """A record's ops clipped at the end."""
+    return _list(C.cigar_clip_cigar_end, *_record(bam), _u64(clip_amount))
 
 
 # ---- blocks
@@ -494,12 +522,6 @@ def bed_blocks(start, ops):
     its start, a list."""
     answer, sizes, starts = _filled(C.cigar_bed_blocks, _i32(start), *_ops(ops), outputs=2)
     return answer.chrom_start, answer.chrom_end, sizes[:answer.block_count], starts[:answer.block_count]
-
-
-def clip_cigar_end(bam, clip_amount):
-    """A record's ops clipped at the end."""
-    answer, out = _filled(C.cigar_clip_cigar_end, *_record(bam), _u64(clip_amount))
-    return out[:answer.value]
 
 
 # ---- pairs
@@ -539,3 +561,67 @@ def num_bases_extending_past_mate_text_raw(bam, mate_text):
     """The query bases past the mate, whose ops are given as text, and those ops, a list."""
     answer, out = _filled(C.cigar_num_bases_extending_past_mate_text_raw, *_record(bam), *_text(mate_text))
     return answer.first, out[:answer.second]
+
+
+# ---- long op lists: a record's true list stands in its tag CG, where its own ops are a placeholder; without placeholder or CG its own ops are the list
+
+
+def true_cigar_raw_bytes(bam):
+    """The part of the record that holds its true list, as bytes."""
+    return _part(C.cigar_true_cigar_raw_bytes, bam)
+
+
+def true_cigar_ops(bam):
+    """The ops of the true list, a list."""
+    return _list(C.cigar_true_cigar_ops, *_record(bam))
+
+
+def true_cigar_lengths(bam):
+    """The lengths of the true list, as `cigar_lengths` has them."""
+    return _lengths(C.cigar_true_cigar_lengths(*_record(bam)))
+
+
+def true_cigar_to_bytes_into(bam):
+    """The true list as text, in bytes."""
+    answer, out = _filled(C.cigar_true_cigar_to_bytes_into, *_record(bam), kind=c_uint8)
+    return bytes(out[:answer.value])
+
+
+def true_unclipped_5prime_from_raw_bam(bam):
+    """The record's unclipped 5' position by its true list, as `unclipped_5prime_from_raw_bam` has it by its own ops; an unmapped record is told before the list is looked for."""
+    return _unclipped(C.cigar_true_unclipped_5prime_from_raw_bam(*_record(bam)))
+
+
+def true_clip_cigar_start(bam, clip_amount):
+    """The true list clipped at the start, and the reference bases lost."""
+    return _cut(C.cigar_true_clip_cigar_start, *_record(bam), _u64(clip_amount))
+
+
+def true_clip_cigar_end(bam, clip_amount):
+    """The true list clipped at the end."""
+    return _list(C.cigar_true_clip_cigar_end, *_record(bam), _u64(clip_amount))
+
+
+def long_reference_length_from_cigar(ops):
+    """The reference length of a list of up to 1,048,576 ops."""
+    return _value(C.cigar_long_reference_length_from_cigar(*_ops(ops)))
+
+
+def long_query_length_from_cigar(ops):
+    """The query length of a list of up to 1,048,576 ops."""
+    return _value(C.cigar_long_query_length_from_cigar(*_ops(ops)))
+
+
+def long_read_pos_at_ref_pos_raw(ops, alignment_start, ref_pos, return_last_base_if_deleted):
+    """`read_pos_at_ref_pos_raw` of a list of up to 1,048,576 ops."""
+    return _lookup(C.cigar_long_read_pos_at_ref_pos_raw(*_ops(ops), _u64(alignment_start), _u64(ref_pos), bool(return_last_base_if_deleted)))
+
+
+def long_clip_cigar_start_raw(ops, clip_amount):
+    """`clip_cigar_start_raw` of a list of up to 1,048,576 ops."""
+    return _cut(C.cigar_long_clip_cigar_start_raw, *_ops(ops), _u64(clip_amount))
+
+
+def long_clip_cigar_end_raw(ops, clip_amount):
+    """`clip_cigar_end_raw` of a list of up to 1,048,576 ops."""
+    return _list(C.cigar_long_clip_cigar_end_raw, *_ops(ops), _u64(clip_amount))

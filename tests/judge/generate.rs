@@ -1,5 +1,7 @@
 //! Seeded request lines over every call: short lists and texts exhaustively, boundaries, damaged and truncated records, rooms full and short.
 
+mod long;
+
 use crate::csi;
 use crate::protocol::{put_hex, put_list, put_number, put_signed};
 use crate::{bed, rules};
@@ -88,7 +90,8 @@ pub fn all(seed: u64, size: u64, emit: &mut dyn FnMut(&[u8]) -> Done) -> Done {
     out.reserved_positions()?;
     out.csi_edges()?;
     out.csi_ranges()?;
-    out.csi_random()
+    out.csi_random()?;
+    out.long()
 }
 
 // ---- ops, lists and texts

@@ -8,6 +8,7 @@ mod generate;
 mod oracle;
 mod protocol;
 mod rules;
+mod tags;
 
 use std::collections::BTreeMap;
 use std::io::{self, BufRead, Read, Write};
@@ -125,6 +126,10 @@ impl Kept {
     fn offer(&mut self, line: Vec<u8>, rng: &mut generate::Rng) {
         const EACH: u64 = 24;
         const SHORT: usize = 360;
+        const LONGEST: usize = 1 << 19;
+        if line.len() > LONGEST {
+            return;
+        }
         if line.len() > SHORT {
             self.long.get_or_insert(line);
             return;

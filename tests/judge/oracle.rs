@@ -2,9 +2,9 @@
 //! the original is then held to it: it has to stop exactly where 4, 7 or 10 is due, and nowhere else. Where document 02 parts from the original, its answer is folded;
 //! a call that the original lacks is answered by a plain second program.
 
-use crate::csi;
 use crate::protocol::{FILL_BYTES, FILL_OPS, Reply, Said, Words, split};
-use crate::{bed, rules};
+use crate::rules::{self, MOST_LONG_OPS, MOST_OPS};
+use crate::{bed, csi, tags};
 use original::cigar::{self, CigarKind, CigarOp};
 use original::fields::{self, RawRecordView};
 use original::{bin, overlap};
@@ -160,11 +160,11 @@ fn alignment_end_from_raw(words: &mut Words) -> Option<Reply> {
     })
 }
 
-/// A call on one list, refused by 3.
-fn of_list<T>(words: &mut Words, due: fn(&[u32]) -> Option<u8>, run: fn(&[u32]) -> T, values: fn(T) -> Said) -> Option<Reply> {
+/// A call on one list, refused by 3 above its limit.
+fn of_list<T>(words: &mut Words, limit: usize, due: fn(&[u32]) -> Option<u8>, run: fn(&[u32]) -> T, values: fn(T) -> Said) -> Option<Reply> {
     let list = words.list()?;
     words.done()?;
-    alone(match rules::too_many(&list) {
+    alone(match rules::more_than(limit, &list) {
         Some(n) => Said::Refusal(n),
         None => said(hold(due(&list), || run(&list)), values),
     })
@@ -237,6 +237,10 @@ fn lengths((view, clips): ((i32, usize), Vec<i64>)) -> Said {
     Said::Values([vec![view.0.into(), count(view.1)], clips].concat())
 }
 
+fn own_ops(record: &[u8]) -> Vec<u32> {
+    rules::Record(record).ops().unwrap_or_default()
+}
+
 fn cigar_to_bytes_into(words: &mut Words) -> Option<Reply> {
     let (record, room) = (words.bytes()?, words.room()?);
     words.done()?;
@@ -247,7 +251,7 @@ fn cigar_to_bytes_into(words: &mut Words) -> Option<Reply> {
     };
     let answer = match rules::too_short(&record) {
         Some(n) => Err(Said::Refusal(n)),
-        None => hold(rules::bad_code(&rules::Record(&record).ops().unwrap_or_default()), print),
+        None => hold(rules::bad_code(&own_ops(&record)), print),
     };
     lend(room, FILL_BYTES.into(), answer)
 }
@@ -316,10 +320,11 @@ fn unclipped_5prime_raw(words: &mut Words) -> Option<Reply> {
     })
 }
 
-fn read_pos_at_ref_pos_raw(words: &mut Words) -> Option<Reply> {
+/// Lookup in a list, refused by 3 above its limit.
+fn look_up(words: &mut Words, limit: usize) -> Option<Reply> {
     let (list, start, position, last) = (words.list()?, words.u64()?, words.u64()?, words.flag()?);
     words.done()?;
-    alone(match rules::too_many(&list).or(rules::bad_start(start)) {
+    alone(match rules::more_than(limit, &list).or(rules::bad_start(start)) {
         Some(n) => Said::Refusal(n),
         None => {
             let examined = rules::examined(&list, start, position);
@@ -339,20 +344,25 @@ fn clipped(beyond: Option<u8>, start: bool, original: impl FnOnce() -> (Vec<u32>
     }
 }
 
-fn clip_raw(words: &mut Words, start: bool) -> Option<Reply> {
+/// A list clipped, past 3 (1 for a record): 8, 19.
+fn clip_list(list: &[u32], amount: u64, start: bool) -> Result<(Vec<u32>, Said), Said> {
+    match rules::too_long(list) {
+        Some(n) => Err(Said::Refusal(n)),
+        None => clipped(rules::beyond(list, amount, start), start, || cigar::clip_cigar_ops_raw(list, amount as usize, start)),
+    }
+}
+
+/// A lent list clipped, refused by 3 above its limit.
+fn clip_raw(words: &mut Words, limit: usize, start: bool) -> Option<Reply> {
     let (list, amount, room) = (words.list()?, words.u64()?, words.room()?);
     words.done()?;
-    let answer = match rules::too_many(&list).or(rules::too_long(&list)) {
-        Some(n) => Err(Said::Refusal(n)),
-        None => clipped(rules::beyond(&list, amount, start), start, || cigar::clip_cigar_ops_raw(&list, amount as usize, start)),
-    };
-    lend(room, FILL_OPS, answer)
+    lend(room, FILL_OPS, rules::more_than(limit, &list).map_or_else(|| clip_list(&list, amount, start), |n| Err(Said::Refusal(n))))
 }
 
 fn clip_record(words: &mut Words, start: bool) -> Option<Reply> {
     let (record, amount, room) = (words.bytes()?, words.u64()?, words.room()?);
     words.done()?;
-    let list = || rules::Record(&record).ops().unwrap_or_default();
+    let list = || own_ops(&record);
     let answer = match rules::too_short(&record).or_else(|| rules::too_long(&list())) {
         Some(n) => Err(Said::Refusal(n)),
         None => clipped(rules::beyond(&list(), amount, start), start, || RawRecordView::new(&record).clip_cigar_ops(amount as usize, start)),
@@ -494,8 +504,98 @@ fn csi_reg2bins(words: &mut Words) -> Option<Reply> {
     lend(room, FILL_OPS, answer)
 }
 
+// ---- document 02, item 1: the true list of a record is read by `tags`; what is made of its ops is the original's where it has a call for a list
+
+fn true_ops(record: &[u8]) -> Result<Vec<u32>, Said> {
+    tags::true_part(record).map(rules::as_ops).map_err(Said::Refusal)
+}
+
+fn true_cigar_raw_bytes(words: &mut Words) -> Option<Reply> {
+    let record = words.bytes()?;
+    words.done()?;
+    let part = tags::true_part(&record);
+    let lent = vec![bytes_as_list(part.unwrap_or_default())];
+    Some(Reply { said: part.map_or_else(Said::Refusal, |_| Said::Values(Vec::new())), lent })
+}
+
+fn true_cigar_ops(words: &mut Words) -> Option<Reply> {
+    let (record, room) = (words.bytes()?, words.room()?);
+    words.done()?;
+    lend(room, FILL_OPS, true_ops(&record).map(counted))
+}
+
+fn true_cigar_lengths(words: &mut Words) -> Option<Reply> {
+    let record = words.bytes()?;
+    words.done()?;
+    let sums = |list: Vec<u32>| {
+        let both = hold(rules::length_overflows(&list), || (cigar::reference_length_from_cigar(&list), cigar::query_length_from_cigar(&list)))?;
+        Ok((both, rules::end_clips(&list)))
+    };
+    alone(said(true_ops(&record).and_then(sums), lengths))
+}
+
+/// A record with these ops, of 65,535 at most, without a name; the fields of another.
+fn record_of(fields: &[u8], ops: &[u32]) -> Vec<u8> {
+    let mut record = fields[..32].to_vec();
+    record[8] = 0;
+    record[12..14].copy_from_slice(&(ops.len() as u16).to_le_bytes());
+    record.extend(ops.iter().flat_map(|op| op.to_le_bytes()));
+    record
+}
+
+/// The original prints records alone: a longer list by its parts.
+fn text(list: &[u32]) -> Vec<u8> {
+    let mut whole = Vec::new();
+    for part in list.chunks(MOST_OPS) {
+        let mut out = Vec::new();
+        cigar::cigar_to_bytes_into(&mut out, &record_of(&[0; 32], part));
+        whole.extend(out);
+    }
+    whole
+}
+
+fn true_cigar_to_bytes_into(words: &mut Words) -> Option<Reply> {
+    let (record, room) = (words.bytes()?, words.room()?);
+    words.done()?;
+    let printed = |list: Vec<u32>| hold(rules::bad_code(&list), || counted(bytes_as_list(&text(&list))));
+    lend(room, FILL_BYTES.into(), true_ops(&record).and_then(printed))
+}
+
+/// Unmapped is told before the list is looked for. The original reads positions off records alone, of 65,535 ops at most: of a longer list the rules' own position is the answer.
+fn true_unclipped_5prime_from_raw_bam(words: &mut Words) -> Option<Reply> {
+    let record = words.bytes()?;
+    words.done()?;
+    if let Some(n) = rules::too_short(&record) {
+        return alone(Said::Refusal(n));
+    }
+    let fields = rules::Record(&record);
+    if fields.is_unmapped() {
+        return alone(Said::Word("unmapped"));
+    }
+    alone(said(true_ops(&record), |list| {
+        if list.is_empty() {
+            return Said::Word("no_ops");
+        }
+        let own = rules::unclipped_position(&list, fields.pos(), fields.is_reverse());
+        if list.len() > MOST_OPS {
+            return own.map_or_else(Said::Refusal, one);
+        }
+        let short = record_of(&record, &list);
+        said(hold(own.err(), || cigar::unclipped_5prime_from_raw_bam(&short)), |position| match own {
+            Ok(own) if own == i64::from(position) => one(position),
+            _ => Said::Mismatch(format!("{own:?} by the rules, and the original answers {position}")),
+        })
+    }))
+}
+
+fn true_clip(words: &mut Words, start: bool) -> Option<Reply> {
+    let (record, amount, room) = (words.bytes()?, words.u64()?, words.room()?);
+    words.done()?;
+    lend(room, FILL_OPS, true_ops(&record).and_then(|list| clip_list(&list, amount, start)))
+}
+
 /// Every call of the protocol, in its order.
-pub const CALLS: [(&str, Call); 56] = [
+pub const CALLS: [(&str, Call); 68] = [
     ("ref_id", |w| of_record(w, never, fields::ref_id, one)),
     ("pos", |w| of_record(w, never, fields::pos, one)),
     ("l_read_name", |w| of_record(w, never, fields::reach::l_read_name, one)),
@@ -518,13 +618,13 @@ pub const CALLS: [(&str, Call); 56] = [
     ("op_len", |w| of_number(w, |n| one(CigarOp::from_raw(n).len()))),
     ("op_consumes_query", |w| of_number(w, |n| one(CigarOp::from_raw(n).consumes_query()))),
     ("op_consumes_ref", |w| of_number(w, |n| one(CigarOp::from_raw(n).consumes_ref()))),
-    ("reference_length_from_cigar", |w| of_list(w, |l| rules::overflows(rules::reference_total(l), &[0]), cigar::reference_length_from_cigar, one)),
-    ("query_length_from_cigar", |w| of_list(w, |_| None, cigar::query_length_from_cigar, |n| one(count(n)))),
-    ("saturating_reference_length", |w| of_list(w, |_| None, overlap::saturating_reference_length, one)),
+    ("reference_length_from_cigar", |w| of_list(w, MOST_OPS, rules::length_overflows, cigar::reference_length_from_cigar, one)),
+    ("query_length_from_cigar", |w| of_list(w, MOST_OPS, |_| None, cigar::query_length_from_cigar, |n| one(count(n)))),
+    ("saturating_reference_length", |w| of_list(w, MOST_OPS, |_| None, overlap::saturating_reference_length, one)),
     ("reference_length_from_raw_bam", reference_length_from_raw_bam),
     ("reference_length_from_raw_bam_checked", reference_length_from_raw_bam_checked),
     ("query_length", |w| of_record(w, never, |r| RawRecordView::new(r).query_length(), |n| one(count(n)))),
-    ("cigar_lengths", |w| of_record(w, rules::lengths_overflow, |r| (RawRecordView::new(r).cigar_lengths(), rules::end_clips(r)), lengths)),
+    ("cigar_lengths", |w| of_record(w, |r| rules::length_overflows(&own_ops(r)), |r| (RawRecordView::new(r).cigar_lengths(), rules::end_clips(&own_ops(r))), lengths)),
     ("cigar_to_bytes_into", cigar_to_bytes_into),
     ("parse_cigar_string_ops", parse_cigar_string_ops),
     ("is_valid_mapped_cigar", is_valid_mapped_cigar),
@@ -534,9 +634,9 @@ pub const CALLS: [(&str, Call); 56] = [
     ("unclipped_5prime_raw", unclipped_5prime_raw),
     ("alignment_start_from_raw", |w| of_record(w, rules::alignment_start_overflows, cigar::alignment_start_from_raw, some)),
     ("alignment_end_from_raw", alignment_end_from_raw),
-    ("read_pos_at_ref_pos_raw", read_pos_at_ref_pos_raw),
-    ("clip_cigar_start_raw", |w| clip_raw(w, true)),
-    ("clip_cigar_end_raw", |w| clip_raw(w, false)),
+    ("read_pos_at_ref_pos_raw", |w| look_up(w, MOST_OPS)),
+    ("clip_cigar_start_raw", |w| clip_raw(w, MOST_OPS, true)),
+    ("clip_cigar_end_raw", |w| clip_raw(w, MOST_OPS, false)),
     ("clip_cigar_start", |w| clip_record(w, true)),
     ("clip_cigar_end", |w| clip_record(w, false)),
     ("bed_blocks", bed_blocks),
@@ -550,6 +650,18 @@ pub const CALLS: [(&str, Call); 56] = [
     ("reg2bin", reg2bin),
     ("bin_from_raw_bam", |w| of_asked(w, rules::asked_at_a_place, rules::bin_overflows, bin::bin_from_raw_bam, one)),
     ("set_bin_from_raw_bam", set_bin_from_raw_bam),
+    ("true_cigar_raw_bytes", true_cigar_raw_bytes),
+    ("true_cigar_ops", true_cigar_ops),
+    ("true_cigar_lengths", true_cigar_lengths),
+    ("true_cigar_to_bytes_into", true_cigar_to_bytes_into),
+    ("true_unclipped_5prime_from_raw_bam", true_unclipped_5prime_from_raw_bam),
+    ("true_clip_cigar_start", |w| true_clip(w, true)),
+    ("true_clip_cigar_end", |w| true_clip(w, false)),
+    ("long_reference_length_from_cigar", |w| of_list(w, MOST_LONG_OPS, rules::length_overflows, cigar::reference_length_from_cigar, one)),
+    ("long_query_length_from_cigar", |w| of_list(w, MOST_LONG_OPS, |_| None, cigar::query_length_from_cigar, |n| one(count(n)))),
+    ("long_read_pos_at_ref_pos_raw", |w| look_up(w, MOST_LONG_OPS)),
+    ("long_clip_cigar_start_raw", |w| clip_raw(w, MOST_LONG_OPS, true)),
+    ("long_clip_cigar_end_raw", |w| clip_raw(w, MOST_LONG_OPS, false)),
     ("csi_reg2bin", csi_reg2bin),
     ("csi_reg2bins", csi_reg2bins),
 ];

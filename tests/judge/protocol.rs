@@ -2,7 +2,7 @@
 
 /// Most elements of a list, places of a lent output and bytes of a line; more is a bad request.
 pub const MOST: usize = 1 << 21;
-pub const LONGEST_LINE: usize = 1 << 23;
+pub const LONGEST_LINE: usize = 1 << 24;
 
 /// What lent outputs hold before a call.
 pub const FILL_OPS: u32 = 2_779_096_485;

@@ -1,6 +1,7 @@
 //! Document 01's refusals and document 02's, computed from the input alone: nothing here asks the original or the port.
 
 pub const MOST_OPS: usize = 65_535;
+pub const MOST_LONG_OPS: usize = 1_048_576;
 const SHORTEST_RECORD: usize = 32;
 const TOO_LONG: u64 = 1 << 28;
 const I32: std::ops::RangeInclusive<i64> = i32::MIN as i64..=i32::MAX as i64;
@@ -32,9 +33,14 @@ pub fn too_short(record: &[u8]) -> Option<u8> {
     (record.len() < SHORTEST_RECORD).then_some(1)
 }
 
+/// 3: a list has more ops than a call takes.
+pub fn more_than(limit: usize, list: &[u32]) -> Option<u8> {
+    (list.len() > limit).then_some(3)
+}
+
 /// 3: a list has over 65,535 ops.
 pub fn too_many(list: &[u32]) -> Option<u8> {
-    (list.len() > MOST_OPS).then_some(3)
+    more_than(MOST_OPS, list)
 }
 
 /// 8: clipping, total length 2^28 or more, whatever the codes.
@@ -100,6 +106,11 @@ pub fn overflows(from: i64, steps: &[i64]) -> Option<u8> {
     None
 }
 
+/// The ops that some bytes hold, four to an op.
+pub fn as_ops(bytes: &[u8]) -> Vec<u32> {
+    bytes.chunks_exact(4).map(|four| u32::from_le_bytes([four[0], four[1], four[2], four[3]])).collect()
+}
+
 /// The fields of a record of 32 bytes or more.
 pub struct Record<'a>(pub &'a [u8]);
 
@@ -133,12 +144,20 @@ impl Record<'_> {
         self.has(16)
     }
 
+    pub fn l_seq(&self) -> i64 {
+        self.unsigned(16, 4)
+    }
+
+    /// Where the op area begins and ends, be it past the record.
+    pub fn op_area(&self) -> (usize, usize) {
+        let start = 32 + self.unsigned(8, 1) as usize;
+        (start, start + 4 * self.unsigned(12, 2) as usize)
+    }
+
     /// The record's ops; none where their area ends past the record.
     pub fn ops(&self) -> Option<Vec<u32>> {
-        let start = 32 + self.unsigned(8, 1) as usize;
-        let end = start + 4 * self.unsigned(12, 2) as usize;
-        let area = self.0.get(start..end)?;
-        Some(area.chunks_exact(4).map(|four| u32::from_le_bytes([four[0], four[1], four[2], four[3]])).collect())
+        let (start, end) = self.op_area();
+        Some(as_ops(self.0.get(start..end)?))
     }
 
     /// The reference length as the original goes on with it: 0 where the checked one refuses.
@@ -213,14 +232,28 @@ fn end_overflows(position: i64, ops: &[u32]) -> Option<u8> {
     stops.or(overflows(reference, &[0])).or(overflows(position, &[reference, clips, -1]))
 }
 
+/// 4 of the unclipped end of a list.
+fn list_overflows(ops: &[u32], position: i64, reverse: bool) -> Option<u8> {
+    if reverse { end_overflows(position, ops) } else { start_overflows(position, ops) }
+}
+
 /// 4 of an unclipped end, with ops in bounds only.
 pub fn unclipped_overflows(record: &[u8], position: i64, reverse: bool) -> Option<u8> {
-    match Record(record).ops() {
-        Some(ops) if ops.is_empty() => None,
-        None => None,
-        Some(ops) if reverse => end_overflows(position, &ops),
-        Some(ops) => start_overflows(position, &ops),
+    Record(record).ops().filter(|ops| !ops.is_empty()).and_then(|ops| list_overflows(&ops, position, reverse))
+}
+
+/// The unclipped 5' position of a list, which has ops, counted from 1, at a position that is counted from 0; or 4: "from `pos` + 1, forward less the leading S and H, reverse plus
+/// reference length plus clips after the last reference op, less 1".
+pub fn unclipped_position(ops: &[u32], pos: i64, reverse: bool) -> Result<i64, u8> {
+    if let Some(n) = overflows(pos, &[1]).or(list_overflows(ops, pos + 1, reverse)) {
+        return Err(n);
     }
+    let clips = |ops: &[u32]| ops.iter().filter(|&&op| is_clip(op)).map(|&op| length(op)).sum::<i64>();
+    if !reverse {
+        return Ok(pos + 1 - clips(&ops[..ops.iter().position(|&op| !is_clip(op)).unwrap_or(ops.len())]));
+    }
+    let behind = ops.iter().rposition(|&op| is_reference(op)).map_or(ops.len(), |at| at + 1);
+    Ok(pos + reference_total(ops) + clips(&ops[behind..]))
 }
 
 /// The word for a record that has no unclipped position (document 02, item 3), and the number that the original answers for it: unmapped is asked first, then no ops, none or an
@@ -264,19 +297,18 @@ fn soft_and_hard(ops: &[u32]) -> [i64; 2] {
     [4, 5].map(|kind| ops.iter().filter(|&&op| code(op) == kind).map(|&op| i64::from(op / 16)).sum())
 }
 
-/// The clips at a record's ends (document 02, item 6): leading soft and hard, trailing soft and hard. A run of S and H reaches as far as the first or last op that is
+/// The clips at a list's ends (document 02, item 6): leading soft and hard, trailing soft and hard. A run of S and H reaches as far as the first or last op that is
 /// neither; where there is none, all is leading.
-pub fn end_clips(record: &[u8]) -> Vec<i64> {
-    let list = Record(record).ops().unwrap_or_default();
+pub fn end_clips(list: &[u32]) -> Vec<i64> {
     let inner = |&op: &u32| ![4, 5].contains(&code(op));
     let first = list.iter().position(inner).unwrap_or(list.len());
     let last = list.iter().rposition(inner).map_or(list.len(), |at| at + 1);
     [soft_and_hard(&list[..first]), soft_and_hard(&list[last..])].concat()
 }
 
-/// 4 of the two lengths of a record.
-pub fn lengths_overflow(record: &[u8]) -> Option<u8> {
-    overflows(reference_total(&Record(record).ops().unwrap_or_default()), &[0])
+/// 4 of the reference length of a list.
+pub fn length_overflows(list: &[u32]) -> Option<u8> {
+    overflows(reference_total(list), &[0])
 }
 
 /// 2, then 4, of the checked reference length.

@@ -16,7 +16,7 @@ pub enum Refusal {
     ShortRecord = 1,
     /// The op area ends past the record.
     AreaOverrun = 2,
-    /// A list has over 65,535 ops.
+    /// A list has over 65,535 ops; a long list over 1,048,576.
     TooManyOps = 3,
     /// A signed 32-bit sum overflows.
     Overflow = 4,
@@ -32,6 +32,10 @@ pub enum Refusal {
     BadStart = 9,
     /// `CigarOp::new`: length 0 or above 268,435,455.
     BadLength = 10,
+    /// Behind a placeholder, bases, qualities or tags up to the first CG overrun the record, or a tag among these has no known type.
+    BadTags = 12,
+    /// The tag CG is no array of unsigned 32-bit numbers.
+    OtherCg = 13,
     /// Blocks: a start below 0, no block, or an N before the first or after the last block.
     NoBlocks = 14,
     /// CSI bins: min_shift outside 10 to 20, or depth outside 1 to 8.
@@ -45,7 +49,7 @@ pub enum Refusal {
 const REFUSALS: &[(Refusal, &str)] = &[
     (Refusal::ShortRecord, "a record has under 32 bytes"),
     (Refusal::AreaOverrun, "the op area ends past the record"),
-    (Refusal::TooManyOps, "a list has over 65,535 ops"),
+    (Refusal::TooManyOps, "a list has over 65,535 ops (a long one over 1,048,576)"),
     (Refusal::Overflow, "a signed 32-bit sum overflows"),
     (Refusal::NotACigar, "the text is no valid mapped CIGAR"),
     (Refusal::NoRoom, "the answer is longer than the lent output"),
@@ -53,6 +57,8 @@ const REFUSALS: &[(Refusal, &str)] = &[
     (Refusal::TooLong, "clipping: the lengths sum to 2^28 or more"),
     (Refusal::BadStart, "lookup: alignment start outside 1 to 2^31"),
     (Refusal::BadLength, "op length 0 or above 268,435,455"),
+    (Refusal::BadTags, "behind a placeholder, bases, qualities or tags overrun the record, or a tag has no known type"),
+    (Refusal::OtherCg, "the tag CG is no array of unsigned 32-bit numbers"),
     (Refusal::NoBlocks, "no blocks: a start below 0, no block, or an N before the first or after the last"),
     (Refusal::BadLevels, "CSI bins: min_shift outside 10 to 20, or depth outside 1 to 8"),
     (Refusal::BadRegion, "CSI bins: not 0 <= beg < end <= 2^(min_shift + 3 * depth)"),
@@ -143,6 +149,11 @@ fn flag(a: raw::Flag) -> Result<bool, Refusal> {
 #[inline]
 fn found(a: raw::Found) -> Result<Option<usize>, Refusal> {
     unless(a.refusal, a.found.then_some(a.value as usize))
+}
+
+#[inline]
+fn lookup(a: raw::Lookup) -> Result<(Option<usize>, usize), Refusal> {
+    unless(a.refusal.into(), (a.found.then_some(a.value as usize), a.examined as usize))
 }
 
 #[inline]
@@ -325,10 +336,8 @@ pub struct RecordLengths {
     pub trailing_hard: usize,
 }
 
-/// Reference and query length, and the clips at both ends.
 #[inline]
-pub fn cigar_lengths(bam: &[u8]) -> Result<RecordLengths, Refusal> {
-    let found = unsafe { raw::cigar_cigar_lengths(bam.as_ptr(), bam.len()) };
+fn lengths(found: raw::Lengths) -> Result<RecordLengths, Refusal> {
     // Each number as it was written: two at once, as the compiler would read them, would wait for the writes.
     let number = |at: &u64| unsafe { core::ptr::read_volatile(at) } as usize;
     let lengths = RecordLengths {
@@ -340,6 +349,12 @@ pub fn cigar_lengths(bam: &[u8]) -> Result<RecordLengths, Refusal> {
         trailing_hard: number(&found.trailing_hard),
     };
     unless(found.refusal, lengths)
+}
+
+/// Reference and query length, and the clips at both ends.
+#[inline]
+pub fn cigar_lengths(bam: &[u8]) -> Result<RecordLengths, Refusal> {
+    lengths(unsafe { raw::cigar_cigar_lengths(bam.as_ptr(), bam.len()) })
 }
 
 /// The record's CIGAR as text into the first places of `out`; how many bytes.
@@ -383,10 +398,8 @@ pub enum Unclipped {
     NoOps,
 }
 
-/// The unclipped 5' position. Whether the record is unmapped is asked first, then whether it has ops.
 #[inline]
-pub fn unclipped_5prime_from_raw_bam(bam: &[u8]) -> Result<Unclipped, Refusal> {
-    let found = unsafe { raw::cigar_unclipped_5prime_from_raw_bam(bam.as_ptr(), bam.len()) };
+fn unclipped(found: raw::Position) -> Result<Unclipped, Refusal> {
     unless(
         found.refusal,
         match found.which {
@@ -395,6 +408,12 @@ pub fn unclipped_5prime_from_raw_bam(bam: &[u8]) -> Result<Unclipped, Refusal> {
             _ => Unclipped::NoOps,
         },
     )
+}
+
+/// The unclipped 5' position. Whether the record is unmapped is asked first, then whether it has ops.
+#[inline]
+pub fn unclipped_5prime_from_raw_bam(bam: &[u8]) -> Result<Unclipped, Refusal> {
+    unclipped(unsafe { raw::cigar_unclipped_5prime_from_raw_bam(bam.as_ptr(), bam.len()) })
 }
 
 /// The unclipped 5' position from a given position and strand, counted as the given one is, which a record without ops answers.
@@ -418,8 +437,7 @@ pub fn alignment_end_from_raw(bam: &[u8]) -> Result<Option<usize>, Refusal> {
 /// The query position, counted from 1, at a reference position, none where there is none; and how many ops were examined for it.
 #[inline]
 pub fn read_pos_at_ref_pos_raw(ops: &[u32], alignment_start: usize, ref_pos: usize, return_last_base_if_deleted: bool) -> Result<(Option<usize>, usize), Refusal> {
-    let a = unsafe { raw::cigar_read_pos_at_ref_pos_raw(ops.as_ptr(), ops.len(), alignment_start as u64, ref_pos as u64, return_last_base_if_deleted as u8) };
-    unless(a.refusal.into(), (a.found.then_some(a.value as usize), a.examined as usize))
+    lookup(unsafe { raw::cigar_read_pos_at_ref_pos_raw(ops.as_ptr(), ops.len(), alignment_start as u64, ref_pos as u64, return_last_base_if_deleted as u8) })
 }
 
 /// The list clipped at the start into the first places of `out`; the ops written, and the reference bases lost.
@@ -523,6 +541,79 @@ pub fn reg2bin(beg: i32, end: i32) -> Result<u16, Refusal> {
 #[inline]
 pub fn set_bin_from_raw_bam(bam: &mut [u8]) -> Result<u16, Refusal> {
     count(unsafe { raw::cigar_set_bin_from_raw_bam(bam.as_mut_ptr(), bam.len()) }).map(|x| x as u16)
+}
+
+/// The part of the record that holds its true op list: where its ops are a placeholder and it has the tag CG, the ops in that tag, else its own ops.
+#[inline]
+pub fn true_cigar_raw_bytes(bam: &[u8]) -> Result<&[u8], Refusal> {
+    let (at, len) = two(unsafe { raw::cigar_true_cigar_raw_bytes(bam.as_ptr(), bam.len()) })?;
+    Ok(&bam[at..at + len])
+}
+
+/// The true list's ops into the first places of `out`; how many.
+#[inline]
+pub fn true_cigar_ops(bam: &[u8], out: &mut [u32]) -> Result<usize, Refusal> {
+    count(unsafe { raw::cigar_true_cigar_ops(bam.as_ptr(), bam.len(), out.as_mut_ptr(), out.len()) })
+}
+
+/// Reference and query length of the true list, and the clips at both ends.
+#[inline]
+pub fn true_cigar_lengths(bam: &[u8]) -> Result<RecordLengths, Refusal> {
+    lengths(unsafe { raw::cigar_true_cigar_lengths(bam.as_ptr(), bam.len()) })
+}
+
+/// The true list as text into the first places of `out`; how many bytes.
+#[inline]
+pub fn true_cigar_to_bytes_into(bam: &[u8], out: &mut [u8]) -> Result<usize, Refusal> {
+    count(unsafe { raw::cigar_true_cigar_to_bytes_into(bam.as_ptr(), bam.len(), out.as_mut_ptr(), out.len()) })
+}
+
+/// The record's unclipped 5' position by its true list. Whether the record is unmapped is asked before the list is looked for.
+#[inline]
+pub fn true_unclipped_5prime_from_raw_bam(bam: &[u8]) -> Result<Unclipped, Refusal> {
+    unclipped(unsafe { raw::cigar_true_unclipped_5prime_from_raw_bam(bam.as_ptr(), bam.len()) })
+}
+
+/// The true list clipped at the start, as `clip_cigar_start_raw` does. What is written may be lent to `long_clip_cigar_start_raw` and the other calls for long lists.
+#[inline]
+pub fn true_clip_cigar_start(bam: &[u8], clip_amount: usize, out: &mut [u32]) -> Result<(usize, usize), Refusal> {
+    two(unsafe { raw::cigar_true_clip_cigar_start(bam.as_ptr(), bam.len(), clip_amount as u64, out.as_mut_ptr(), out.len()) })
+}
+
+/// The true list clipped at the end, as `clip_cigar_end_raw` does.
+#[inline]
+pub fn true_clip_cigar_end(bam: &[u8], clip_amount: usize, out: &mut [u32]) -> Result<usize, Refusal> {
+    count(unsafe { raw::cigar_true_clip_cigar_end(bam.as_ptr(), bam.len(), clip_amount as u64, out.as_mut_ptr(), out.len()) })
+}
+
+/// The reference length of a list of up to 1,048,576 ops.
+#[inline]
+pub fn long_reference_length_from_cigar(ops: &[u32]) -> Result<i32, Refusal> {
+    int(unsafe { raw::cigar_long_reference_length_from_cigar(ops.as_ptr(), ops.len()) })
+}
+
+/// The query length of a list of up to 1,048,576 ops.
+#[inline]
+pub fn long_query_length_from_cigar(ops: &[u32]) -> Result<usize, Refusal> {
+    count(unsafe { raw::cigar_long_query_length_from_cigar(ops.as_ptr(), ops.len()) })
+}
+
+/// `read_pos_at_ref_pos_raw` of a list of up to 1,048,576 ops.
+#[inline]
+pub fn long_read_pos_at_ref_pos_raw(ops: &[u32], alignment_start: usize, ref_pos: usize, return_last_base_if_deleted: bool) -> Result<(Option<usize>, usize), Refusal> {
+    lookup(unsafe { raw::cigar_long_read_pos_at_ref_pos_raw(ops.as_ptr(), ops.len(), alignment_start as u64, ref_pos as u64, return_last_base_if_deleted as u8) })
+}
+
+/// `clip_cigar_start_raw` of a list of up to 1,048,576 ops.
+#[inline]
+pub fn long_clip_cigar_start_raw(ops: &[u32], clip_amount: usize, out: &mut [u32]) -> Result<(usize, usize), Refusal> {
+    two(unsafe { raw::cigar_long_clip_cigar_start_raw(ops.as_ptr(), ops.len(), clip_amount as u64, out.as_mut_ptr(), out.len()) })
+}
+
+/// `clip_cigar_end_raw` of a list of up to 1,048,576 ops.
+#[inline]
+pub fn long_clip_cigar_end_raw(ops: &[u32], clip_amount: usize, out: &mut [u32]) -> Result<usize, Refusal> {
+    count(unsafe { raw::cigar_long_clip_cigar_end_raw(ops.as_ptr(), ops.len(), clip_amount as u64, out.as_mut_ptr(), out.len()) })
 }
 
 /// The CSI bin of the region from `beg` to `end`, counted from 0, `end` not included: the smallest that holds it. With 14 and 5 it is [`reg2bin`]'s.

@@ -122,4 +122,16 @@ extern "C" {
     pub fn cigar_num_bases_extending_past_mate_cigar_raw(rec: *const u8, rec_len: usize, mate_ops: *const u32, mate_ops_len: usize) -> Count;
     pub fn cigar_num_bases_extending_past_mate_vs_mate_raw(rec: *const u8, rec_len: usize, mate: *const u8, mate_len: usize) -> Count;
     pub fn cigar_num_bases_extending_past_mate_text_raw(rec: *const u8, rec_len: usize, text: *const u8, text_len: usize, out: *mut u32, out_len: usize) -> Two;
+    pub fn cigar_true_cigar_raw_bytes(rec: *const u8, rec_len: usize) -> Two;
+    pub fn cigar_true_cigar_ops(rec: *const u8, rec_len: usize, out: *mut u32, out_len: usize) -> Count;
+    pub fn cigar_true_cigar_lengths(rec: *const u8, rec_len: usize) -> Lengths;
+    pub fn cigar_true_cigar_to_bytes_into(rec: *const u8, rec_len: usize, out: *mut u8, out_len: usize) -> Count;
+    pub fn cigar_true_unclipped_5prime_from_raw_bam(rec: *const u8, rec_len: usize) -> Position;
+    pub fn cigar_true_clip_cigar_start(rec: *const u8, rec_len: usize, amount: u64, out: *mut u32, out_len: usize) -> Two;
+    pub fn cigar_true_clip_cigar_end(rec: *const u8, rec_len: usize, amount: u64, out: *mut u32, out_len: usize) -> Count;
+    pub fn cigar_long_reference_length_from_cigar(ops: *const u32, ops_len: usize) -> Int;
+    pub fn cigar_long_query_length_from_cigar(ops: *const u32, ops_len: usize) -> Count;
+    pub fn cigar_long_read_pos_at_ref_pos_raw(ops: *const u32, ops_len: usize, start: u64, position: u64, last_base_if_deleted: u8) -> Lookup;
+    pub fn cigar_long_clip_cigar_start_raw(ops: *const u32, ops_len: usize, amount: u64, out: *mut u32, out_len: usize) -> Two;
+    pub fn cigar_long_clip_cigar_end_raw(ops: *const u32, ops_len: usize, amount: u64, out: *mut u32, out_len: usize) -> Count;
 }

@@ -2,7 +2,7 @@
 ghost use mathlib.Core.Path.{_≡_};
 ghost use Rattle.answers.specs.Answers.{numberOf, bare0};
 
-// Why a call answers no value: one variant for each number, in their order.
+// Why a call answers no value: one variant for each number, in their order; 11 is nobody's.
 pub enum Refusal {
     ShortRecord,
     AreaOverrun,
@@ -14,6 +14,8 @@ pub enum Refusal {
     TooLong,
     BadStart,
     BadLength,
+    BadTags,
+    OtherCg,
     NoBlocks,
     BadLevels,
     BadRegion,
@@ -63,7 +65,7 @@ pub enum Place1 {
     Refused(Refusal),
 }
 
-// The number of a refusal: document 01's up to 10, and document 02's.
+// The number of a refusal: document 01's up to 10, and document 02's in documents 01 and 02.
 pub fn number(why: Refusal) -> u32
     ensures { λ r. ⌜ r ≡ numberOf why ⌝ }
 {
@@ -78,6 +80,8 @@ pub fn number(why: Refusal) -> u32
         Refusal::TooLong => 8,
         Refusal::BadStart => 9,
         Refusal::BadLength => 10,
+        Refusal::BadTags => 12,
+        Refusal::OtherCg => 13,
         Refusal::NoBlocks => 14,
         Refusal::BadLevels => 17,
         Refusal::BadRegion => 18,

@@ -6,9 +6,9 @@ use mathlib.Core.List.{List, [], _∷_, _++_, append-assoc}
 use native.Mathlib.Omega.{arith}
 use lib.ListN.{length, length-append}
 use lib.Seq.{drop-at}
-use Rattle.sam.specs.Record.{le32}
+use Rattle.sam.specs.Record.{le32, uint32}
 use Rattle.bam_header.specs.Header.{Head, Head.Records, Head.NotBam, pastBytes, pastNumber, references, counted, texted, headOf}
-use Rattle.bam_header.specs.Written.{Reference, uint32, reference, allOf, headBytes, SmallNames}
+use Rattle.bam_header.specs.Written.{Reference, reference, allOf, headBytes, SmallNames}
 use Rattle.bam_header.proofs.HeadLaws.{magic-last, past-long, number-in}
 
 number-of : (n : ℕ) (f : ℕ → List ℕ → Head) (s : List ℕ) → n < 4294967296 → pastNumber f (uint32 n ++ s) ≡ f n s

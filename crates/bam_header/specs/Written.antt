@@ -1,16 +1,13 @@
 -- SAM specification 4.2, the other way round: the bytes that stand before the records, of a text and references. What `Header` reads is held to them.
-use Prim.Native.Nat.{ℕ, _/_, _%_, _<_}
+use Prim.Native.Nat.{ℕ, _<_}
 use mathlib.Core.List.{List, [], _∷_, _++_}
 use lib.ListN.{length}
+use Rattle.sam.specs.Record.{uint32}
 
 -- "name", with the NUL that ends it, and "l_ref"
 pub record Reference : Type 0 where
   pub name : List ℕ
   pub size : ℕ
-
--- "uint32_t", little-endian
-abbrev pub uint32 : ℕ → List ℕ
-uint32 n = n % 256 ∷ n / 256 % 256 ∷ n / 256 / 256 % 256 ∷ n / 256 / 256 / 256 % 256 ∷ []
 
 -- "l_name; name; l_ref"
 unfoldable pub reference : Reference → List ℕ

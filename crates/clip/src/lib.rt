@@ -3,9 +3,10 @@ mod write;
 
 ghost use mathlib.Core.Path.{_≡_};
 ghost use mathlib.Core.Bool.{true, false};
+ghost use Prim.Native.Nat.{_≤_};
 ghost use Rattle.oplist.specs.Ops.{opsOf};
 ghost use Rattle.answers.specs.Settled.{Settled};
-ghost use Rattle.clip_rules.specs.Answer.{clippedUpTo, uncounted, withoutCount, clippedStart, clippedEnd, recordStart, recordEnd};
+ghost use Rattle.clip_rules.specs.Answer.{clippedUpTo, uncounted, withoutCount, startUpTo, endUpTo, clippedStart, clippedEnd, longStart, longEnd, recordStart, recordEnd};
 use answers::Count;
 use answers::Refusal;
 use clip_rules::Clipped;
@@ -16,22 +17,52 @@ use oplist::Ops;
 pub fn clip_cigar_start_raw(ops: &[u32], amount: u64, out: &mut [u32]) -> Clipped
     ensures { λ r. ⌜ Settled (clippedStart (now (ops .entry)) amount (now (out .entry))) r (now (out .exit)) ⌝ }
 {
-    if oplist::MOST_OPS < ops.len() {
-        return Clipped::Refused(Refusal::TooManyOps);
-    }
-    let list = oplist::lent(ops);
-    clip_start(ops, &[], list, oplist::MOST_OPS, amount, out)
+    start_up_to(oplist::MOST_OPS, ops, amount, out)
 }
 
 // The same at the end: the ops written. Refusals 3, 8, 19, 6.
 pub fn clip_cigar_end_raw(ops: &[u32], amount: u64, out: &mut [u32]) -> Count
     ensures { λ r. ⌜ Settled (clippedEnd (now (ops .entry)) amount (now (out .entry))) r (now (out .exit)) ⌝ }
 {
-    if oplist::MOST_OPS < ops.len() {
+    end_up_to(oplist::MOST_OPS, ops, amount, out)
+}
+
+// And of a long list: at the start,
+pub fn long_clip_cigar_start_raw(ops: &[u32], amount: u64, out: &mut [u32]) -> Clipped
+    ensures { λ r. ⌜ Settled (longStart (now (ops .entry)) amount (now (out .entry))) r (now (out .exit)) ⌝ }
+{
+    start_up_to(oplist::MOST_LONG_OPS, ops, amount, out)
+}
+
+// and at the end. Refusals 3, 8, 19, 6.
+pub fn long_clip_cigar_end_raw(ops: &[u32], amount: u64, out: &mut [u32]) -> Count
+    ensures { λ r. ⌜ Settled (longEnd (now (ops .entry)) amount (now (out .entry))) r (now (out .exit)) ⌝ }
+{
+    end_up_to(oplist::MOST_LONG_OPS, ops, amount, out)
+}
+
+// A clip at the start of a lent list of at most `limit` ops.
+fn start_up_to(limit: usize, ops: &[u32], amount: u64, out: &mut [u32]) -> Clipped
+    requires { ⌜ limit ≤ 4294967295 ⌝ }
+    ensures { λ r. ⌜ Settled (startUpTo limit (now (ops .entry)) amount (now (out .entry))) r (now (out .exit)) ⌝ }
+{
+    if limit < ops.len() {
+        return Clipped::Refused(Refusal::TooManyOps);
+    }
+    let list = oplist::lent(ops);
+    clip_start(ops, &[], list, limit, amount, out)
+}
+
+// The same at the end.
+fn end_up_to(limit: usize, ops: &[u32], amount: u64, out: &mut [u32]) -> Count
+    requires { ⌜ limit ≤ 4294967295 ⌝ }
+    ensures { λ r. ⌜ Settled (endUpTo limit (now (ops .entry)) amount (now (out .entry))) r (now (out .exit)) ⌝ }
+{
+    if limit < ops.len() {
         return Count::Refused(Refusal::TooManyOps);
     }
     let list = oplist::lent(ops);
-    clip_end(ops, &[], list, oplist::MOST_OPS, amount, out)
+    clip_end(ops, &[], list, limit, amount, out)
 }
 
 // Clips `amount` bases at the start of a record's ops, whose number is no matter. Refusals 1, 8, 19, 6.
@@ -59,7 +90,7 @@ pub fn clip_cigar_end(bam: &[u8], amount: u64, out: &mut [u32]) -> Count
 }
 
 // A clip at the start of an op list of at most `limit` ops. Refusals 3, 8, 19, 6.
-fn clip_start(
+pub fn clip_start(
     words: &[u32],
     rec: &[u8],
     list: Ops,
@@ -73,7 +104,7 @@ fn clip_start(
 }
 
 // The same at the end, without a count.
-fn clip_end(
+pub fn clip_end(
     words: &[u32],
     rec: &[u8],
     list: Ops,

@@ -19,12 +19,12 @@ use Rattle.clip_rules.specs.Clipping.{taking, Cut, hardOf, softOf, clip}
 use Rattle.answers.specs.Settled.{Outcome}
 use Rattle.answers.specs.declared.Count.{Count}
 use Rattle.answers.specs.declared.Count.the-variants.{Number}
-use Rattle.clip_rules.specs.Answer.{clippedOps, clippedCount, clippable, isBeyond, clippedInto, clippedUpTo, clippedRecord, written, withoutCount, recordStart, recordEnd}
+use Rattle.clip_rules.specs.Answer.{clippedOps, clippedCount, clippable, isBeyond, clippedInto, clippedUpTo, clippedRecord, written, withoutCount, startUpTo, endUpTo, recordStart, recordEnd}
 use Rattle.clip_rules.specs.declared.Clipped.{Clipped}
 use Rattle.clip_rules.specs.declared.Clipped.the-variants.{Done}
 use Rattle.clip_rules.proofs.AnswerLaws.{within, accepted}
 use Rattle.clip_rules.proofs.BeyondLaws.{some-beyond, not-within}
-use Rattle.clip_laws.specs.Demand3.{isInner, keptLen, Shaped, Takes, most, survives, Clipper, Leaves, StartGives, EndGives, Given, Clips, Further, StartOnce, StartTwice, Demand3Start, EndOnce, Demand3End, Itself, InRecord}
+use Rattle.clip_laws.specs.Demand3.{isInner, keptLen, Shaped, Takes, most, survives, Clipper, Leaves, StartGives, EndGives, Given, Clips, Further, StartOnce, StartThen, Demand3Start, EndOnce, EndThen, Demand3End, Itself, InRecord}
 use Rattle.clip_laws.proofs.CodeLaws.{hard-len, hard-code}
 use Rattle.clip_laws.proofs.ShapeLaws.{Headed, left-headed, left-length, left-total, soft-length, soft-total, shaped-facing, shaped-inner, tail-clips, shaped-runs, shaped-reads}
 use Rattle.clip_laws.proofs.ClipLaws.{once, twice, still-clippable, on-none, on-soft, on-inner}
@@ -252,22 +252,27 @@ module _ {A : Type 0} (tells : ℕ → ℕ → A) (limit : ℕ) (Holds : List �
   abbrev Ruled : List ℕ → List ℕ → ℕ → Type 0
   Ruled s xs a = Leaves f s a (tells (length (clippedOps xs a start)) (clippedCount xs a start)) (clippedOps xs a start)
 
-  module _ (rules : (s xs : List ℕ) → Holds s xs → length xs ≤ limit → sumOf lenOf xs < 2 ^ 28 → (a : ℕ) → a ≤ clippable xs start → Ruled s xs a) (s xs : List ℕ) where
-    by-rule : (a : ℕ) → Given limit Holds start s xs a → Ruled s xs a
-    by-rule a G = rules s xs (G .holds) (omega (arith, G .takes .few)) (G .takes .short) a (omega (arith, G .within, most-is xs start (G .takes)))
+  -- it clips each list of at most `limit` ops, that is not too long, by what can be clipped
+  abbrev Rules : Type 0
+  Rules = (s xs : List ℕ) → Holds s xs → length xs ≤ limit → sumOf lenOf xs < 2 ^ 28 → (a : ℕ) → a ≤ clippable xs start → Ruled s xs a
 
-    less : (a b : ℕ) → a ≤ b → Given limit Holds start s xs b → Given limit Holds start s xs a
-    less a b le G = record { holds = G .holds; takes = G .takes; within = omega (arith, G .within) }
+  module _ (rules : Rules) (xs : List ℕ) where
+    by-rule : (s : List ℕ) (a : ℕ) → Given limit Holds start s xs a → Ruled s xs a
+    by-rule s a G = rules s xs (G .holds) (omega (arith, G .takes .few)) (G .takes .short) a (omega (arith, G .within, most-is xs start (G .takes)))
 
-    -- the second call takes what the first left
-    then-rule : (a b : ℕ) → Given limit Holds start s xs b → Further start xs a b (clippedOps xs a start) → (t : List ℕ) → Holds t (clippedOps xs a start)
+    -- as a second call it takes what a first one left
+    then-rule : (a b : ℕ) (T : Takes limit xs) → b ≤ most (T .shape) start → Further start xs a b (clippedOps xs a start) → (t : List ℕ) → Holds t (clippedOps xs a start)
         → Leaves f t b (tells (length (clippedOps xs b start)) (clippedCount (clippedOps xs a start) b start)) (clippedOps xs b start)
-    then-rule a b G F t K =
-        let m = small-ops xs start (G .takes) a in
-        let w = still xs start (G .takes) a in
-        let v = most-is xs start (G .takes) in
-        let C = rules t (clippedOps xs a start) K (omega (arith, G .takes .few, m .0)) (omega (arith, G .takes .short, m .1)) b (omega (arith, G .within)) in
-        rw (rule-twice xs start (G .takes) a b F .0) at C
+    then-rule a b T le F t K =
+        let m = small-ops xs start T a in
+        let w = still xs start T a in
+        let v = most-is xs start T in
+        let C = rules t (clippedOps xs a start) K (omega (arith, T .few, m .0)) (omega (arith, T .short, m .1)) b (omega arith) in
+        rw (rule-twice xs start T a b F .0) at C
+
+-- what holds of an amount holds of a smaller one
+less : {limit : ℕ} {Holds : List ℕ → List ℕ → Type 0} {start : Bool} {s xs : List ℕ} (a b : ℕ) → a ≤ b → Given limit Holds start s xs b → Given limit Holds start s xs a
+less a b le G = record { holds = G .holds; takes = G .takes; within = omega (arith, G .within) }
 
 -- ---- DEMAND 3 at the start and at the end
 
@@ -278,65 +283,62 @@ startTells n count = Done n count
 abbrev endTells : ℕ → ℕ → Count
 endTells n count = Number n
 
-pub start-demand3 : (limit : ℕ) (Holds : List ℕ → List ℕ → Type 0) (f : Clipper Clipped)
-    → ((s xs : List ℕ) → Holds s xs → length xs ≤ limit → sumOf lenOf xs < 2 ^ 28 → (a : ℕ) → a ≤ clippable xs true → StartGives f s a (clippedOps xs a true) (clippedCount xs a true))
-    → Demand3Start limit Holds f
-start-demand3 limit Holds f rules = record { once = once-is; twice = twice-is }
+-- the rules of a call at the start, and at the end
+abbrev pub StartRules : ℕ → (List ℕ → List ℕ → Type 0) → Clipper Clipped → Type 0
+StartRules limit Holds f = Rules startTells limit Holds true f
+
+abbrev pub EndRules : ℕ → (List ℕ → List ℕ → Type 0) → Clipper Count → Type 0
+EndRules limit Holds f = Rules endTells limit Holds false f
+
+pub start-then : (limit : ℕ) (Holds : List ℕ → List ℕ → Type 0) (f : Clipper Clipped) → StartRules limit Holds f
+    → (Left : List ℕ → List ℕ → Type 0) (g : Clipper Clipped) → StartRules limit Left g → StartThen limit Holds f Left g
+start-then limit Holds f rules Left g then-rules s xs a b G ys first A zs whole B F t K =
+    let p = same-start f s a ys (clippedOps xs a true) first (clippedCount xs a true) A (by-rule startTells limit Holds true f rules xs s a (less a b (F .le) G)) in
+    let q = same-start f s b zs (clippedOps xs b true) whole (clippedCount xs b true) B (by-rule startTells limit Holds true f rules xs s b G) in
+    let F' = subst (Further true xs a b) (p .0) F in
+    let C = then-rule startTells limit Left true g then-rules xs a b (G .takes) (G .within) F' t (subst (Left t) (p .0) K) in
+    record {
+      second = clippedCount (clippedOps xs a true) b true;
+      then-b = rw (← q .0) at C;
+      counts-add = ap (λ (k : ℕ). k + clippedCount (clippedOps xs a true) b true) (p .1) ∙ rule-twice xs true (G .takes) a b F' .1 ∙ sym (q .1);
+    }
+
+pub start-demand3 : (limit : ℕ) (Holds : List ℕ → List ℕ → Type 0) (f : Clipper Clipped) → StartRules limit Holds f → Demand3Start limit Holds f
+start-demand3 limit Holds f rules = record { once = once-is; twice = start-then limit Holds f rules Holds f rules }
   where
     once-is : (s xs : List ℕ) (a : ℕ) → Given limit Holds true s xs a → StartOnce f s xs a
     once-is s xs a G =
         record {
           ys = clippedOps xs a true;
           count = clippedCount xs a true;
-          gives = by-rule startTells limit Holds true f rules s xs a G;
+          gives = by-rule startTells limit Holds true f rules xs s a G;
           clips = clips-is xs true (G .takes) a (G .within);
           lost = lost-is xs a true;
         }
 
-    twice-is : (s xs : List ℕ) (a b : ℕ) → Given limit Holds true s xs b
-        → (ys : List ℕ) (first : ℕ) → StartGives f s a ys first
-        → (zs : List ℕ) (whole : ℕ) → StartGives f s b zs whole
-        → Further true xs a b ys
-        → (t : List ℕ) → Holds t ys → StartTwice f t b first zs whole
-    twice-is s xs a b G ys first A zs whole B F t K =
-        let p = same-start f s a ys (clippedOps xs a true) first (clippedCount xs a true) A (by-rule startTells limit Holds true f rules s xs a (less startTells limit Holds true f rules s xs a b (F .le) G)) in
-        let q = same-start f s b zs (clippedOps xs b true) whole (clippedCount xs b true) B (by-rule startTells limit Holds true f rules s xs b G) in
-        let F' = subst (Further true xs a b) (p .0) F in
-        let C = then-rule startTells limit Holds true f rules s xs a b G F' t (subst (Holds t) (p .0) K) in
-        record {
-          second = clippedCount (clippedOps xs a true) b true;
-          then-b = rw (← q .0) at C;
-          counts-add = ap (λ (k : ℕ). k + clippedCount (clippedOps xs a true) b true) (p .1) ∙ rule-twice xs true (G .takes) a b F' .1 ∙ sym (q .1);
-        }
+pub end-then : (limit : ℕ) (Holds : List ℕ → List ℕ → Type 0) (f : Clipper Count) → EndRules limit Holds f
+    → (Left : List ℕ → List ℕ → Type 0) (g : Clipper Count) → EndRules limit Left g → EndThen limit Holds f Left g
+end-then limit Holds f rules Left g then-rules s xs a b G ys A zs B F t K =
+    let p = same-end f s a ys (clippedOps xs a false) A (by-rule endTells limit Holds false f rules xs s a (less a b (F .le) G)) in
+    let q = same-end f s b zs (clippedOps xs b false) B (by-rule endTells limit Holds false f rules xs s b G) in
+    let C = then-rule endTells limit Left false g then-rules xs a b (G .takes) (G .within) (subst (Further false xs a b) p F) t (subst (Left t) p K) in
+    rw (← q) at C
 
-pub end-demand3 : (limit : ℕ) (Holds : List ℕ → List ℕ → Type 0) (f : Clipper Count)
-    → ((s xs : List ℕ) → Holds s xs → length xs ≤ limit → sumOf lenOf xs < 2 ^ 28 → (a : ℕ) → a ≤ clippable xs false → EndGives f s a (clippedOps xs a false))
-    → Demand3End limit Holds f
-end-demand3 limit Holds f rules = record { once = once-is; twice = twice-is }
+pub end-demand3 : (limit : ℕ) (Holds : List ℕ → List ℕ → Type 0) (f : Clipper Count) → EndRules limit Holds f → Demand3End limit Holds f
+end-demand3 limit Holds f rules = record { once = once-is; twice = end-then limit Holds f rules Holds f rules }
   where
     once-is : (s xs : List ℕ) (a : ℕ) → Given limit Holds false s xs a → EndOnce f s xs a
     once-is s xs a G =
         record {
           ys = clippedOps xs a false;
-          gives = by-rule endTells limit Holds false f rules s xs a G;
+          gives = by-rule endTells limit Holds false f rules xs s a G;
           clips = clips-is xs false (G .takes) a (G .within);
         }
 
-    twice-is : (s xs : List ℕ) (a b : ℕ) → Given limit Holds false s xs b
-        → (ys : List ℕ) → EndGives f s a ys
-        → (zs : List ℕ) → EndGives f s b zs
-        → Further false xs a b ys
-        → (t : List ℕ) → Holds t ys → EndGives f t b zs
-    twice-is s xs a b G ys A zs B F t K =
-        let p = same-end f s a ys (clippedOps xs a false) A (by-rule endTells limit Holds false f rules s xs a (less endTells limit Holds false f rules s xs a b (F .le) G)) in
-        let q = same-end f s b zs (clippedOps xs b false) B (by-rule endTells limit Holds false f rules s xs b G) in
-        let C = then-rule endTells limit Holds false f rules s xs a b G (subst (Further false xs a b) p F) t (subst (Holds t) p K) in
-        rw (← q) at C
-
--- ---- the four calls
+-- ---- the calls
 
 -- the rule's answer into a buffer that has room
-ruled : (xs : List ℕ) (a : ℕ) (start : Bool) → sumOf lenOf xs < 2 ^ 28 → a ≤ clippable xs start → (d : List ℕ) → length (clippedOps xs a start) ≤ length d
+pub ruled : (xs : List ℕ) (a : ℕ) (start : Bool) → sumOf lenOf xs < 2 ^ 28 → a ≤ clippable xs start → (d : List ℕ) → length (clippedOps xs a start) ≤ length d
     → clippedInto xs a start d ≡ written (clippedOps xs a start) (clippedCount xs a start) d
 ruled xs a start short le d room = accepted xs a start d (omega arith) (not-within xs a start le) room
 
@@ -350,11 +352,17 @@ of-record : (start : Bool) (b xs : List ℕ) → InRecord b xs → sumOf lenOf x
 unfolding clippedRecord
 of-record start b xs H short a le d room = simp (le-ltb (length b) 32 (H .0), H .1) (ruled xs a start short le d room)
 
-pub list-start : (limit : ℕ) → Demand3Start limit Itself (λ xs a d. clippedUpTo limit xs a true d)
-list-start limit = start-demand3 limit Itself _ (of-list limit true)
+pub start-rules : (limit : ℕ) → StartRules limit Itself (startUpTo limit)
+start-rules limit = of-list limit true
 
-pub list-end : (limit : ℕ) → Demand3End limit Itself (λ xs a d. withoutCount (clippedUpTo limit xs a false d))
-list-end limit = end-demand3 limit Itself _ (λ s xs H few short a le d room. ap withoutCount (of-list limit false s xs H few short a le d room))
+pub end-rules : (limit : ℕ) → EndRules limit Itself (endUpTo limit)
+end-rules limit s xs H few short a le d room = ap withoutCount (of-list limit false s xs H few short a le d room)
+
+pub list-start : (limit : ℕ) → Demand3Start limit Itself (startUpTo limit)
+list-start limit = start-demand3 limit Itself (startUpTo limit) (start-rules limit)
+
+pub list-end : (limit : ℕ) → Demand3End limit Itself (endUpTo limit)
+list-end limit = end-demand3 limit Itself (endUpTo limit) (end-rules limit)
 
 pub record-start : (limit : ℕ) → Demand3Start limit InRecord recordStart
 record-start limit = start-demand3 limit InRecord recordStart (λ b xs H few short a le d room. of-record true b xs H short a le d room)

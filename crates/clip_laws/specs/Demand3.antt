@@ -39,7 +39,7 @@ pub record Shaped (xs : List ℕ) : Type 0 where
   pub softs'-are : All isSoft softs'
   pub hards'-are : All isHard hards'
 
--- "Take at most 65,534 ops with total length below 2^28": fewer ops than the limit of the call, which is 65,535
+-- "Take at most 65,534 ops with total length below 2^28": fewer ops than the limit of the call, which is 65,535. Document 02, item 1: "demand 3's count rises to 1,048,575"
 pub record Takes (limit : ℕ) (xs : List ℕ) : Type 0 where
   pub shape : Shaped xs
   pub few : length xs < limit
@@ -129,14 +129,18 @@ pub record StartTwice (f : Clipper Clipped) (t : List ℕ) (b first : ℕ) (zs :
   -- and the two counts add to b's count"
   pub counts-add : first + second ≡ whole
 
--- of two calls, a answered ys and first, b zs and whole
+-- two calls of f: a answered ys and first, b zs and whole; then a call of a clipper g, which is f, or takes what f leaves
+abbrev pub StartThen : ℕ → (List ℕ → List ℕ → Type 0) → Clipper Clipped → (List ℕ → List ℕ → Type 0) → Clipper Clipped → Type 0
+StartThen limit Holds f Left g =
+    (s xs : List ℕ) (a b : ℕ) → Given limit Holds true s xs b
+    → (ys : List ℕ) (first : ℕ) → StartGives f s a ys first
+    → (zs : List ℕ) (whole : ℕ) → StartGives f s b zs whole
+    → Further true xs a b ys
+    → (t : List ℕ) → Left t ys → StartTwice g t b first zs whole
+
 pub record Demand3Start (limit : ℕ) (Holds : List ℕ → List ℕ → Type 0) (f : Clipper Clipped) : Type 0 where
   pub once : (s xs : List ℕ) (a : ℕ) → Given limit Holds true s xs a → StartOnce f s xs a
-  pub twice : (s xs : List ℕ) (a b : ℕ) → Given limit Holds true s xs b
-      → (ys : List ℕ) (first : ℕ) → StartGives f s a ys first
-      → (zs : List ℕ) (whole : ℕ) → StartGives f s b zs whole
-      → Further true xs a b ys
-      → (t : List ℕ) → Holds t ys → StartTwice f t b first zs whole
+  pub twice : StartThen limit Holds f Holds f
 
 -- ---- DEMAND 3 at the end
 
@@ -146,13 +150,17 @@ pub record EndOnce (f : Clipper Count) (s xs : List ℕ) (a : ℕ) : Type 0 wher
   pub clips : Clips false xs a ys
 
 -- "a then b gives b's list"
+abbrev pub EndThen : ℕ → (List ℕ → List ℕ → Type 0) → Clipper Count → (List ℕ → List ℕ → Type 0) → Clipper Count → Type 0
+EndThen limit Holds f Left g =
+    (s xs : List ℕ) (a b : ℕ) → Given limit Holds false s xs b
+    → (ys : List ℕ) → EndGives f s a ys
+    → (zs : List ℕ) → EndGives f s b zs
+    → Further false xs a b ys
+    → (t : List ℕ) → Left t ys → EndGives g t b zs
+
 pub record Demand3End (limit : ℕ) (Holds : List ℕ → List ℕ → Type 0) (f : Clipper Count) : Type 0 where
   pub once : (s xs : List ℕ) (a : ℕ) → Given limit Holds false s xs a → EndOnce f s xs a
-  pub twice : (s xs : List ℕ) (a b : ℕ) → Given limit Holds false s xs b
-      → (ys : List ℕ) → EndGives f s a ys
-      → (zs : List ℕ) → EndGives f s b zs
-      → Further false xs a b ys
-      → (t : List ℕ) → Holds t ys → EndGives f t b zs
+  pub twice : EndThen limit Holds f Holds f
 
 -- a call on a list is given the list itself, one on a record a record that holds it
 abbrev pub Itself : List ℕ → List ℕ → Type 0

@@ -9,7 +9,7 @@ use lib.Dec.{eqb, ltb}
 use Rattle.lists.specs.Lists.{facing, splice, sumOf}
 use Rattle.sam.specs.Op.{lenOf}
 use Rattle.sam.specs.Record.{isShort}
-use Rattle.oplist.specs.Ops.{mostOps, recordOps}
+use Rattle.oplist.specs.Ops.{mostOps, mostLongOps, recordOps}
 use Rattle.ops.specs.Ops.{readLen}
 use Rattle.clip_runs.specs.Clips.{leadingClips}
 use Rattle.answers.specs.Answers.{Told, answered, refused}
@@ -65,12 +65,26 @@ uncounted (Refused r) = Count.Refused r
 abbrev pub withoutCount : Outcome Clipped → Outcome Count
 withoutCount o = record { answer = uncounted (o .answer); left = o .left }
 
+-- of a lent list, with the limit as a parameter
+abbrev pub startUpTo : ℕ → List ℕ → ℕ → List ℕ → Outcome Clipped
+startUpTo limit xs amount d = clippedUpTo limit xs amount true d
+
+abbrev pub endUpTo : ℕ → List ℕ → ℕ → List ℕ → Outcome Count
+endUpTo limit xs amount d = withoutCount (clippedUpTo limit xs amount false d)
+
 -- `clip_cigar_start_raw`, `clip_cigar_end_raw`
 abbrev pub clippedStart : List ℕ → ℕ → List ℕ → Outcome Clipped
-clippedStart xs amount d = clippedUpTo mostOps xs amount true d
+clippedStart xs amount d = startUpTo mostOps xs amount d
 
 abbrev pub clippedEnd : List ℕ → ℕ → List ℕ → Outcome Count
-clippedEnd xs amount d = withoutCount (clippedUpTo mostOps xs amount false d)
+clippedEnd xs amount d = endUpTo mostOps xs amount d
+
+-- document 02, item 1: `long_clip_cigar_start_raw`, `long_clip_cigar_end_raw`
+abbrev pub longStart : List ℕ → ℕ → List ℕ → Outcome Clipped
+longStart xs amount d = startUpTo mostLongOps xs amount d
+
+abbrev pub longEnd : List ℕ → ℕ → List ℕ → Outcome Count
+longEnd xs amount d = endUpTo mostLongOps xs amount d
 
 -- `clip_cigar_start`, `clip_cigar_end`
 abbrev pub recordStart : List ℕ → ℕ → List ℕ → Outcome Clipped

@@ -8,6 +8,7 @@ use lib.IntN.{ℤ, pos}
 use lib.ListN.{length}
 use lib.Signed.{ltZ}
 use Rattle.lists.specs.Lists.{sumOf}
+use Rattle.signed.specs.declared.Sum.{Sum}
 use Rattle.signed.specs.declared.Sum.the-variants.{Number}
 use Rattle.sam.specs.Op.{refLen}
 use Rattle.sam.specs.Record.{posOf, flagsOf, isUnmapped, isReverse}
@@ -23,7 +24,7 @@ use Rattle.ends_rules.specs.declared.Unclipped.the-variants.{Unmapped, N
 use Rattle.ends_rules.specs.declared.Tail.{Tail}
 use Rattle.ends_rules.specs.Sums.{_⊕_, _⊖_, summed}
 use Rattle.ends_rules.specs.Tails.{greatestRun}
-use Rattle.ends_rules.specs.Ends.{provided, trailingSum, unclippedStart, unclippedEnd, toPlace0, plusOne, oneBased, fivePrime, noOps, unclippedAt, unclippedOf, unclippedFrom, alignmentStart, endAt, alignmentEnd}
+use Rattle.ends_rules.specs.Ends.{provided, trailingSum, unclippedStart, unclippedEnd, toPlace0, plusOne, oneBased, fivePrime, noOps, unclippedAt, unclippedBy, unclippedOf, unclippedFrom, alignmentStart, endAt, alignmentEnd}
 
 module _ (b : List ℕ) (h : 32 ≤ length b) where
   pub start-none : ltZ (posOf b) (pos 0) ≡ true → Nothing ≡ alignmentStart b
@@ -54,9 +55,9 @@ module _ (b : List ℕ) (h : 32 ≤ length b) where
   unfolding unclippedOf
   no-ops t u = simp (le-ltb (length b) 32 h, t, u)
 
-  pub is-placed : isUnmapped (flagsOf b) ≡ false → noOps b ≡ false → unclippedAt (plusOne (record { 0 = posOf b })) (isReverse (flagsOf b)) (recordOps b) ≡ unclippedOf b
+  pub is-mapped : isUnmapped (flagsOf b) ≡ false → unclippedBy (recordOps b) (record { 0 = posOf b }) (isReverse (flagsOf b)) ≡ unclippedOf b
   unfolding unclippedOf
-  is-placed t u = simp (le-ltb (length b) 32 h, t, u)
+  is-mapped t = simp (le-ltb (length b) 32 h, t)
 
   pub from-given : (p : Pos0) (reverse : Bool) → noOps b ≡ true → Place0.At p ≡ unclippedFrom b p reverse
   unfolding unclippedFrom
@@ -72,6 +73,14 @@ none-left b xs n e f g = eq-eqb _ 0 (ap length (sym f) ∙ sym e ∙ g)
 
 pub some-left : (b xs : List ℕ) (n : ℕ) → n ≡ length xs → xs ≡ recordOps b → (n ≡ 0 → ⊥) → noOps b ≡ false
 some-left b xs n e f g = ne-eqb _ 0 (λ z. g (e ∙ ap length f ∙ z))
+
+-- of an op list: no op, or a place from the next of the given one
+module _ (xs : List ℕ) (p : Pos0) (reverse : Bool) (n : ℕ) (e : n ≡ length xs) where
+  pub none-by : n ≡ 0 → NoOps ≡ unclippedBy xs p reverse
+  none-by z = simp (eq-eqb (length xs) 0 (sym e ∙ z))
+
+  pub placed-by : (n ≡ 0 → ⊥) → (s : Sum) → s ≡ plusOne p → unclippedAt s reverse xs ≡ unclippedBy xs p reverse
+  placed-by z s f = simp (ne-eqb (length xs) 0 (λ w. z (e ∙ w)), f)
 
 -- the 5' end by the strand, from what the walk to it has met
 module _ (at : ℤ) (xs : List ℕ) where

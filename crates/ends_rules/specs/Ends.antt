@@ -85,13 +85,16 @@ abbrev pub unclippedAt : Sum → Bool → List ℕ → Unclipped
 unclippedAt (Sum.Number at) reverse xs = asUnclipped (fivePrime reverse at xs)
 unclippedAt Sum.Over reverse xs = Unclipped.Refused Overflow
 
+-- "a position [..] or no ops", of an op list that is aligned at a place; 4
+abbrev pub unclippedBy : List ℕ → Pos0 → Bool → Unclipped
+unclippedBy xs p reverse = cond (eqb (length xs) 0) Unclipped.NoOps (unclippedAt (plusOne p) reverse xs)
+
 -- "a position, unmapped, or no ops", unmapped first, as the Rust asks; 1, and 4
 unfoldable pub unclippedOf : List ℕ → Unclipped
 unclippedOf b =
     cond (isShort b) (Unclipped.Refused ShortRecord)
     (cond (isUnmapped (flagsOf b)) Unclipped.Unmapped
-    (cond (noOps b) Unclipped.NoOps
-    (unclippedAt (plusOne (record { 0 = posOf b })) (isReverse (flagsOf b)) (recordOps b))))
+    (unclippedBy (recordOps b) (record { 0 = posOf b }) (isReverse (flagsOf b))))
 
 -- told as which of the three it is, 0, 1 or 2, and the position, 0 where there is none
 abbrev pub tellUnclipped : Unclipped → Told

@@ -6,7 +6,6 @@ ghost use Rattle.border.specs.Border.{intOf, countOf, lengthsOf};
 use border::ToldCount;
 use border::ToldInt;
 use border::ToldLengths;
-use lengths::Lengths;
 
 #[no_mangle]
 pub extern "C" fn cigar_reference_length_from_cigar(ops: &[u32]) -> ToldInt
@@ -50,38 +49,9 @@ pub extern "C" fn cigar_query_length(rec: &[u8]) -> ToldCount
     border::told_count(lengths::query_length(rec))
 }
 
-fn told_lengths(answer: Lengths) -> ToldLengths
-    ensures { λ r. ⌜ r ≡ lengthsOf (tellLengths answer) ⌝ }
-{
-    match answer {
-        Lengths::Are(l) => {
-            let leading = l.leading;
-            let trailing = l.trailing;
-            ToldLengths {
-                refusal: 0,
-                reference: l.reference,
-                query: l.query,
-                leading_soft: leading.soft,
-                leading_hard: leading.hard,
-                trailing_soft: trailing.soft,
-                trailing_hard: trailing.hard,
-            }
-        },
-        Lengths::Refused(why) => ToldLengths {
-            refusal: answers::number(why),
-            reference: 0,
-            query: 0,
-            leading_soft: 0,
-            leading_hard: 0,
-            trailing_soft: 0,
-            trailing_hard: 0,
-        },
-    }
-}
-
 #[no_mangle]
 pub extern "C" fn cigar_cigar_lengths(rec: &[u8]) -> ToldLengths
     ensures { λ r. ⌜ r ≡ lengthsOf (tellLengths (recordLengths (now (rec .entry)))) ⌝ }
 {
-    told_lengths(lengths::cigar_lengths(rec))
+    border_lengths::told_lengths(lengths::cigar_lengths(rec))
 }

@@ -19,24 +19,20 @@ use Rattle.clip_runs.proofs.EndLaws.{none-soft, none-hard, some-soft, some-hard
 use Rattle.lengths.specs.declared.Lengths.{Lengths}
 use Rattle.lengths.specs.declared.Lengths.the-variants as Lengths
 use Rattle.lengths.specs.InnerLengths.{ofClips}
-use Rattle.lengths.specs.Lengths.{asInt, lengthsWith}
+use Rattle.lengths.specs.Lengths.{asInt, listLengths}
 
 -- the answer of six numbers
 abbrev six : ℤ → ℕ → ℕ → ℕ → ℕ → ℕ → Lengths
 six z q a b c d = Lengths.Are (record { reference = z; query = q; leading = record { soft = a; hard = b }; trailing = record { soft = c; hard = d } })
 
--- what the definition says of a list
-abbrev pub lengthsAre : List ℕ → Lengths
-lengthsAre xs = lengthsWith (asInt (sumOf refLen xs)) xs
-
 -- of no op
-pub no-ops : (xs : List ℕ) → length xs ≡ 0 → ofClips 0 0 ≡ lengthsAre xs
+pub no-ops : (xs : List ℕ) → length xs ≡ 0 → ofClips 0 0 ≡ listLengths xs
 unfolding asInt sumOf leading leadingSoft leadingHard holds hasInner trailingSoft trailingHard
 no-ops [] e = refl
 no-ops (o ∷ xs) e = absurd (omega arith)
 
 module _ {xs : List ℕ} {soft hard next : ℕ} (L : RunIs xs 0 isClip soft hard next) where
-  pub only-clips : next ≡ length xs → ofClips soft hard ≡ lengthsAre xs
+  pub only-clips : next ≡ length xs → ofClips soft hard ≡ listLengths xs
   unfolding asInt
   only-clips e =
       let i = clips-only L e in
@@ -47,12 +43,12 @@ module _ {xs : List ℕ} {soft hard next : ℕ} (L : RunIs xs 0 isClip soft hard
       refs-are : m ≡ sumOf refLen xs
       refs-are = omega (arith, parted L T refLen n m e g, run-refs xs, run-refs (facing false xs))
 
-      pub none-are : (r : Refusal) → asInt m ≡ Int.Refused r → Lengths.Refused r ≡ lengthsAre xs
+      pub none-are : (r : Refusal) → asInt m ≡ Int.Refused r → Lengths.Refused r ≡ listLengths xs
       none-are r w = rw (sym (ap asInt refs-are) ∙ w) refl
 
       pub six-are : (z : ℤ) → asInt m ≡ Int.Number z → next < length xs
           → (q : ℕ) → q + sumOf queryLen (drop (n - k) xs) ≡ sumOf queryLen (drop next xs)
-          → six z (soft + q + s) soft hard s h ≡ lengthsAre xs
+          → six z (soft + q + s) soft hard s h ≡ listLengths xs
       six-are z w l q f =
           let i = some-inner L l in
           let y : soft + q + s ≡ sumOf queryLen xs =

@@ -15,7 +15,7 @@ use Rattle.answers.specs.declared.Int.{Int}
 use Rattle.answers.specs.declared.Int.the-variants as Int
 use Rattle.answers.specs.declared.Count.{Count}
 use Rattle.answers.specs.declared.Count.the-variants as Count
-use Rattle.oplist.specs.Ops.{mostOps, recordOps}
+use Rattle.oplist.specs.Ops.{mostOps, mostLongOps, recordOps}
 use Rattle.clip_runs.specs.Clips.{leadingSoft, leadingHard, trailingSoft, trailingHard}
 use Rattle.lengths.specs.declared.Lengths.{Lengths}
 use Rattle.lengths.specs.declared.Lengths.the-variants as Lengths
@@ -24,13 +24,27 @@ use Rattle.lengths.specs.declared.Lengths.the-variants as Lengths
 unfoldable pub asInt : ℕ → Int
 asInt n = cond (ltb 2147483647 n) (Int.Refused Overflow) (Int.Number (pos n))
 
--- of a lent list: 3, 4
-unfoldable pub refLength : List ℕ → Int
-refLength xs = cond (ltb mostOps (length xs)) (Int.Refused TooManyOps) (asInt (sumOf refLen xs))
+-- of a lent list of at most `limit` ops: 3, 4
+unfoldable pub refLengthUpTo : ℕ → List ℕ → Int
+refLengthUpTo limit xs = cond (ltb limit (length xs)) (Int.Refused TooManyOps) (asInt (sumOf refLen xs))
 
--- of a lent list: 3
-unfoldable pub queryLength : List ℕ → Count
-queryLength xs = cond (ltb mostOps (length xs)) (Count.Refused TooManyOps) (Count.Number (sumOf queryLen xs))
+-- of a lent list of at most `limit` ops: 3
+unfoldable pub queryLengthUpTo : ℕ → List ℕ → Count
+queryLengthUpTo limit xs = cond (ltb limit (length xs)) (Count.Refused TooManyOps) (Count.Number (sumOf queryLen xs))
+
+-- `reference_length_from_cigar`, `query_length_from_cigar`
+abbrev pub refLength : List ℕ → Int
+refLength xs = refLengthUpTo mostOps xs
+
+abbrev pub queryLength : List ℕ → Count
+queryLength xs = queryLengthUpTo mostOps xs
+
+-- `long_reference_length_from_cigar`, `long_query_length_from_cigar`
+abbrev pub longRefLength : List ℕ → Int
+longRefLength xs = refLengthUpTo mostLongOps xs
+
+abbrev pub longQueryLength : List ℕ → Count
+longQueryLength xs = queryLengthUpTo mostLongOps xs
 
 unfoldable pub saturatedLength : List ℕ → Int
 saturatedLength xs = cond (ltb mostOps (length xs)) (Int.Refused TooManyOps) (Int.Number (clamp32 (pos (sumOf refLen xs))))
@@ -46,7 +60,7 @@ checkedRefLength b =
 unfoldable pub recordQueryLength : List ℕ → Count
 recordQueryLength b = cond (isShort b) (Count.Refused ShortRecord) (Count.Number (sumOf queryLen (recordOps b)))
 
--- both of a record, and "leading and trailing soft and hard totals" (document 02): 1, 4
+-- both of an op list, and "leading and trailing soft and hard totals" (document 02): 4
 abbrev pub lengthsWith : Int → List ℕ → Lengths
 lengthsWith (Int.Number z) xs = Lengths.Are (record {
   reference = z;
@@ -56,11 +70,12 @@ lengthsWith (Int.Number z) xs = Lengths.Are (record {
 })
 lengthsWith (Int.Refused r) xs = Lengths.Refused r
 
+abbrev pub listLengths : List ℕ → Lengths
+listLengths xs = lengthsWith (asInt (sumOf refLen xs)) xs
+
+-- `cigar_lengths`: 1, 4
 unfoldable pub recordLengths : List ℕ → Lengths
-unfolding asInt
-recordLengths b =
-    cond (isShort b) (Lengths.Refused ShortRecord)
-    (lengthsWith (asInt (sumOf refLen (recordOps b))) (recordOps b))
+recordLengths b = cond (isShort b) (Lengths.Refused ShortRecord) (listLengths (recordOps b))
 
 abbrev pub tellLengths : Lengths → Told
 tellLengths (Lengths.Are l) =

@@ -1,5 +1,6 @@
 // Document 01, module 3: lengths of op lists, lent or in a record. One walk, and thin calls over it.
 ghost use mathlib.Core.Path.{_≡_};
+ghost use mathlib.Core.List.{[]};
 ghost use Prim.Native.Nat.{_+_, _≤_};
 ghost use lib.ListN.{length, drop};
 ghost use lib.IntN.{pos};
@@ -7,7 +8,7 @@ ghost use Rattle.lists.specs.Lists.{sumOf};
 ghost use Rattle.signed.specs.Whole.{clamp32};
 ghost use Rattle.sam.specs.Op.{refLen, queryLen};
 ghost use Rattle.oplist.specs.Ops.{opsOf};
-ghost use Rattle.lengths.specs.Lengths.{asInt, refLength, queryLength, saturatedLength, checkedRefLength, recordQueryLength, recordLengths};
+ghost use Rattle.lengths.specs.Lengths.{asInt, refLengthUpTo, queryLengthUpTo, refLength, queryLength, longRefLength, longQueryLength, saturatedLength, checkedRefLength, recordQueryLength, listLengths, recordLengths};
 ghost use Rattle.lengths.specs.InnerLengths.{ofClips};
 use answers::Count;
 use answers::Int;
@@ -88,26 +89,56 @@ pub fn saturated(n: u64) -> i32
     n as i32
 }
 
-// The reference length of a lent list. Refusals 3 and 4.
-pub fn reference_length_from_cigar(cigar: &[u32]) -> Int
-    ensures { λ r. ⌜ r ≡ refLength (now (cigar .entry)) ⌝ }
+// The reference length of a lent list of at most `limit` ops. Refusals 3 and 4.
+fn reference_length_up_to(limit: usize, cigar: &[u32]) -> Int
+    requires { ⌜ limit ≤ 4294967295 ⌝ }
+    ensures { λ r. ⌜ r ≡ refLengthUpTo limit (now (cigar .entry)) ⌝ }
 {
-    if oplist::MOST_OPS < cigar.len() {
+    if limit < cigar.len() {
         return Int::Refused(Refusal::TooManyOps);
     }
     let total = sums(cigar, &[], oplist::lent(cigar));
     as_int(total.refs)
 }
 
-// The query length of a lent list. Refusal 3.
-pub fn query_length_from_cigar(cigar: &[u32]) -> Count
-    ensures { λ r. ⌜ r ≡ queryLength (now (cigar .entry)) ⌝ }
+// The query length of a lent list of at most `limit` ops. Refusal 3.
+fn query_length_up_to(limit: usize, cigar: &[u32]) -> Count
+    requires { ⌜ limit ≤ 4294967295 ⌝ }
+    ensures { λ r. ⌜ r ≡ queryLengthUpTo limit (now (cigar .entry)) ⌝ }
 {
-    if oplist::MOST_OPS < cigar.len() {
+    if limit < cigar.len() {
         return Count::Refused(Refusal::TooManyOps);
     }
     let total = sums(cigar, &[], oplist::lent(cigar));
     Count::Number(total.query)
+}
+
+// The reference length of a lent list. Refusals 3 and 4.
+pub fn reference_length_from_cigar(cigar: &[u32]) -> Int
+    ensures { λ r. ⌜ r ≡ refLength (now (cigar .entry)) ⌝ }
+{
+    reference_length_up_to(oplist::MOST_OPS, cigar)
+}
+
+// The same of a long list.
+pub fn long_reference_length_from_cigar(cigar: &[u32]) -> Int
+    ensures { λ r. ⌜ r ≡ longRefLength (now (cigar .entry)) ⌝ }
+{
+    reference_length_up_to(oplist::MOST_LONG_OPS, cigar)
+}
+
+// The query length of a lent list. Refusal 3.
+pub fn query_length_from_cigar(cigar: &[u32]) -> Count
+    ensures { λ r. ⌜ r ≡ queryLength (now (cigar .entry)) ⌝ }
+{
+    query_length_up_to(oplist::MOST_OPS, cigar)
+}
+
+// The same of a long list.
+pub fn long_query_length_from_cigar(cigar: &[u32]) -> Count
+    ensures { λ r. ⌜ r ≡ longQueryLength (now (cigar .entry)) ⌝ }
+{
+    query_length_up_to(oplist::MOST_LONG_OPS, cigar)
 }
 
 // The reference length of a lent list, at most 2^31 - 1. Refusal 3.
@@ -169,15 +200,11 @@ fn of_clips(soft: u64, hard: u64) -> Lengths
     })
 }
 
-// A record's lengths and the clips at its ends. Refusals 1 and 4. The runs of clips are walked from both ends and the sums between them, so that each op is read
-// once, but for the two that end a run.
-pub fn cigar_lengths(bam: &[u8]) -> Lengths
-    ensures { λ r. ⌜ r ≡ recordLengths (now (bam .entry)) ⌝ }
+// The lengths of a list that lies in a record, and the clips at its ends. Refusal 4. The runs of clips are walked from both ends and the sums between them, so that
+// each op is read once, but for the two that end a run.
+pub fn list_lengths(bam: &[u8], list: Ops) -> Lengths
+    ensures { λ r. ⌜ r ≡ listLengths (opsOf [] (now (bam .entry)) list) ⌝ }
 {
-    if bam.len() < 32 {
-        return Lengths::Refused(Refusal::ShortRecord);
-    }
-    let list = oplist::of_record(bam);
     let n = oplist::count(&[], bam, list);
     if n == 0 {
         return of_clips(0, 0);
@@ -203,4 +230,14 @@ pub fn cigar_lengths(bam: &[u8]) -> Lengths
         }),
         Int::Refused(why) => Lengths::Refused(why),
     }
+}
+
+// A record's lengths and the clips at its ends. Refusals 1 and 4.
+pub fn cigar_lengths(bam: &[u8]) -> Lengths
+    ensures { λ r. ⌜ r ≡ recordLengths (now (bam .entry)) ⌝ }
+{
+    if bam.len() < 32 {
+        return Lengths::Refused(Refusal::ShortRecord);
+    }
+    list_lengths(bam, oplist::of_record(bam))
 }

@@ -2,7 +2,7 @@
 ghost use mathlib.Core.Path.{_≡_};
 ghost use Prim.Native.Nat.{_≤_, max};
 ghost use Rattle.oplist.specs.Ops.{opsOf};
-ghost use Rattle.lookup_rules.specs.Lookup.{look, looked, counted, readOver};
+ghost use Rattle.lookup_rules.specs.Lookup.{look, lookedUpTo, looked, longLooked, counted, readOver};
 ghost use Rattle.lookup_rules.specs.Examined.{placeOf};
 ghost use Rattle.lookup.specs.InnerLookup.{spotOf, overOf};
 use answers::Refusal;
@@ -90,11 +90,12 @@ fn read_over(asked: bool, before: u64, over: Over, count: u32) -> Found
 }
 
 // The query position over the reference position `pos` of an alignment that starts at `start`, all counted from 1; in a deletion none, or if asked
-// the last query base before it. Beside it the ops examined: 0 before the start. Refusals 3 and 9.
-pub fn read_pos_at_ref_pos_raw(cigar: &[u32], start: u64, pos: u64, asked: bool) -> Found
-    ensures { λ r. ⌜ r ≡ looked (now (cigar .entry)) start pos asked ⌝ }
+// the last query base before it. Beside it the ops examined: 0 before the start. Of a list of at most `limit` ops. Refusals 3 and 9.
+fn read_pos_up_to(limit: usize, cigar: &[u32], start: u64, pos: u64, asked: bool) -> Found
+    requires { ⌜ limit ≤ 4294967295 ⌝ }
+    ensures { λ r. ⌜ r ≡ lookedUpTo limit (now (cigar .entry)) start pos asked ⌝ }
 {
-    if oplist::MOST_OPS < cigar.len() {
+    if limit < cigar.len() {
         return Found::Refused(Refusal::TooManyOps);
     }
     if start < 1 {
@@ -109,4 +110,18 @@ pub fn read_pos_at_ref_pos_raw(cigar: &[u32], start: u64, pos: u64, asked: bool)
     let s = look_at(cigar, &[], oplist::lent(cigar), pos - start);
     let over = s.over;
     read_over(asked, s.before, over, s.place as u32)
+}
+
+// The same of a lent list. Refusals 3 and 9.
+pub fn read_pos_at_ref_pos_raw(cigar: &[u32], start: u64, pos: u64, asked: bool) -> Found
+    ensures { λ r. ⌜ r ≡ looked (now (cigar .entry)) start pos asked ⌝ }
+{
+    read_pos_up_to(oplist::MOST_OPS, cigar, start, pos, asked)
+}
+
+// And of a long list.
+pub fn long_read_pos_at_ref_pos_raw(cigar: &[u32], start: u64, pos: u64, asked: bool) -> Found
+    ensures { λ r. ⌜ r ≡ longLooked (now (cigar .entry)) start pos asked ⌝ }
+{
+    read_pos_up_to(oplist::MOST_LONG_OPS, cigar, start, pos, asked)
 }

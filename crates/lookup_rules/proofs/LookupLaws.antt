@@ -9,7 +9,7 @@ use lib.Dec.{ltb}
 use borrow.Author.Tests.{ltb-true, ltb-false, lt-ltb, le-ltb}
 use Rattle.sam.specs.Op.{lenOf, codeOf, isRef, isQuery, queryLen, refLen}
 use Rattle.sam.specs.Columns.{Spot, Column, spell, columns, Seen, base, gap, off, past}
-use Rattle.lookup_rules.specs.Lookup.{Answer, Nothing, spotIn, look, readOver, lookup, counted, looked}
+use Rattle.lookup_rules.specs.Lookup.{Answer, Nothing, spotIn, look, readOver, lookupUpTo, counted, lookedUpTo}
 use Rattle.lookup_rules.specs.Examined.{placeOf, examined}
 use Rattle.lookup_rules.specs.Meaning.{InBounds, Reads}
 use Rattle.lookup_rules.specs.Meaning as means
@@ -53,37 +53,37 @@ look-only xs k s S = seen-is (columns xs) k s S ∙ sym (look-seen xs k)
 
 -- ---- the call, where it is accepted
 
-module _ (xs : List ℕ) (start at : ℕ) (asked : Bool) (t : InBounds xs start) where
-  not-yet : at < start → lookup xs start at asked ≡ Nothing
-  unfolding lookup
+module _ (limit : ℕ) (xs : List ℕ) (start at : ℕ) (asked : Bool) (t : InBounds limit xs start) where
+  not-yet : at < start → lookupUpTo limit xs start at asked ≡ Nothing
+  unfolding lookupUpTo
   not-yet h = simp (le-ltb _ _ (t .few), le-ltb _ _ (t .low), le-ltb _ _ (t .high), lt-ltb _ _ h)
 
-  pub lookup-at : start ≤ at → lookup xs start at asked ≡ readOver asked (look xs (at - start) .before) (look xs (at - start) .over)
-  unfolding lookup
+  pub lookup-at : start ≤ at → lookupUpTo limit xs start at asked ≡ readOver asked (look xs (at - start) .before) (look xs (at - start) .over)
+  unfolding lookupUpTo
   lookup-at h = simp (le-ltb _ _ (t .few), le-ltb _ _ (t .low), le-ltb _ _ (t .high), le-ltb _ _ h)
 
   -- and the count beside it
-  pub looked-at : start ≤ at → looked xs start at asked ≡ counted (readOver asked (look xs (at - start) .before) (look xs (at - start) .over)) (placeOf xs (at - start))
-  unfolding looked examined
+  pub looked-at : start ≤ at → lookedUpTo limit xs start at asked ≡ counted (readOver asked (look xs (at - start) .before) (look xs (at - start) .over)) (placeOf xs (at - start))
+  unfolding lookedUpTo examined
   looked-at h = rw (lookup-at h, le-ltb at start h) refl
 
-  spot-at : (s : Spot) → start ≤ at → s ≡ look xs (at - start) → lookup xs start at asked ≡ readOver asked (s .before) (s .over)
+  spot-at : (s : Spot) → start ≤ at → s ≡ look xs (at - start) → lookupUpTo limit xs start at asked ≡ readOver asked (s .before) (s .over)
   spot-at s h e = lookup-at h ∙ ap (λ (u : Spot). readOver asked (u .before) (u .over)) (sym e)
 
   -- lookup's answer is the query base in the column of that reference base, and no other answer is
-  pub lookup-means : Reads (columns xs) start at asked (lookup xs start at asked)
+  pub lookup-means : Reads (columns xs) start at asked (lookupUpTo limit xs start at asked)
   lookup-means = go (ltb at start) refl
     where
-      sees : start ≤ at → Seen (columns xs) (at - start) (look xs (at - start)) → Reads (columns xs) start at asked (lookup xs start at asked)
+      sees : start ≤ at → Seen (columns xs) (at - start) (look xs (at - start)) → Reads (columns xs) start at asked (lookupUpTo limit xs start at asked)
       sees h (base left right e f g) = means.base left right e (omega arith) (spot-at _ h (sym g))
       sees h (gap left right e f g) = means.gap left right e (omega arith) (spot-at _ h (sym g))
       sees h (off l g) = means.off (inr (omega arith)) (spot-at _ h (sym g))
 
-      go : (b : Bool) → ltb at start ≡ b → Reads (columns xs) start at asked (lookup xs start at asked)
+      go : (b : Bool) → ltb at start ≡ b → Reads (columns xs) start at asked (lookupUpTo limit xs start at asked)
       go true e = means.off (inl (ltb-true at start e)) (not-yet (ltb-true at start e))
       go false e = sees (ltb-false at start e) (look-means xs (at - start))
 
-  pub lookup-only : (r : Answer) → Reads (columns xs) start at asked r → r ≡ lookup xs start at asked
+  pub lookup-only : (r : Answer) → Reads (columns xs) start at asked r → r ≡ lookupUpTo limit xs start at asked
   lookup-only r (means.base left right e f g) = g ∙ sym (spot-at _ (omega arith) (look-only xs (at - start) _ (base left right e (omega arith) refl)))
   lookup-only r (means.gap left right e f g) = g ∙ sym (spot-at _ (omega arith) (look-only xs (at - start) _ (gap left right e (omega arith) refl)))
   lookup-only r (means.off (inl h) g) = g ∙ sym (not-yet h)

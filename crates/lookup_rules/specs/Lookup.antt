@@ -10,7 +10,7 @@ use Rattle.sam.specs.Op.{codeOf, isQuery, queryLen, refLen}
 use Rattle.answers.specs.Answers.{Told, answered, refused, some, none}
 use Rattle.answers.specs.declared.Refusal.{Refusal}
 use Rattle.answers.specs.declared.Refusal.the-variants.{TooManyOps, BadStart}
-use Rattle.oplist.specs.Ops.{mostOps}
+use Rattle.oplist.specs.Ops.{mostOps, mostLongOps}
 use Rattle.lookup_rules.specs.Examined.{examined}
 use Rattle.lookup_rules.specs.declared.Found.{Found}
 use Rattle.lookup_rules.specs.declared.Found.the-variants as Found
@@ -41,11 +41,11 @@ readOver asked n Base = At (n + 1)
 readOver asked n Gap = cond asked (At (max n 1)) Nothing
 readOver asked n Off = Nothing
 
--- the call: 3, 9 for an alignment start outside 1 to 2,147,483,648; none before the start
-unfoldable pub lookup : List ℕ → ℕ → ℕ → Bool → Answer
+-- of a list of at most `limit` ops: 3, 9 for an alignment start outside 1 to 2,147,483,648; none before the start
+unfoldable pub lookupUpTo : ℕ → List ℕ → ℕ → ℕ → Bool → Answer
 unfolding look
-lookup xs start at asked =
-    cond (ltb mostOps (length xs)) (Refused TooManyOps)
+lookupUpTo limit xs start at asked =
+    cond (ltb limit (length xs)) (Refused TooManyOps)
     (cond (ltb start 1) (Refused BadStart)
     (cond (ltb 2147483648 start) (Refused BadStart)
     (cond (ltb at start) Nothing
@@ -57,9 +57,17 @@ counted (At n) count = Found.At n count
 counted Nothing count = Found.Nothing count
 counted (Refused r) count = Found.Refused r
 
-unfoldable pub looked : List ℕ → ℕ → ℕ → Bool → Found
-unfolding lookup examined
-looked xs start at asked = counted (lookup xs start at asked) (examined xs start at)
+unfoldable pub lookedUpTo : ℕ → List ℕ → ℕ → ℕ → Bool → Found
+unfolding lookupUpTo examined
+lookedUpTo limit xs start at asked = counted (lookupUpTo limit xs start at asked) (examined xs start at)
+
+-- `read_pos_at_ref_pos_raw`
+abbrev pub looked : List ℕ → ℕ → ℕ → Bool → Found
+looked xs start at asked = lookedUpTo mostOps xs start at asked
+
+-- `long_read_pos_at_ref_pos_raw`
+abbrev pub longLooked : List ℕ → ℕ → ℕ → Bool → Found
+longLooked xs start at asked = lookedUpTo mostLongOps xs start at asked
 
 abbrev pub tellFound : Found → Told
 tellFound (Found.At n count) = answered (some (pos n) ++ (pos count ∷ []))

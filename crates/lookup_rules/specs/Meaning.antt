@@ -7,12 +7,11 @@ use mathlib.Core.List.{List, _∷_, _++_}
 use mathlib.Core.Logic.{_⊎_}
 use lib.ListN.{length}
 use Rattle.sam.specs.Columns.{Column, Both, Reference, queries, refs}
-use Rattle.oplist.specs.Ops.{mostOps}
 use Rattle.lookup_rules.specs.Lookup.{Answer, At, Nothing}
 
--- what the call answers for: at most 65,535 ops, and a start from 1 to 2^31
-pub record InBounds (xs : List ℕ) (start : ℕ) : Type 0 where
-  pub few : length xs ≤ mostOps
+-- what the call answers for: at most so many ops as its limit says, and a start from 1 to 2^31
+pub record InBounds (limit : ℕ) (xs : List ℕ) (start : ℕ) : Type 0 where
+  pub few : length xs ≤ limit
   pub low : 1 ≤ start
   pub high : start ≤ 2147483648
 

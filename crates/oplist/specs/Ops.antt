@@ -17,6 +17,10 @@ opsOf words rec ops =
 abbrev pub mostOps : ℕ
 mostOps = 65535
 
+-- document 02, item 1: "Limits rise to 1,048,576 ops through this new mode"
+abbrev pub mostLongOps : ℕ
+mostLongOps = 1048576
+
 -- a record's ops; none where their area ends past the record
 unfoldable pub recordOps : List ℕ → List ℕ
 recordOps b = cond (leb (opsEnd b) (length b)) (opsIn b (opsStart b) (opCountOf b)) []

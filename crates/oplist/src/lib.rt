@@ -11,6 +11,9 @@ ghost use Rattle.oplist.specs.Ops.{opsOf, recordOps};
 // The most ops that a lent list may have: refusal 3 tests it, and nothing else.
 pub const MOST_OPS: usize = 65535;
 
+// The same of the calls that take long lists, and of a list that a record holds in its tag CG (document 02, item 1).
+pub const MOST_LONG_OPS: usize = 1048576;
+
 // Where an op list lies: n ops from place `at` of a record, or the first n of a list.
 pub struct Ops {
     pub inside: bool,

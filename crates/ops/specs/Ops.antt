@@ -79,9 +79,12 @@ abbrev pub tellOp : NewOp → Told
 tellOp (NewOp.Op o) = answered (pos (o .0) ∷ [])
 tellOp (NewOp.Refused r) = refused r
 
--- `get_cigar_ops` into lent memory d: 1, 6
+-- ops into lent memory d: 6
+abbrev pub copiedOps : List ℕ → List ℕ → Outcome Count
+copiedOps xs d =
+    cond (ltb (length d) (length xs)) (keeps (Count.Refused NoRoom) d)
+    (record { answer = Count.Number (length xs); left = splice d 0 xs })
+
+-- `get_cigar_ops`: 1, 6
 unfoldable pub getOps : List ℕ → List ℕ → Outcome Count
-getOps b d =
-    cond (isShort b) (keeps (Count.Refused ShortRecord) d)
-    (cond (ltb (length d) (length (recordOps b))) (keeps (Count.Refused NoRoom) d)
-    (record { answer = Count.Number (length (recordOps b)); left = splice d 0 (recordOps b) }))
+getOps b d = cond (isShort b) (keeps (Count.Refused ShortRecord) d) (copiedOps (recordOps b) d)

@@ -1,11 +1,14 @@
 // Document 01, module 2: ops, their kinds and letters, what they consume; and a record's ops, copied into lent memory.
 ghost use mathlib.Core.Path.{_≡_};
 ghost use Prim.Native.Nat.{_/_, _%_, _<_};
+ghost use mathlib.Core.List.{[]};
 ghost use Rattle.answers.specs.Settled.{Settled};
 ghost use Rattle.sam.specs.Op.{lenOf, codeOf, isRef, isQuery, refLen, queryLen};
-ghost use Rattle.ops.specs.Ops.{isRead, readLen, isClip, codeOfKind, letterOfKind, fromOpType, kindOf, letterOf, newOp, getOps};
+ghost use Rattle.oplist.specs.Ops.{opsOf};
+ghost use Rattle.ops.specs.Ops.{isRead, readLen, isClip, codeOfKind, letterOfKind, fromOpType, kindOf, letterOf, newOp, copiedOps, getOps};
 use answers::Count;
 use answers::Refusal;
+use oplist::Ops;
 
 pub enum CigarKind {
     Match,
@@ -236,6 +239,18 @@ pub fn read_len(op: u32) -> u64
     0
 }
 
+// The ops of a list that lies in a record, in the first places of out. Refusal 6.
+pub fn copy_ops(bam: &[u8], list: Ops, out: &mut [u32]) -> Count
+    ensures { λ r. ⌜ Settled (copiedOps (opsOf [] (now (bam .entry)) list) (now (out .entry))) r (now (out .exit)) ⌝ }
+{
+    let n = oplist::count(&[], bam, list);
+    if out.len() < n {
+        return Count::Refused(Refusal::NoRoom);
+    }
+    oplist::copy(&[], bam, list, 0, n, out, 0);
+    Count::Number(n as u64)
+}
+
 // A record's ops, in the first places of out. Refusals 1 and 6.
 pub fn get_cigar_ops(bam: &[u8], out: &mut [u32]) -> Count
     ensures { λ r. ⌜ Settled (getOps (now (bam .entry)) (now (out .entry))) r (now (out .exit)) ⌝ }
@@ -243,11 +258,5 @@ pub fn get_cigar_ops(bam: &[u8], out: &mut [u32]) -> Count
     if bam.len() < 32 {
         return Count::Refused(Refusal::ShortRecord);
     }
-    let list = oplist::of_record(bam);
-    let n = oplist::count(&[], bam, list);
-    if out.len() < n {
-        return Count::Refused(Refusal::NoRoom);
-    }
-    oplist::copy(&[], bam, list, 0, n, out, 0);
-    Count::Number(n as u64)
+    copy_ops(bam, oplist::of_record(bam), out)
 }

@@ -1,11 +1,12 @@
 // Document 01, module 4: the text of a record's ops, in lent memory.
 ghost use mathlib.Core.Path.{_≡_};
+ghost use mathlib.Core.List.{[]};
 ghost use Prim.Native.Nat.{_+_, _≤_};
 ghost use lib.ListN.{length};
 ghost use lib.Seq.{sets};
 ghost use Rattle.answers.specs.Settled.{Settled};
 ghost use Rattle.oplist.specs.Ops.{opsOf};
-ghost use Rattle.print_rules.specs.Text.{opText, textOf, printed};
+ghost use Rattle.print_rules.specs.Text.{opText, textOf, printedOps, printed};
 ghost use Rattle.print_rules.specs.Inner.{roomOf};
 use answers::Count;
 use answers::Refusal;
@@ -59,14 +60,10 @@ fn put_text(words: &[u32], rec: &[u8], list: Ops, out: &mut [u8])
     }
 }
 
-// The text of a record's ops, in the first places of out. Refusals 1, 7 and 6.
-pub fn cigar_to_bytes_into(bam: &[u8], out: &mut [u8]) -> Count
-    ensures { λ r. ⌜ Settled (printed (now (bam .entry)) (now (out .entry))) r (now (out .exit)) ⌝ }
+// The text of a list that lies in a record, in the first places of out. Refusals 7 and 6.
+pub fn print_ops(bam: &[u8], list: Ops, out: &mut [u8]) -> Count
+    ensures { λ r. ⌜ Settled (printedOps (opsOf [] (now (bam .entry)) list) (now (out .entry))) r (now (out .exit)) ⌝ }
 {
-    if bam.len() < 32 {
-        return Count::Refused(Refusal::ShortRecord);
-    }
-    let list = oplist::of_record(bam);
     let Room::Bytes(n) = room_for(&[], bam, list) else {
         return Count::Refused(Refusal::BadCode);
     };
@@ -75,4 +72,14 @@ pub fn cigar_to_bytes_into(bam: &[u8], out: &mut [u8]) -> Count
     }
     put_text(&[], bam, list, out);
     Count::Number(n as u64)
+}
+
+// The text of a record's ops, in the first places of out. Refusals 1, 7 and 6.
+pub fn cigar_to_bytes_into(bam: &[u8], out: &mut [u8]) -> Count
+    ensures { λ r. ⌜ Settled (printed (now (bam .entry)) (now (out .entry))) r (now (out .exit)) ⌝ }
+{
+    if bam.len() < 32 {
+        return Count::Refused(Refusal::ShortRecord);
+    }
+    print_ops(bam, oplist::of_record(bam), out)
 }

@@ -28,10 +28,13 @@ unfoldable pub anyBad : List ℕ → Bool
 anyBad [] = false
 anyBad (o ∷ xs) = ltb 8 (codeOf o) || anyBad xs
 
--- `cigar_to_bytes_into` of a record into lent memory d: 1, 7, 6
+-- the text of ops into lent memory d: 7, 6
+abbrev pub printedOps : List ℕ → List ℕ → Outcome Count
+printedOps xs d =
+    cond (anyBad xs) (keeps (Count.Refused BadCode) d)
+    (cond (ltb (length d) (length (textOf xs))) (keeps (Count.Refused NoRoom) d)
+    (record { answer = Count.Number (length (textOf xs)); left = splice d 0 (textOf xs) }))
+
+-- `cigar_to_bytes_into` of a record: 1, 7, 6
 unfoldable pub printed : List ℕ → List ℕ → Outcome Count
-printed b d =
-    cond (isShort b) (keeps (Count.Refused ShortRecord) d)
-    (cond (anyBad (recordOps b)) (keeps (Count.Refused BadCode) d)
-    (cond (ltb (length d) (length (textOf (recordOps b)))) (keeps (Count.Refused NoRoom) d)
-    (record { answer = Count.Number (length (textOf (recordOps b))); left = splice d 0 (textOf (recordOps b)) })))
+printed b d = cond (isShort b) (keeps (Count.Refused ShortRecord) d) (printedOps (recordOps b) d)

@@ -21,11 +21,12 @@ use Rattle.lengths.specs.Lengths.{checkedRefLength}
 use Rattle.ends_rules.specs.Sums.{both, _⊕_}
 use Rattle.ends_rules.specs.Ends.{toPlace1, plusOne, alignmentStart, endAt, alignmentEnd}
 use Rattle.answers.specs.Answers.{Told}
-use Rattle.border.specs.Border.{intOf, countOf, flagOf, foundOf, positionOf, twoOf, lengthsOf, blocksOf}
+use Rattle.border.specs.Border.{intOf, countOf, flagOf, foundOf, positionOf, lookupOf, twoOf, lengthsOf, blocksOf}
 use Rattle.border.specs.declared.ToldInt.{ToldInt}
 use Rattle.border.specs.declared.ToldCount.{ToldCount}
 use Rattle.border.specs.declared.ToldFlag.{ToldFlag}
 use Rattle.border.specs.declared.ToldFound.{ToldFound}
+use Rattle.border.specs.declared.ToldLookup.{ToldLookup}
 use Rattle.border.specs.declared.ToldPosition.{ToldPosition}
 use Rattle.border.specs.declared.ToldTwo.{ToldTwo}
 use Rattle.border.specs.declared.ToldLengths.{ToldLengths}
@@ -44,6 +45,9 @@ module _ {t : Told} {rows : List Row} (g : Gives t rows) where
 
   pub found-crosses : Crosses (λ (b : ToldFound). b .refusal) (λ (n : ℕ). record { refusal = n; found = false; value = 0 }) (foundOf t) rows
   found-crosses = record { number-is = g .number; alone = λ h. rw (g .alone h, g .number) }
+
+  pub lookup-crosses : Crosses (λ (b : ToldLookup). b .refusal) (λ (n : ℕ). record { refusal = n; found = false; examined = 0; value = 0 }) (lookupOf t) rows
+  lookup-crosses = record { number-is = g .number; alone = λ h. rw (g .alone h, g .number) }
 
   pub position-crosses : Crosses (λ (b : ToldPosition). b .refusal) (λ (n : ℕ). record { refusal = n; which = 0; value = pos 0 }) (positionOf t) rows
   position-crosses = record { number-is = g .number; alone = λ h. rw (g .alone h, g .number) }

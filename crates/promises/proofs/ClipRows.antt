@@ -2,7 +2,7 @@
 use Prim.Native.Nat.{ℕ}
 use mathlib.Core.Path.{refl, sym, ap}
 use mathlib.Core.Bool.{Bool, true, false}
-use mathlib.Core.List.{List, [], _∷_}
+use mathlib.Core.List.{List, _∷_}
 use lib.ListN.{length}
 use lib.Dec.{ltb}
 use Rattle.lists.specs.Lists.{sumOf}
@@ -17,8 +17,8 @@ use Rattle.answers.specs.declared.Count.the-variants.{Number}
 use Rattle.clip_rules.specs.Answer.{clippedOps, clippedCount, clippable, isBeyond, clippedInto, clippedUpTo, clippedRecord, uncounted, withoutCount, clippedStart, clippedEnd, recordStart, recordEnd, tellClipped}
 use Rattle.clip_rules.specs.declared.Clipped.{Clipped}
 use Rattle.clip_rules.specs.declared.Clipped.the-variants.{Done, Refused}
-use Rattle.promises.specs.Table.{Row, Gives, GivesFilled}
-use Rattle.promises.specs.Rows.{tooLong, beyond, noRoom, clipRows, clipRecordRows}
+use Rattle.promises.specs.Table.{Row, _when_, Gives, GivesFilled}
+use Rattle.promises.specs.Rows.{clipInto, clipRows, clipRecordRows}
 use Rattle.promises.proofs.RowLaws.{kept-row, last-row}
 
 module _ (amount : ℕ) (start : Bool) (d : List ℕ) where
@@ -26,17 +26,18 @@ module _ (amount : ℕ) (start : Bool) (d : List ℕ) where
   done xs = Done (length (clippedOps xs amount start)) (clippedCount xs amount start)
 
   -- 8, 19, 6, of an op list wherever it lies
-  into-rows : (xs : List ℕ)
-      → GivesFilled tellClipped (clippedInto xs amount start d) d (tooLong xs ∷ beyond xs amount start ∷ noRoom d (length (clippedOps xs amount start)) ∷ []) (done xs) (clippedOps xs amount start)
+  pub into-rows : (xs : List ℕ) → GivesFilled tellClipped (clippedInto xs amount start d) d (clipInto xs amount start d) (done xs) (clippedOps xs amount start)
   unfolding clippedInto isBeyond clippable
   into-rows xs =
       kept-row tellClipped (ltb 268435455 (sumOf lenOf xs)) (Refused TooLong) 8 refl refl
       (kept-row tellClipped (isBeyond xs amount start) (Refused AmountBeyond) 19 refl refl
       (last-row tellClipped (clippedOps xs amount start) (Refused NoRoom) (done xs) refl refl))
 
-  list-rows : (xs : List ℕ) → GivesFilled tellClipped (clippedUpTo mostOps xs amount start d) d (clipRows xs amount start d) (done xs) (clippedOps xs amount start)
+  -- of a list of at most `limit` ops
+  pub list-rows : (limit : ℕ) (xs : List ℕ)
+      → GivesFilled tellClipped (clippedUpTo limit xs amount start d) d ((3 when ltb limit (length xs)) ∷ clipInto xs amount start d) (done xs) (clippedOps xs amount start)
   unfolding clippedUpTo
-  list-rows xs = kept-row tellClipped (ltb mostOps (length xs)) (Refused TooManyOps) 3 refl refl (into-rows xs)
+  list-rows limit xs = kept-row tellClipped (ltb limit (length xs)) (Refused TooManyOps) 3 refl refl (into-rows xs)
 
   record-rows : (b : List ℕ)
       → GivesFilled tellClipped (clippedRecord b amount start d) d (clipRecordRows b amount start d) (done (recordOps b)) (clippedOps (recordOps b) amount start)
@@ -48,7 +49,7 @@ uncounted-gives : (c : Clipped) {rows : List Row} → Gives (tellClipped c) rows
 uncounted-gives (Done n count) g = record { number = g .number; alone = λ h. nil-cons (sym (g .alone h)) }
 uncounted-gives (Refused r) g = record { number = g .number; alone = g .alone }
 
-uncounted-rows : {o : Outcome Clipped} {d : List ℕ} {rows : List Row} {a : Clipped} {ys : List ℕ} → GivesFilled tellClipped o d rows a ys → GivesFilled tellCount (withoutCount o) d rows (uncounted a) ys
+pub uncounted-rows : {o : Outcome Clipped} {d : List ℕ} {rows : List Row} {a : Clipped} {ys : List ℕ} → GivesFilled tellClipped o d rows a ys → GivesFilled tellCount (withoutCount o) d rows (uncounted a) ys
 uncounted-rows {o} q =
     record { refusal = record { gives = uncounted-gives (o .answer) (q .refusal .gives); kept = q .refusal .kept }; answer = λ h. ap uncounted (q .answer h); fills = q .fills }
 
@@ -56,10 +57,10 @@ uncounted-rows {o} q =
 
 module _ (xs : List ℕ) (amount : ℕ) (d : List ℕ) where
   pub clip-cigar-start-raw : GivesFilled tellClipped (clippedStart xs amount d) d (clipRows xs amount true d) (Done (length (clippedOps xs amount true)) (clippedCount xs amount true)) (clippedOps xs amount true)
-  clip-cigar-start-raw = list-rows amount true d xs
+  clip-cigar-start-raw = list-rows amount true d mostOps xs
 
   pub clip-cigar-end-raw : GivesFilled tellCount (clippedEnd xs amount d) d (clipRows xs amount false d) (Number (length (clippedOps xs amount false))) (clippedOps xs amount false)
-  clip-cigar-end-raw = uncounted-rows (list-rows amount false d xs)
+  clip-cigar-end-raw = uncounted-rows (list-rows amount false d mostOps xs)
 
 module _ (b : List ℕ) (amount : ℕ) (d : List ℕ) where
   pub clip-cigar-start : GivesFilled tellClipped (recordStart b amount d) d (clipRecordRows b amount true d)

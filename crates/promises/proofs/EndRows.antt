@@ -23,12 +23,12 @@ use Rattle.answers.specs.declared.Place1.the-variants as Place1
 use Rattle.answers.specs.declared.Refusal.the-variants.{ShortRecord, TooManyOps, BadStart}
 use Rattle.ends_rules.specs.Sums.{both, _⊕_, _⊖_}
 use Rattle.ends_rules.specs.Tails.{greatestRun}
-use Rattle.ends_rules.specs.Ends.{provided, trailingSum, unclippedStart, unclippedEnd, fivePrime, toPlace0, toPlace1, plusOne, noOps, asUnclipped, unclippedAt, unclippedOf, tellUnclipped, unclippedFrom, alignmentStart, endAt, alignmentEnd}
+use Rattle.ends_rules.specs.Ends.{provided, trailingSum, unclippedStart, unclippedEnd, fivePrime, toPlace0, toPlace1, plusOne, noOps, asUnclipped, unclippedAt, unclippedBy, unclippedOf, tellUnclipped, unclippedFrom, alignmentStart, endAt, alignmentEnd}
 use Rattle.ends_rules.specs.declared.Unclipped.the-variants as Unclipped
-use Rattle.lookup_rules.specs.Lookup.{Answer, Nothing, Refused, look, readOver, lookup, counted, looked, tellFound}
+use Rattle.lookup_rules.specs.Lookup.{Answer, Nothing, Refused, look, readOver, lookupUpTo, counted, lookedUpTo, looked, tellFound}
 use Rattle.lookup_rules.specs.Examined.{examined}
-use Rattle.promises.specs.Table.{only, Gives}
-use Rattle.promises.specs.Rows.{over, refsOf, endSums, unclippedRows, unclippedFromRows, startRows, endRows, lookupRows}
+use Rattle.promises.specs.Table.{_when_, only, Gives}
+use Rattle.promises.specs.Rows.{over, refsOf, endSums, placeRows, unclippedRows, unclippedFromRows, startRows, endRows, badStart, lookupRows}
 use Rattle.promises.proofs.RowLaws.{number-alone, answer, row, row-past, row-either, row-unless, row-sum}
 use Rattle.promises.proofs.LengthRows.{passes-on, length-rows}
 
@@ -67,23 +67,20 @@ module _ {A : Type 0} (tell : A → Told) (to : Sum → A) (stops : tell (to Sum
       last : ℤ
       last = at +ℤ refs +ℤ clips -ℤ pos 1
 
+-- of an op list that is aligned at a place
+pub unclipped-by : (xs : List ℕ) (p : ℤ) (reverse : Bool) → Gives (tellUnclipped (unclippedBy xs (record { 0 = p }) reverse)) (placeRows xs p reverse)
+unfolding plusOne both
+unclipped-by xs p reverse =
+    row-unless tellUnclipped (eqb (length xs) 0) Unclipped.NoOps _ refl
+    (row-sum tellUnclipped (λ s. unclippedAt s reverse xs) (p +ℤ pos 1) (endSums reverse (p +ℤ pos 1) xs) refl
+    (end-sums tellUnclipped asUnclipped refl (λ z. refl) reverse (p +ℤ pos 1) xs))
+
 pub unclipped-5prime-from-raw-bam : (b : List ℕ) → Gives (tellUnclipped (unclippedOf b)) (unclippedRows b)
-unfolding unclippedOf plusOne both
+unfolding unclippedOf
 unclipped-5prime-from-raw-bam b =
     row tellUnclipped (isShort b) (Unclipped.Refused ShortRecord) _ 1 refl
     (row-unless tellUnclipped (isUnmapped (flagsOf b)) Unclipped.Unmapped _ refl
-    (row-unless tellUnclipped (noOps b) Unclipped.NoOps _ refl
-    (row-sum tellUnclipped (λ s. unclippedAt s reverse xs) at (endSums reverse at xs) refl
-    (end-sums tellUnclipped asUnclipped refl (λ z. refl) reverse at xs))))
-  where
-    at : ℤ
-    at = posOf b +ℤ pos 1
-
-    reverse : Bool
-    reverse = isReverse (flagsOf b)
-
-    xs : List ℕ
-    xs = recordOps b
+    (unclipped-by (recordOps b) (posOf b) (isReverse (flagsOf b))))
 
 pub unclipped-5prime-raw : (b : List ℕ) (p : Pos0) (reverse : Bool) → Gives (tellPlace0 (unclippedFrom b p reverse)) (unclippedFromRows b (p .0) reverse)
 unfolding unclippedFrom
@@ -113,10 +110,11 @@ alignment-end-from-raw b =
     end : ℤ
     end = posOf b +ℤ refsOf b
 
-pub read-pos-at-ref-pos-raw : (xs : List ℕ) (start at : ℕ) (asked : Bool) → Gives (tellFound (looked xs start at asked)) (lookupRows xs start)
-unfolding looked lookup
-read-pos-at-ref-pos-raw xs start at asked =
-    row told (ltb mostOps (length xs)) (Refused TooManyOps) _ 3 refl
+-- of a list of at most `limit` ops
+pub read-pos-up-to : (limit : ℕ) (xs : List ℕ) (start at : ℕ) (asked : Bool) → Gives (tellFound (lookedUpTo limit xs start at asked)) ((3 when ltb limit (length xs)) ∷ badStart start ∷ [])
+unfolding lookedUpTo lookupUpTo
+read-pos-up-to limit xs start at asked =
+    row told (ltb limit (length xs)) (Refused TooManyOps) _ 3 refl
     (row-either told (ltb start 1) (ltb 2147483648 start) (Refused BadStart) _ 9 refl
     (never (ltb at start) (look xs (at - start) .before) asked (look xs (at - start) .over)))
   where
@@ -129,3 +127,6 @@ read-pos-at-ref-pos-raw xs start at asked =
     never false n true Gap = answer refl refl
     never false n false Gap = answer refl refl
     never false n asked Off = answer refl refl
+
+pub read-pos-at-ref-pos-raw : (xs : List ℕ) (start at : ℕ) (asked : Bool) → Gives (tellFound (looked xs start at asked)) (lookupRows xs start)
+read-pos-at-ref-pos-raw = read-pos-up-to mostOps

@@ -27,7 +27,7 @@ use Rattle.ops.specs.Ops.{getOps, kindOf, fromOpType, tellKind, newOp, tellOp}
 use Rattle.ops.specs.declared.CigarKind.{CigarKind}
 use Rattle.ops.specs.declared.KindFound.the-variants.{Kind, Nothing}
 use Rattle.ops.specs.declared.NewOp.the-variants as NewOp
-use Rattle.lengths.specs.Lengths.{asInt, refLength, queryLength, saturatedLength, checkedRefLength, recordQueryLength, lengthsWith, recordLengths, tellLengths}
+use Rattle.lengths.specs.Lengths.{asInt, refLengthUpTo, queryLengthUpTo, refLength, queryLength, saturatedLength, checkedRefLength, recordQueryLength, lengthsWith, recordLengths, tellLengths}
 use Rattle.lengths.specs.declared.Lengths.{Lengths}
 use Rattle.lengths.specs.declared.Lengths.the-variants as Lengths
 use Rattle.bin_rules.specs.Bin.{binTo, reg2bin, spanOf, binUpTo, recordBin, withBin, setBin, binFrom}
@@ -128,20 +128,27 @@ top n = by-case (ltb 2147483647 n)
     by-case false = refl
 
 -- a total as an i32
-total-rows : {A : Type 0} (tell : A → Told) (to : Int → A) (n : ℕ) → tell (to (Int.Refused Overflow)) ≡ number-alone 4 → tell (to (Int.Number (pos n))) .number ≡ 0
+pub total-rows : {A : Type 0} (tell : A → Told) (to : Int → A) (n : ℕ) → tell (to (Int.Refused Overflow)) ≡ number-alone 4 → tell (to (Int.Number (pos n))) .number ≡ 0
     → Gives (tell (to (asInt n))) (over (pos n ∷ []) ∷ [])
 unfolding asInt
 total-rows tell to n p q =
     subst (λ t. Gives (tell (to (asInt n))) ((4 when t) ∷ [])) (top n)
     (row (λ x. tell (to x)) (ltb 2147483647 n) (Int.Refused Overflow) (Int.Number (pos n)) 4 p (answer q refl))
 
+-- of a list of at most `limit` ops
+pub reference-length-up-to : (limit : ℕ) (xs : List ℕ) → Gives (tellInt (refLengthUpTo limit xs)) ((3 when ltb limit (length xs)) ∷ over (pos (sumOf refLen xs) ∷ []) ∷ [])
+unfolding refLengthUpTo
+reference-length-up-to limit xs = row tellInt (ltb limit (length xs)) (Int.Refused TooManyOps) _ 3 refl (total-rows tellInt (λ x. x) (sumOf refLen xs) refl refl)
+
+pub query-length-up-to : (limit : ℕ) (xs : List ℕ) → Gives (tellCount (queryLengthUpTo limit xs)) ((3 when ltb limit (length xs)) ∷ [])
+unfolding queryLengthUpTo
+query-length-up-to limit xs = row tellCount (ltb limit (length xs)) (Count.Refused TooManyOps) _ 3 refl (answer refl refl)
+
 pub reference-length-from-cigar : (xs : List ℕ) → Gives (tellInt (refLength xs)) (lengthRows xs)
-unfolding refLength
-reference-length-from-cigar xs = row tellInt (ltb mostOps (length xs)) (Int.Refused TooManyOps) _ 3 refl (total-rows tellInt (λ x. x) (sumOf refLen xs) refl refl)
+reference-length-from-cigar = reference-length-up-to mostOps
 
 pub query-length-from-cigar : (xs : List ℕ) → Gives (tellCount (queryLength xs)) (listRows xs)
-unfolding queryLength
-query-length-from-cigar xs = row tellCount (ltb mostOps (length xs)) (Count.Refused TooManyOps) _ 3 refl (answer refl refl)
+query-length-from-cigar = query-length-up-to mostOps
 
 pub saturating-reference-length : (xs : List ℕ) → Gives (tellInt (saturatedLength xs)) (listRows xs)
 unfolding saturatedLength

@@ -7,12 +7,14 @@ pub mod EndRows
 pub mod ClipRows
 pub mod BedRows
 pub mod OverlapRows
+pub mod LongRows
 pub mod BorderRows
 pub mod Settles
 pub mod Demand3
 pub mod RoundTrip
 pub mod SamLaws
 pub mod ReadLaws
+pub mod LongLaws
 pub mod BedLaws
 pub mod CsiLaws
 pub mod AsBefore

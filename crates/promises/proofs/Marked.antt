@@ -12,12 +12,12 @@ use Rattle.text_rules.specs.Text.{effectOf, rowFrom, opsFrom}
 use Rattle.text_rules.specs.Valid.{isEmpty, allHard, anyRef, each, validMapped}
 use Rattle.text_rules.specs.Strict.{strict}
 use Rattle.strict_text.specs.Parsed.{parsed}
-use Rattle.lookup_rules.specs.Lookup.{look, lookup, looked}
+use Rattle.lookup_rules.specs.Lookup.{look, lookupUpTo, lookedUpTo}
 use Rattle.lookup_rules.specs.Examined.{reached, firstAbove, placeOf, examined}
 use Rattle.signed.specs.Equal.{eqℤ}
 use Rattle.bin_rules.specs.Bin.{low16, firstAgreed, binTo, reg2bin}
 use Rattle.promises.specs.Marked.{marked, calls, sayings}
 
 pub p1-to-p10 : calls marked ≡ sayings marked
-unfolding splice sumOf isRef isQuery refLen queryLen isRead readLen isClip leading afterLeading goes ends taking softOf upgraded cutInto outerHard nextSoft inside leadingClips clip clippedOps clippedCount clippable isBeyond clippedInto clippedUpTo indexOf letterCode effectOf rowFrom opsFrom isEmpty allHard anyRef each validMapped strict parsed look lookup looked reached firstAbove placeOf examined checked sideOf eqℤ low16 firstAgreed binTo reg2bin
+unfolding splice sumOf isRef isQuery refLen queryLen isRead readLen isClip leading afterLeading goes ends taking softOf upgraded cutInto outerHard nextSoft inside leadingClips clip clippedOps clippedCount clippable isBeyond clippedInto clippedUpTo indexOf letterCode effectOf rowFrom opsFrom isEmpty allHard anyRef each validMapped strict parsed look lookupUpTo lookedUpTo reached firstAbove placeOf examined checked sideOf eqℤ low16 firstAgreed binTo reg2bin
 p1-to-p10 = refl

@@ -1,18 +1,22 @@
--- Demand 2: "Op meanings, text, clip placement and bins are also proved against the SAM specification." Each line is a theorem of the crate that it is cited from,
+-- Demand 2: "Op meanings, text, clip placement and bins are also proved against the SAM specification"; and so are the tags (document 02, item 1). Each line is a theorem of the crate that it is cited from,
 -- over the definitions of crate `sam` and those that the contracts use.
 use Prim.Native.Nat.{ℕ, _-_, _<_, _≤_}
 use mathlib.Core.Path.{_≡_, refl}
 use mathlib.Core.Bool.{Bool, true, false}
-use mathlib.Core.List.{List}
+use mathlib.Core.List.{List, [], _∷_, _++_}
 use lib.IntN.{pos}
 use lib.ListN.{length, getD}
 use Rattle.lists.specs.Lists.{facing, Each, sumOf}
-use Rattle.sam.specs.Op.{lenOf, letters, refLen, queryLen}
+use Rattle.sam.specs.Op.{lenOf, opOf, letters, refLen, queryLen}
 use Rattle.sam.specs.Columns.{columns, queries, refs}
 use Rattle.sam.specs.Placement.{WellPlaced}
 use Rattle.sam.specs.Text.{Cigar}
 use Rattle.sam.specs.Bins.{SmallestBin}
+use Rattle.sam.specs.Tags.{Tag, Ends, tagsOf, isPlaceholder}
+use Rattle.sam.specs.TagBytes.{Proper, allBytes, followed}
 use Rattle.sam.proofs.LengthLaws as Length
+use Rattle.sam.proofs.TagLaws as Tagged
+use Rattle.sam.proofs.TagByteLaws as Written
 use Rattle.ops.specs.Ops.{letterOf}
 use Rattle.letters.specs.Letters.{entryOf}
 use Rattle.letters.proofs.Table as Table
@@ -29,7 +33,7 @@ use Rattle.promises.specs.RoundTrip.{withoutZeros}
 use Rattle.promises.proofs.RoundTrip as Round
 use Rattle.mate_rules.specs.Readers.{Agree}
 use Rattle.mate_rules.proofs.Agree as Mate
-use Rattle.lookup_rules.specs.Lookup.{Answer, lookup}
+use Rattle.lookup_rules.specs.Lookup.{Answer, lookupUpTo}
 use Rattle.lookup_rules.specs.Meaning.{InBounds, Reads}
 use Rattle.lookup_rules.proofs.LookupLaws as Looked
 use Rattle.bin_rules.specs.Bin.{binOf, low16, reg2bin}
@@ -58,12 +62,12 @@ query-length xs = Length.query-length xs
 pub reference-length : (xs : List ℕ) → sumOf refLen xs ≡ refs (columns xs)
 reference-length xs = Length.reference-length xs
 
--- lookup answers the query base in the column of a reference base, and no other answer does
-pub lookup-means : (xs : List ℕ) (start at : ℕ) (asked : Bool) → InBounds xs start → Reads (columns xs) start at asked (lookup xs start at asked)
-lookup-means xs start at asked t = Looked.lookup-means xs start at asked t
+-- lookup, whatever its limit, answers the query base in the column of a reference base, and no other answer does
+pub lookup-means : (limit : ℕ) (xs : List ℕ) (start at : ℕ) (asked : Bool) → InBounds limit xs start → Reads (columns xs) start at asked (lookupUpTo limit xs start at asked)
+lookup-means limit xs start at asked t = Looked.lookup-means limit xs start at asked t
 
-pub lookup-only : (xs : List ℕ) (start at : ℕ) (asked : Bool) → InBounds xs start → (r : Answer) → Reads (columns xs) start at asked r → r ≡ lookup xs start at asked
-lookup-only xs start at asked t r s = Looked.lookup-only xs start at asked t r s
+pub lookup-only : (limit : ℕ) (xs : List ℕ) (start at : ℕ) (asked : Bool) → InBounds limit xs start → (r : Answer) → Reads (columns xs) start at asked r → r ≡ lookupUpTo limit xs start at asked
+lookup-only limit xs start at asked t r s = Looked.lookup-only limit xs start at asked t r s
 
 -- ---- text
 
@@ -113,3 +117,19 @@ clip-drops xs a start = Dropped.clip-drops xs a start
 pub bin-smallest : (beg end : ℕ) → beg < end → end ≤ 536870912
     → (reg2bin (pos beg) (pos end) ≡ Number (low16 (binOf (pos beg) (pos (end - 1))))) × SmallestBin 14 5 beg end (low16 (binOf (pos beg) (pos (end - 1))))
 bin-smallest beg end h g = (Bins.answered beg end h g, Bins.smallest beg end h g)
+
+-- ---- tags
+
+-- tags that can be written are read back, whatever follows them; and an area that is read to its end is its tags, byte for byte
+pub tags-read : (ts : List Tag) (s : List ℕ) → Each Proper ts → tagsOf (allBytes ts ++ s) ≡ followed ts (tagsOf s)
+tags-read ts s h = Written.reads-tags ts s h
+
+pub tags-written : (s : List ℕ) (ts : List Tag) → tagsOf s ≡ followed ts Ends → s ≡ allBytes ts
+tags-written s ts e = Written.written-back s ts e
+
+-- a placeholder is "kSmN", and nothing else is
+pub placeholder-is : (k m : ℕ) → isPlaceholder k (opOf k 4 ∷ opOf m 3 ∷ []) ≡ true
+placeholder-is k m = Tagged.placeholder-is k m
+
+pub placeholder-only : (k : ℕ) (xs : List ℕ) → isPlaceholder k xs ≡ true → xs ≡ opOf k 4 ∷ opOf (lenOf (getD xs 1 0)) 3 ∷ []
+placeholder-only k xs e = Tagged.placeholder-only k xs e

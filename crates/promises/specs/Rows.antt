@@ -175,11 +175,15 @@ endSums true at xs =
     let clips = pos (clipsAfterReference xs) in
     refs ∷ (at +ℤ refs) ∷ pos (greatestRun xs) ∷ (at +ℤ refs +ℤ clips) ∷ (at +ℤ refs +ℤ clips -ℤ pos 1) ∷ []
 
--- `unclipped_5prime_from_raw_bam`: of a mapped record that has ops, "from `pos` + 1"
+-- of a list that has ops, "from `pos` + 1"
+abbrev pub placeRows : List ℕ → ℤ → Bool → List Row
+placeRows xs p reverse =
+    let at = p +ℤ pos 1 in
+    only (not (eqb (length xs) 0)) (over (at ∷ endSums reverse at xs) ∷ [])
+
+-- `unclipped_5prime_from_raw_bam`: of a mapped record
 abbrev pub unclippedRows : List ℕ → List Row
-unclippedRows b =
-    let at = posOf b +ℤ pos 1 in
-    short b ∷ only (not (isUnmapped (flagsOf b))) (only (not (noOps b)) (over (at ∷ endSums (isReverse (flagsOf b)) at (recordOps b)) ∷ []))
+unclippedRows b = short b ∷ only (not (isUnmapped (flagsOf b))) (placeRows (recordOps b) (posOf b) (isReverse (flagsOf b)))
 
 -- `unclipped_5prime_raw`: of a record that has ops, from the given position
 abbrev pub unclippedFromRows : List ℕ → ℤ → Bool → List Row
@@ -201,13 +205,17 @@ lookupRows xs start = tooMany xs ∷ badStart start ∷ []
 
 -- ---- clipping
 
+-- of an op list wherever it lies
+abbrev pub clipInto : List ℕ → ℕ → Bool → List ℕ → List Row
+clipInto xs amount start d = tooLong xs ∷ beyond xs amount start ∷ noRoom d (length (clippedOps xs amount start)) ∷ []
+
 -- `clip_cigar_start_raw`, and with `start` false `clip_cigar_end_raw`
 abbrev pub clipRows : List ℕ → ℕ → Bool → List ℕ → List Row
-clipRows xs amount start d = tooMany xs ∷ tooLong xs ∷ beyond xs amount start ∷ noRoom d (length (clippedOps xs amount start)) ∷ []
+clipRows xs amount start d = tooMany xs ∷ clipInto xs amount start d
 
 -- `clip_cigar_start`, `clip_cigar_end`
 abbrev pub clipRecordRows : List ℕ → ℕ → Bool → List ℕ → List Row
-clipRecordRows b amount start d = short b ∷ tooLong (recordOps b) ∷ beyond (recordOps b) amount start ∷ noRoom d (length (clippedOps (recordOps b) amount start)) ∷ []
+clipRecordRows b amount start d = short b ∷ clipInto (recordOps b) amount start d
 
 -- ---- blocks
 

@@ -1,5 +1,5 @@
--- A function without a contract that asks `cigar_raw_bytes` for a record's part and the number beside it, and reads one of the two.
---     Asked, Own            the contracts of `cigar_raw_bytes` and of the function.        takes     the step of a walk at which it is called
+-- A function without a contract that asks another, `cigar_raw_bytes` or one of its kind, for a part of a record and the number beside it, and reads one of the two.
+--     Asked, Own            the contracts of what it asks, which is no more than the type, and of the function.        takes     the step of a walk at which it is called
 --     readFn                the function's MIR, that reads the i-th field
 --     reads-number, reads-part     the law of each of the two
 -- Assumes nothing.
@@ -12,7 +12,7 @@ use mir.Val.{Val}
 use base.Logic.{SProp, ent, sep, emp, via, fst∗, id⊢}
 use base.Fml.{Lft, Share, ftrue, flft}
 use prog.Model.{Model}
-use prog.Routine.{Env}
+use prog.Routine.{Routine, Env}
 use prog.Wp.{Heap, Calls, Loops, Env as Locals, WpFn, Closed}
 use contract.Running.{Running, GhostRules, givenOf, tables, tablesOf}
 use types.Kit.{Given, Item, Seq, Post, runs, lands, ‵, raw, _⊛_, ⋆, given, some, later, _$_, _∵_, !, qed, by, move, drop, use1, split, join, learn, pick, fsplit, frame, show, await, updating, now as at-once, done}
@@ -40,8 +40,6 @@ use Rattle.fields.proofs.Part.Laws as P′
 use Rattle.view.proofs.Shared.{Fits, Promise, promised}
 use Rattle.run_view.proofs.Borrower.{slice, sliceParam}
 use Rattle.run_view.proofs.asked.cigar_raw_bytes as callee
-use Rattle.run_view.proofs.asked.cigar_raw_bytes.Met as callee-met
-use Rattle.run_view.proofs.asked.cigar_raw_bytes.Symbol as callee-symbol
 
 abbrev pub readFn : Ty → ℕ → Name → Fn
 readFn τ i f = record {
@@ -121,40 +119,42 @@ module _ {M : Type 1} (𝓤 : URA M) (H : Heap 𝓤) (𝓜 : Model 𝓤 H) (𝓖
             (use1 W (given (P′.lowered r ∷ [] ≡ P′.lowered r ∷ []) (‵ (all-own (P.the-type (α κ) .parts) (P′.the-laws (α κ)) (r .refusal, (r .part, tt))))) (own-open 𝓤 H (𝓖 .A) W (P.the-type (α κ)) (P′.the-laws (α κ)) (r .refusal, (r .part, tt)) (P′.lowered r)) $
             learn t (λ _. k r (subst (λ (w : Val). Fits (P′.mir erased) w) e (LL.lawful (P.the-type (record { mir = erased; lft = κ })) (P′.the-laws (record { mir = erased; lft = κ })) 𝓤 H (𝓖 .A) W .typed r _ is .0)))))))
 
-    abbrev Walks : Fn → Type 2
-    Walks e = (C : Calls 𝓤 H) (Λ : Loops 𝓤 H) → FmC 𝓤 H (W .laws) C → Triple 𝓤 (C callee-symbol.name) Asked → (κ : Lft) (q : Share) (s : RefT (List ℕ)) → Fits sliceParam (slice s) → ent 𝓤 (At κ q s) (WpFn 𝓤 H C Λ e (slice s ∷ []) (Own .post (y κ q s)))
+    -- e f is the MIR of a function that asks f
+    abbrev Walks : (Name → Fn) → Type 2
+    Walks e = (f : Name) (C : Calls 𝓤 H) (Λ : Loops 𝓤 H) → FmC 𝓤 H (W .laws) C → Triple 𝓤 (C f) Asked → (κ : Lft) (q : Share) (s : RefT (List ℕ)) → Fits sliceParam (slice s) → ent 𝓤 (At κ q s) (WpFn 𝓤 H C Λ (e f) (slice s ∷ []) (Own .post (y κ q s)))
 
-    abbrev pub Law : Fn → Type 2
-    Law e = (γ : Env) (key : Name) → γ callee-symbol.name ≡ callee-symbol.routine → Closed 𝓤 H (tables 𝓤 H 𝓜 𝓡 γ .C) (tables 𝓤 H 𝓜 𝓡 γ .Λ) key e → Meets 𝓤 H (𝓖 .A) S (𝓡 .run (γ key)) (promised 𝓤 S untold)
+    abbrev pub Law : (Name → Fn) → Type 2
+    Law e = (f : Name) (routine : Routine) → Meets 𝓤 H (𝓖 .A) callee.signature (𝓡 .run routine) (callee.spec 𝓤 H (𝓖 .A) (𝓜 .mem) (𝓡 .run))
+        → (γ : Env) (key : Name) → γ f ≡ routine → Closed 𝓤 H (tables 𝓤 H 𝓜 𝓡 γ .C) (tables 𝓤 H 𝓜 𝓡 γ .Λ) key (e f) → Meets 𝓤 H (𝓖 .A) S (𝓡 .run (γ key)) (promised 𝓤 S untold)
 
-    enters : (e : Fn) → Walks e → Law e
+    enters : (e : Name → Fn) → Walks e → Law e
     unfolding tablesOf
-    enters e walks γ key calls closed =
+    enters e walks f routine met γ key calls closed =
         let C : Calls 𝓤 H = tables 𝓤 H 𝓜 𝓡 γ .C in
         let Λ : Loops 𝓤 H = tables 𝓤 H 𝓜 𝓡 γ .Λ in
-        entered 𝓤 H Own C Λ key e closed (λ b.
+        entered 𝓤 H Own C Λ key (e f) closed (λ b.
         via 𝓤 (onEntry 𝓤 H (𝓖 .A) S (b .0 .0) (b .0 .1) (b .0 .3) (b .0 .4)) (fst∗ 𝓤 _ (emp 𝓤))
-        (said 𝓤 H (𝓖 .A) S (b .0 .0) (b .0 .1) (slice-vals, tt) (shr-slice-tells (named 0) (b .0 .0 .0) u8, tt) (b .0 .3) (λ us. WpFn 𝓤 H C Λ e (flat (typesAt (S .params) (b .0 .0)) us) (Own .post b)) (b .0 .4)
-        (λ are. walks C Λ (fmOf 𝓤 H (W .laws) (tablesOf 𝓤 H 𝓜 (tables 𝓤 H 𝓜 𝓡 γ))) (cited 𝓤 H Asked 𝓜 𝓡 γ callee-symbol.name callee-symbol.routine calls (callee-met.met 𝓤 H 𝓜 𝓖 𝓡))
+        (said 𝓤 H (𝓖 .A) S (b .0 .0) (b .0 .1) (slice-vals, tt) (shr-slice-tells (named 0) (b .0 .0 .0) u8, tt) (b .0 .3) (λ us. WpFn 𝓤 H C Λ (e f) (flat (typesAt (S .params) (b .0 .0)) us) (Own .post b)) (b .0 .4)
+        (λ are. walks f C Λ (fmOf 𝓤 H (W .laws) (tablesOf 𝓤 H 𝓜 (tables 𝓤 H 𝓜 𝓡 γ))) (cited 𝓤 H Asked 𝓜 𝓡 γ f routine calls met)
         (b .0 .0 .0) (b .0 .1 .0) (b .0 .3 .0) (shr-slice-lawful 𝓤 H (𝓖 .A) W (named 0) (b .0 .0 .0) u8 .typed (b .0 .3 .0) _ (are .0) .0))))
 
-  number-walk : Walks numberSlot (readFn (tyInt w32) 0 callee-symbol.name)
-  number-walk C Λ fm known κ q s wt =
-      qed W (raw (At numberSlot κ q s) ∷ []) ∵ enter ! C Λ (readFn (tyInt w32) 0 callee-symbol.name) (slice s ∷ []) _ $ alloc1 ! (λ l₀. alloc1 ! (λ l₁. alloc1 ! (λ l₂. alloc0 ! $ params1 ! $ pass1 ! (init ! 2 refl wt) $ pass0 ! $
+  number-walk : Walks numberSlot (readFn (tyInt w32) 0)
+  number-walk f C Λ fm known κ q s wt =
+      qed W (raw (At numberSlot κ q s) ∷ []) ∵ enter ! C Λ (readFn (tyInt w32) 0 f) (slice s ∷ []) _ $ alloc1 ! (λ l₀. alloc1 ! (λ l₁. alloc1 ! (λ l₂. alloc0 ! $ params1 ! $ pass1 ! (init ! 2 refl wt) $ pass0 ! $
       -- [room for _2; …; _1; …; room for _0; …; what there is at entry]
       move ! (6 ∷ []) $ takes numberSlot κ q s ! fm known (and-then ! (load ! (from ! (stop !)) (look ! 3 refl)) (no-more !)) (λ r. r .refusal) (λ r fits. land ! (from ! (stop !)) (init ! 3 refl fits) $ fsplit ! $ move ! (1 ∷ []) $ drop ! $
       assigns ! (of-opd ! (load ! (from ! (fld ! refl (stop !))) (look-in ! 3 (sub ! 0 refl (whole !))))) (from ! (stop !)) (init ! 7 refl (tt, fits .1 .0)) $ returns ! (look ! 7 refl) $ forget ! 3 refl $ forget ! 5 refl $ forget ! 7 refl $
       move ! (7 ∷ 8 ∷ []) $ free1 ! $ move ! (5 ∷ 6 ∷ []) $ free1 ! $ move ! (3 ∷ 4 ∷ []) $ free1 ! $ free0 ! $ by ! (exits numberSlot κ q s (r .refusal) _)))))
 
-  part-walk : Walks partSlot (readFn sliceParam 1 callee-symbol.name)
-  part-walk C Λ fm known κ q s wt =
-      qed W (raw (At partSlot κ q s) ∷ []) ∵ enter ! C Λ (readFn sliceParam 1 callee-symbol.name) (slice s ∷ []) _ $ alloc1 ! (λ l₀. alloc1 ! (λ l₁. alloc1 ! (λ l₂. alloc0 ! $ params1 ! $ pass1 ! (init ! 2 refl wt) $ pass0 ! $
+  part-walk : Walks partSlot (readFn sliceParam 1)
+  part-walk f C Λ fm known κ q s wt =
+      qed W (raw (At partSlot κ q s) ∷ []) ∵ enter ! C Λ (readFn sliceParam 1 f) (slice s ∷ []) _ $ alloc1 ! (λ l₀. alloc1 ! (λ l₁. alloc1 ! (λ l₂. alloc0 ! $ params1 ! $ pass1 ! (init ! 2 refl wt) $ pass0 ! $
       move ! (6 ∷ []) $ takes partSlot κ q s ! fm known (and-then ! (load ! (from ! (stop !)) (look ! 3 refl)) (no-more !)) (λ r. r .part) (λ r fits. land ! (from ! (stop !)) (init ! 3 refl fits) $ fsplit ! $ drop ! $ fsplit ! $ move ! (1 ∷ []) $ drop ! $
       assigns ! (of-opd ! (load ! (from ! (fld ! refl (stop !))) (look-in ! 3 (sub ! 1 refl (whole !))))) (from ! (stop !)) (init ! 7 refl (tt, fits .1 .1 .0)) $ returns ! (look ! 7 refl) $ forget ! 3 refl $ forget ! 5 refl $ forget ! 7 refl $
       move ! (7 ∷ 8 ∷ []) $ free1 ! $ move ! (5 ∷ 6 ∷ []) $ free1 ! $ move ! (3 ∷ 4 ∷ []) $ free1 ! $ free0 ! $ by ! (exits partSlot κ q s (r .part) _)))))
 
-  pub reads-number : Law numberSlot (readFn (tyInt w32) 0 callee-symbol.name)
-  reads-number = enters numberSlot (readFn (tyInt w32) 0 callee-symbol.name) number-walk
+  pub reads-number : Law numberSlot (readFn (tyInt w32) 0)
+  reads-number = enters numberSlot (readFn (tyInt w32) 0) number-walk
 
-  pub reads-part : Law partSlot (readFn sliceParam 1 callee-symbol.name)
-  reads-part = enters partSlot (readFn sliceParam 1 callee-symbol.name) part-walk
+  pub reads-part : Law partSlot (readFn sliceParam 1)
+  reads-part = enters partSlot (readFn sliceParam 1) part-walk

@@ -66,6 +66,18 @@ pub fn part(bam: &[u8]) -> &[u8] {
     cigar_raw_bytes(bam).part
 }
 
+pub fn true_cigar_raw_bytes<'a>(bam: &'a [u8]) -> Part<'a> {
+    RawRecordView::new(bam).true_cigar_raw_bytes()
+}
+
+pub fn true_part_refusal(bam: &[u8]) -> u32 {
+    true_cigar_raw_bytes(bam).refusal
+}
+
+pub fn true_part(bam: &[u8]) -> &[u8] {
+    true_cigar_raw_bytes(bam).part
+}
+
 pub fn reference_length(bam: &[u8]) -> Int {
     RawRecordView::new(bam).reference_length()
 }

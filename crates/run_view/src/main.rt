@@ -1,5 +1,5 @@
-// Runs each method of the view on document 01's record, in reverse, unmapped and at the ends of the range, and on short and damaged records. A record has five lines:
-// its fields; the part that holds its ops, and the number beside it; lengths and ends; its text, in 12 places; and its ops clipped at the start by 25, at the end by 5, by 0 and by 26, in 3 places.
+// Runs each method of the view on document 01's record, in reverse, unmapped and at the ends of the range, on short and damaged records, and on records with a placeholder. A record has six lines:
+// its fields; the part that holds its ops, and the number beside it; the part that holds its true list; lengths and ends; its text, in 12 places; and its ops clipped at the start by 25, at the end by 5, by 0 and by 26, in 3 places.
 mod asked;
 mod record;
 mod shown;
@@ -57,6 +57,17 @@ fn part(bam: &[u8]) {
     shown::end();
 }
 
+fn true_part(bam: &[u8]) {
+    shown::text(b"  true part, refusal ");
+    shown::natural(asked::true_part_refusal(bam) as u64);
+    let bytes = asked::true_part(bam);
+    shown::text(b", bytes ");
+    shown::natural(bytes.len() as u64);
+    shown::text(b":");
+    shown::bytes(bytes);
+    shown::end();
+}
+
 fn sums(bam: &[u8]) {
     shown::text(b"  reference ");
     shown::int(asked::reference_length(bam));
@@ -103,6 +114,7 @@ fn show(name: &[u8], bam: &[u8]) {
     numbers(bam);
     more_numbers(bam);
     part(bam);
+    true_part(bam);
     sums(bam);
     printed(bam);
     shown::text(b"  clipped ");
@@ -148,9 +160,28 @@ fn odd_ops() {
     show(b"8 of 268435455M and 8M", record::cut(&over, 72));
 }
 
+// A placeholder, 3S10N for three bases, and behind its bases and qualities a CG of 1M2S, whose type is I, or i (105).
+fn placeholder(numbers: u32) -> [u8; 96] {
+    let sized = record::with_word(record::new(99, 0, 2), 16, 3);
+    let held = record::with_word(record::with_word(sized, 36, 52), 40, 163);
+    let tagged = record::with_word(held, 49, 4343619 + 16777216 * (numbers % 256));
+    let counted = record::with_word(tagged, 53, 2);
+    record::with_word(record::with_word(counted, 57, 16), 61, 36)
+}
+
+fn long_lists() {
+    let r = placeholder(73);
+    show(b"3S10N, and 1M2S in CG", record::cut(&r, 65));
+    show(b"3S10N, and no tag", record::cut(&r, 49));
+    show(b"3S10N, and CG cut in its last op", record::cut(&r, 64));
+    let other = placeholder(105);
+    show(b"3S10N, and CG of type i", record::cut(&other, 65));
+}
+
 fn main() {
     whole();
     short();
     ends_of_the_range();
     odd_ops();
+    long_lists();
 }

@@ -11,7 +11,7 @@ use lib.ListN.{length}
 use Rattle.lists.specs.Lists.{sumOf}
 use Rattle.signed.specs.Whole.{twos32}
 use Rattle.sam.specs.Op.{isQuery, isRef, queryLen, refLen}
-use Rattle.sam.specs.Record.{refIdOf, posOf, nameLenOf, storedBinOf, opCountOf, flagsOf, seqLenOf, mateRefIdOf, matePosOf, templateLenOf, isPaired, isUnmapped, isMateUnmapped, isReverse, isMateReverse, opsStart, opsIn}
+use Rattle.sam.specs.Record.{refIdOf, posOf, nameLenOf, storedBinOf, opCountOf, flagsOf, seqLenOf, mateRefIdOf, matePosOf, templateLenOf, isPaired, isUnmapped, isMateUnmapped, isReverse, isMateReverse, opsStart, opsIn, basesStart, qualsStart, tagsStart}
 use Rattle.sam.specs.Placement.{WellPlaced}
 use Rattle.sam.specs.Text.{Digit, value, Spells, end, op}
 use Rattle.sam.specs.Bins.{firstOf, sizeOf, Holds}
@@ -49,6 +49,10 @@ flag-bits = (refl, refl, refl, refl, refl)
 pub its-ops : opsIn bytes (opsStart bytes) (opCountOf bytes) ≡ r001
 unfolding opsIn
 its-ops = refl
+
+-- 17 bases take nine bytes
+pub its-parts : (basesStart bytes ≡ 57) × (qualsStart bytes ≡ 66) × (tagsStart bytes ≡ 83)
+its-parts = (refl, refl, refl)
 
 -- the text 010M spells 10M
 pub ten-matches : Spells (48 ∷ 49 ∷ 48 ∷ 77 ∷ []) (160 ∷ [])

@@ -4,3 +4,5 @@ pub mod Columns
 pub mod Placement
 pub mod Text
 pub mod Bins
+pub mod Tags
+pub mod TagBytes

@@ -1,7 +1,7 @@
--- SAM specification 4.2 and 1.4.2: a record's layout behind its block size, all numbers little-endian; the bits of its flag; its ops.
+-- SAM specification 4.2 and 1.4.2: a record's layout behind its block size, all numbers little-endian; the bits of its flag; its ops; where its bases, qualities and tags begin.
 use Prim.Native.Nat.{ℕ, zero, suc, _+_, _*_, _/_, _%_}
 use mathlib.Core.Bool.{Bool}
-use mathlib.Core.List.{List, [], _∷_}
+use mathlib.Core.List.{List, [], _∷_, _++_}
 use lib.IntN.{ℤ}
 use lib.ListN.{length, getD}
 use lib.Dec.{ltb, eqb}
@@ -84,3 +84,22 @@ opsEnd b = opsStart b + 4 * opCountOf b
 unfoldable pub opsIn : List ℕ → ℕ → ℕ → List ℕ
 opsIn b at zero = []
 opsIn b at (suc n) = le32 b at ∷ opsIn b (at + 4) n
+
+-- behind the ops the bases, two to a byte, then the qualities, one a byte, and the tags to the record's end
+abbrev pub basesStart : List ℕ → ℕ
+basesStart b = opsEnd b
+
+abbrev pub qualsStart : List ℕ → ℕ
+qualsStart b = basesStart b + (seqLenOf b + 1) / 2
+
+abbrev pub tagsStart : List ℕ → ℕ
+tagsStart b = qualsStart b + seqLenOf b
+
+-- the bytes of a number of 32 bits
+abbrev pub uint32 : ℕ → List ℕ
+uint32 n = n % 256 ∷ n / 256 % 256 ∷ n / 256 / 256 % 256 ∷ n / 256 / 256 / 256 % 256 ∷ []
+
+-- and of ops
+unfoldable pub opBytes : List ℕ → List ℕ
+opBytes [] = []
+opBytes (o ∷ xs) = uint32 o ++ opBytes xs

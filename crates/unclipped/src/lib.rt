@@ -1,11 +1,14 @@
 // Document 01, module 7: unclipped ends of a record. Positions are counted from 0 in records, and from 1 in answers.
 ghost use mathlib.Core.Path.{_≡_};
-ghost use Rattle.ends_rules.specs.Ends.{toPlace0, asUnclipped, unclippedOf, unclippedFrom};
+ghost use mathlib.Core.List.{[]};
+ghost use Rattle.oplist.specs.Ops.{opsOf};
+ghost use Rattle.ends_rules.specs.Ends.{toPlace0, asUnclipped, unclippedBy, unclippedOf, unclippedFrom};
 use answers::Place0;
 use answers::Pos0;
 use answers::Pos1;
 use answers::Refusal;
 use ends_rules::Unclipped;
+use oplist::Ops;
 use signed::Sum;
 
 // An overflow is refusal 4.
@@ -39,13 +42,20 @@ pub fn unclipped_5prime_from_raw_bam(bam: &[u8]) -> Unclipped
         return Unclipped::Unmapped;
     }
     let list = oplist::of_record(bam);
+    unclipped_by(bam, list, fields::own_place(bam), fields::is_reverse(flags))
+}
+
+// The 5' position by an op list in a record, aligned at `pos`, or that it has no ops. Refusal 4.
+pub fn unclipped_by(bam: &[u8], list: Ops, pos: Pos0, reverse: bool) -> Unclipped
+    ensures { λ r. ⌜ r ≡ unclippedBy (opsOf [] (now (bam .entry)) list) pos reverse ⌝ }
+{
     if oplist::count(&[], bam, list) == 0 {
         return Unclipped::NoOps;
     }
-    let Sum::Number(at) = ends::plus_one(fields::own_place(bam)) else {
+    let Sum::Number(at) = ends::plus_one(pos) else {
         return Unclipped::Refused(Refusal::Overflow);
     };
-    if fields::is_reverse(flags) {
+    if reverse {
         return as_unclipped(end_sums::end_from(at, end_sums::tail_of(&[], bam, list)));
     }
     as_unclipped(end_sums::start_from(at, clip_runs::leading_clips(&[], bam, list, true)))

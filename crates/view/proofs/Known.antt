@@ -60,6 +60,9 @@ use Rattle.fields.proofs.template_length.Symbol as template-length-symbol
 use Rattle.fields.proofs.cigar_raw_bytes as cigar-raw-bytes
 use Rattle.fields.proofs.cigar_raw_bytes.Met as cigar-raw-bytes-met
 use Rattle.fields.proofs.cigar_raw_bytes.Symbol as cigar-raw-bytes-symbol
+use Rattle.true_cigar.proofs.true_cigar_raw_bytes as true-cigar-raw-bytes
+use Rattle.true_cigar.proofs.true_cigar_raw_bytes.Met as true-cigar-raw-bytes-met
+use Rattle.true_cigar.proofs.true_cigar_raw_bytes.Symbol as true-cigar-raw-bytes-symbol
 use Rattle.lengths.proofs.reference_length_from_raw_bam as reference-length-from-raw-bam
 use Rattle.lengths.proofs.reference_length_from_raw_bam.Met as reference-length-from-raw-bam-met
 use Rattle.lengths.proofs.reference_length_from_raw_bam.Symbol as reference-length-from-raw-bam-symbol
@@ -104,6 +107,7 @@ module _ {M : Type 1} (𝓤 : URA M) (H : Heap 𝓤) (𝓜 : Model 𝓤 H) (𝓖
       record { name = mate-pos-symbol.name; routine = mate-pos-symbol.routine; answer = enum 𝓤 H 𝓜 𝓖 Place0.the-type Place0′.the-laws tt; promise = λ κs a. mate-pos.spec 𝓤 H (𝓖 .A) (𝓜 .mem) (𝓡 .run) κs a .ensures tt; met = mate-pos-met.met 𝓤 H 𝓜 𝓖 𝓡 } ∷
       record { name = template-length-symbol.name; routine = template-length-symbol.routine; answer = enum 𝓤 H 𝓜 𝓖 Int.the-type Int′.the-laws tt; promise = λ κs a. template-length.spec 𝓤 H (𝓖 .A) (𝓜 .mem) (𝓡 .run) κs a .ensures tt; met = template-length-met.met 𝓤 H 𝓜 𝓖 𝓡 } ∷
       record { name = cigar-raw-bytes-symbol.name; routine = cigar-raw-bytes-symbol.routine; answer = part 𝓤 H 𝓜 𝓖; promise = λ κs a. cigar-raw-bytes.spec 𝓤 H (𝓖 .A) (𝓜 .mem) (𝓡 .run) κs a .ensures tt; met = cigar-raw-bytes-met.met 𝓤 H 𝓜 𝓖 𝓡 } ∷
+      record { name = true-cigar-raw-bytes-symbol.name; routine = true-cigar-raw-bytes-symbol.routine; answer = part 𝓤 H 𝓜 𝓖; promise = λ κs a. true-cigar-raw-bytes.spec 𝓤 H (𝓖 .A) (𝓜 .mem) (𝓡 .run) κs a .ensures tt; met = true-cigar-raw-bytes-met.met 𝓤 H 𝓜 𝓖 𝓡 } ∷
       record { name = reference-length-from-raw-bam-symbol.name; routine = reference-length-from-raw-bam-symbol.routine; answer = enum 𝓤 H 𝓜 𝓖 Int.the-type Int′.the-laws tt; promise = λ κs a. reference-length-from-raw-bam.spec 𝓤 H (𝓖 .A) (𝓜 .mem) (𝓡 .run) κs a .ensures tt; met = reference-length-from-raw-bam-met.met 𝓤 H 𝓜 𝓖 𝓡 } ∷
       record { name = query-length-symbol.name; routine = query-length-symbol.routine; answer = enum 𝓤 H 𝓜 𝓖 Count.the-type Count′.the-laws tt; promise = λ κs a. query-length.spec 𝓤 H (𝓖 .A) (𝓜 .mem) (𝓡 .run) κs a .ensures tt; met = query-length-met.met 𝓤 H 𝓜 𝓖 𝓡 } ∷
       record { name = cigar-lengths-symbol.name; routine = cigar-lengths-symbol.routine; answer = enum 𝓤 H 𝓜 𝓖 Lengths.the-type Lengths′.the-laws tt; promise = λ κs a. cigar-lengths.spec 𝓤 H (𝓖 .A) (𝓜 .mem) (𝓡 .run) κs a .ensures tt; met = cigar-lengths-met.met 𝓤 H 𝓜 𝓖 𝓡 } ∷

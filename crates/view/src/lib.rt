@@ -3,6 +3,7 @@ ghost use mathlib.Core.Path.{_≡_};
 ghost use Rattle.answers.specs.Settled.{Settled};
 ghost use Rattle.sam.specs.Record.{refIdOf, posOf, nameLenOf, storedBinOf, opCountOf, flagsOf, seqLenOf, mateRefIdOf, matePosOf, templateLenOf};
 ghost use Rattle.fields.specs.Fields.{intField, natField, posField, partRefusal, cigarPart};
+ghost use Rattle.true_rules.specs.True.{truePart, truePartRefusal};
 ghost use Rattle.lengths.specs.Lengths.{checkedRefLength, recordQueryLength, recordLengths};
 ghost use Rattle.ends_rules.specs.Ends.{unclippedOf, alignmentStart, alignmentEnd};
 ghost use Rattle.print_rules.specs.Text.{printed};
@@ -97,6 +98,13 @@ impl<'a> RawRecordView<'a> {
         ensures { λ r. ⌜ (r .refusal ≡ partRefusal (now (now (self .entry) .0))) × (now (r .part) ≡ cigarPart (now (now (self .entry) .0))) ⌝ }
     {
         fields::cigar_raw_bytes(self.0)
+    }
+
+    // The part of the record that holds its true op list, in its op area or in its tag CG: an empty part beside refusals 1, 2, 12, 13 and 3.
+    pub fn true_cigar_raw_bytes(&self) -> Part<'a>
+        ensures { λ r. ⌜ (r .refusal ≡ truePartRefusal (now (now (self .entry) .0))) × (now (r .part) ≡ truePart (now (now (self .entry) .0))) ⌝ }
+    {
+        true_cigar::true_cigar_raw_bytes(self.0)
     }
 
     pub fn reference_length(&self) -> Int
