@@ -11,6 +11,7 @@ pub mod LongRows
 pub mod BorderRows
 pub mod Settles
 pub mod Demand3
+pub mod Partners
 pub mod RoundTrip
 pub mod SamLaws
 pub mod ReadLaws

@@ -1,0 +1,4 @@
+pub mod Mirror
+pub mod PartnerLaws
+pub mod CallLaws
+pub mod Examples
