@@ -10,6 +10,8 @@
  *   12 behind a placeholder: bases, qualities or tags up to the first CG overrun the record, or a tag among these has no known type
  *   13 the tag CG is no array of unsigned 32-bit numbers (B of I)
  *   14 a start below 0, no block, or an N before the first or after the last block
+ *   15 clipping a record: its query length is not its l_seq, which is not 0
+ *   16 clipping a record: over 65,535 ops would be left
  *   17 CSI: min_shift or depth out of range 18 CSI: not 0 <= beg < end <= 2^(min_shift + 3 * depth)
  *   19 clipping: the amount is beyond what can be clipped
  * A call that cannot refuse returns its value.
@@ -22,7 +24,7 @@
  *
  * A flag as an argument is a byte: anything but 0 counts as 1. Positions are counted as each call says.
  *
- * The calls are in three archives, each said above its calls: link the ones that you need. libselvedgekite.so has all of them.
+ * The calls are in four archives, each said above its calls: link the ones that you need. libselvedgekite.so has all of them.
  */
 #ifndef CIGAR_H
 #define CIGAR_H
@@ -237,6 +239,16 @@ struct cigar_lookup cigar_long_read_pos_at_ref_pos_raw(const uint32_t *ops, size
 /* Clipping. Refusals 3, 8, 19, 6 */
 struct cigar_two cigar_long_clip_cigar_start_raw(const uint32_t *ops, size_t ops_len, uint64_t amount, uint32_t *out, size_t out_len);
 struct cigar_count cigar_long_clip_cigar_end_raw(const uint32_t *ops, size_t ops_len, uint64_t amount, uint32_t *out, size_t out_len);
+
+/* ======== libexports_records.a ======== */
+
+/* ---- clipped records: the whole record into out, with its ops clipped, its position moved by the reference bases lost at the start, its bin computed, and the bases
+ * and qualities removed that the ops lost; all else stays. Here a record that ends before its last quality is refused by 2, too */
+
+/* At the start: `first` is the bytes written and `second` the reference bases lost. Refusals 1, 2, 8, 19, 15, 16, 4, 6 */
+struct cigar_two cigar_clip_record_start(const uint8_t *rec, size_t rec_len, uint64_t amount, uint8_t *out, size_t out_len);
+/* At the end: the bytes written. Refusals 1, 2, 8, 19, 15, 16, 4, 6 */
+struct cigar_count cigar_clip_record_end(const uint8_t *rec, size_t rec_len, uint64_t amount, uint8_t *out, size_t out_len);
 
 #ifdef __cplusplus
 }

@@ -1,4 +1,4 @@
-"""What ./report and ./bed12 share: an input as it is stored, inflated block by block and gone through piece by piece; an output of which nothing that is not written goes
+"""What ./report, ./bed12 and ./clip share: an input as it is stored, inflated block by block and gone through piece by piece; an output of which nothing that is not written goes
 unnoticed; progress on a terminal; whether what is proved is built; and the words on standard error with the exit status."""
 import collections
 import concurrent.futures
@@ -10,6 +10,7 @@ import select
 import shlex
 import stat
 import struct
+import subprocess
 import sys
 import time
 import zlib
@@ -99,6 +100,25 @@ def build(what, files, names, make):
             fcntl.flock(lock, fcntl.LOCK_EX)
         if not is_built(files, names):
             make(lock)
+
+
+LIBRARIES = os.path.join(TARGET, 'libraries', 'x86_64' if os.uname().machine == 'x86_64' else 'native')
+ARCHIVES = ('exports', 'exports_reads', 'exports_long', 'exports_records')
+
+
+def prove_libraries(lock):
+    """Proves and builds the library of the calls."""
+    if subprocess.run([os.path.join(TOP, 'build-libraries')], stdin=subprocess.DEVNULL, stdout=subprocess.DEVNULL, pass_fds=[lock.fileno()]).returncode:
+        raise Failed('the library of the calls was not built: target/libraries.log says why')
+
+
+def calls():
+    """The binding, over the library, which is built where it has to be."""
+    if 'SELVEDGEKITE_LIB' not in os.environ:
+        build('the libraries', [os.path.join(LIBRARIES, f'lib{name}') for name in (*(f'{crate}.a' for crate in ARCHIVES), 'selvedgekite.so')], ARCHIVES, prove_libraries)
+    sys.path.insert(0, os.path.join(TOP, 'bindings', 'python'))
+    import selvedgekite
+    return selvedgekite
 
 
 # ---- the input, as it is stored
@@ -360,6 +380,41 @@ def read_name(data, at, size, length):
     return data[at + 32:at + min(size, 32 + length)].split(b'\0', 1)[0].translate(READABLE) or b'*'
 
 
+MOST = 1 << 28  # bytes of a record; more is no record
+
+
+def at_hand(stream):
+    """The records that are at hand, and how many bytes the next one lacks; 0 where it is no record."""
+    data, at, found = stream.data, stream.at, []
+    while at + 4 <= len(data):
+        size, = NUMBER(data, at)
+        if size > MOST:
+            stream.at = at
+            return found, 0
+        if at + 4 + size > len(data):
+            break
+        found.append(data[at + 4:at + 4 + size])
+        at += 4 + size
+    stream.at = at
+    lacks = at + 4 - len(data)
+    return found, lacks if lacks > 0 else at + 4 + NUMBER(data, at)[0] - len(data)
+
+
+def records(stream):
+    """The records of a BAM file behind its head, some at a time."""
+    count = 0
+    while True:
+        found, lacks = at_hand(stream)
+        count += len(found)
+        yield found
+        if not lacks:
+            raise Damaged(f'it is damaged: record {count + 1:,} would have {NUMBER(stream.data, stream.at)[0]:,} bytes')
+        if not stream.more(lacks):
+            break
+    if stream.at < len(stream.data):
+        raise Damaged(f'it was cut off: it ends inside record {count + 1:,}')
+
+
 # ---- the answer
 
 
@@ -388,10 +443,10 @@ class Output:
 class Progress:
     """A line on a terminal, while an input takes longer than a second: bytes read, records a second, time left."""
 
-    def __init__(self, source):
+    def __init__(self, source, prints=True):
         self.source, self.records, self.shown = source, 0, 0
         self.start = time.monotonic()
-        self.on = os.isatty(2) and not os.isatty(1)
+        self.on = os.isatty(2) and not (prints and os.isatty(1))
 
     def more(self, records):
         if not self.on:
@@ -428,6 +483,31 @@ def kind_in_words(name, begins):
     if begins.startswith((b'BAI\1', b'CSI\1')):
         return 'it is the index of a BAM file: give the BAM file itself'
     return ''
+
+
+def no_bam(name, begins):
+    """What an input is that has no whole head of a BAM file."""
+    if b'BAM\1'.startswith(begins[:4]) and begins:
+        return 'it was cut off: it ends inside its head'
+    if begins.startswith(b'CGR'):
+        return 'it is a stream of records, which has no head and no names of references: give the BAM file'
+    return kind_in_words(name, begins) or 'it is no BAM file'
+
+
+def gone_through(source, go, prints=True):
+    """Has `go` go through a BAM file; what is wrong with it, nothing where it was gone through to its end."""
+    stream, progress, begins = Stream(opened(source)[1]), Progress(source, prints), b''
+    try:
+        stream.more(512)
+        begins = stream.data[:512]
+        go(stream, progress)
+        return ''
+    except Short:
+        return no_bam(source.name, begins)
+    except Damaged as error:
+        return str(error)
+    finally:
+        progress.end()
 
 
 # ---- the command

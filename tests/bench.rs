@@ -310,8 +310,41 @@ fn long(n: usize, random: &mut Random) {
     row("true_clip_cigar_start", n, "a lent list", |i| { let _ = black_box(port::long_clip_cigar_start_raw(&l[i % FEW], 7, &mut out)); }, |i| { let _ = black_box(port::true_clip_cigar_start(&r[i % FEW], 7, &mut other)); });
 }
 
+/// A record with its bases, qualities and two tags, whose ops are M with a D between each two of them.
+fn whole(random: &mut Random, ops: usize, bases: usize) -> Vec<u8> {
+    let each = bases / ops.div_ceil(2);
+    let list: Vec<u32> = (0..ops).map(|i| if i % 2 == 1 { 1 << 4 | 2 } else if i + 1 == ops { ((bases - each * (ops / 2)) as u32) << 4 } else { (each as u32) << 4 }).collect();
+    let mut r = record(random, &list, false, 2000);
+    r[16..20].copy_from_slice(&(bases as u32).to_le_bytes());
+    r.extend((0..bases.div_ceil(2) + bases).map(|_| random.below(256) as u8));
+    r.extend_from_slice(b"NMC\x05RGZgroup\0");
+    r
+}
+
+/// A clipped record, beside a copy of the same record whose bin is computed, by memcpy and by the port's own call; even and odd numbers of bases lost, at both ends.
+fn written(bases: usize, every: usize, random: &mut Random) {
+    const FEW: usize = 16;
+    let ops = (bases / every).max(1) | 1;
+    let r: Vec<Vec<u8>> = (0..FEW).map(|_| whole(random, ops, bases)).collect();
+    let (mut copy, mut out) = (vec![0u8; r[0].len()], vec![0u8; r[0].len() + 8]);
+    let kind = if every > bases { "1 op".to_owned() } else { format!("an op for {every} bases") };
+    for (parity, lost) in [("even", bases / 100 * 2 + 4), ("odd", bases / 100 * 2 + 5)] {
+        let mut beside = |call: &str, clip: &mut dyn FnMut(&[u8])| {
+            let copied = |i: usize| { copy.copy_from_slice(&r[i % FEW]); let _ = black_box(port::set_bin_from_raw_bam(&mut copy)); };
+            row(&format!("{call}, {parity}, {kind}"), bases, "a copy and its bin", copied, |i| clip(&r[i % FEW]));
+        };
+        beside("clip_record_start", &mut |x| { black_box(port::clip_record_start(x, lost, &mut out)).unwrap(); });
+        beside("clip_record_end", &mut |x| { black_box(port::clip_record_end(x, lost, &mut out)).unwrap(); });
+    }
+}
+
 fn main() {
     let random = &mut Random(7);
+    for bases in [150, 1000, 100_000] {
+        for every in [usize::MAX, 50, 10] {
+            written(bases, every, random);
+        }
+    }
     for n in [10, 100, 10_000, 65_535, 1_000_000] {
         long(n, random);
     }

@@ -27,6 +27,8 @@ WORDS = {
     12: 'behind a placeholder, bases, qualities or tags overrun the record, or a tag has no known type',
     13: 'the tag CG is no array of unsigned 32-bit numbers',
     14: 'no blocks: a start below 0, no block, or an N before the first or after the last',
+    15: 'clipping a record: its query length is not its l_seq',
+    16: 'clipping a record: over 65,535 ops would be left',
     17: 'CSI bins: min_shift outside 10 to 20, or depth outside 1 to 8',
     18: 'CSI bins: not 0 <= beg < end <= 2^(min_shift + 3 * depth)',
     19: 'clipping: the amount is beyond what can be clipped',
@@ -121,6 +123,8 @@ DECLARED = [
     (Count, OPS + [c_uint64] + OPS, 'clip_cigar_end_raw long_clip_cigar_end_raw'),
     (Two, BYTES + [c_uint64] + OPS, 'clip_cigar_start true_clip_cigar_start'),
     (Count, BYTES + [c_uint64] + OPS, 'clip_cigar_end true_clip_cigar_end'),
+    (Two, BYTES + [c_uint64] + ROOM, 'clip_record_start'),
+    (Count, BYTES + [c_uint64] + ROOM, 'clip_record_end'),
     (Blocks, [c_int32] + OPS + OPS + OPS, 'bed_blocks'),
     (Flag, BYTES + BYTES, 'is_primary_fr_pair_raw'),
     (Count, BYTES + BYTES, 'num_bases_extending_past_mate_vs_mate_raw'),
@@ -228,9 +232,8 @@ def _lookup(answer):
     return _found(answer), answer.examined
 
 
-def _filled(call, *arguments, kind=c_uint32, outputs=1):
+def _filled(call, *arguments, kind=c_uint32, outputs=1, places=64):
     """The answer of a call that fills outputs, and the outputs: room is lent until it is enough."""
-    places = 64
     while True:
         out = [(kind * places)() for _ in range(outputs)]
         answer = call(*arguments, *(word for each in out for word in (each, places)))
@@ -625,3 +628,20 @@ def long_clip_cigar_start_raw(ops, clip_amount):
 def long_clip_cigar_end_raw(ops, clip_amount):
     """`clip_cigar_end_raw` of a list of up to 1,048,576 ops."""
     return _list(C.cigar_long_clip_cigar_end_raw, *_ops(ops), _u64(clip_amount))
+
+
+# ---- clipped records
+
+
+def clip_record_start(bam, clip_amount):
+    """The record clipped at the start, as bytes, and the reference bases lost."""
+    data, n = _record(bam)
+    answer, out = _filled(C.cigar_clip_record_start, data, n, _u64(clip_amount), kind=c_uint8, places=n + 4)
+    return bytes(memoryview(out)[:answer.first]), answer.second
+
+
+def clip_record_end(bam, clip_amount):
+    """The record clipped at the end, as bytes."""
+    data, n = _record(bam)
+    answer, out = _filled(C.cigar_clip_record_end, data, n, _u64(clip_amount), kind=c_uint8, places=n + 4)
+    return bytes(memoryview(out)[:answer.value])

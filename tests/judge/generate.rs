@@ -1,6 +1,7 @@
 //! Seeded request lines over every call: short lists and texts exhaustively, boundaries, damaged and truncated records, rooms full and short.
 
 mod long;
+mod record;
 
 use crate::csi;
 use crate::protocol::{put_hex, put_list, put_number, put_signed};
@@ -91,7 +92,8 @@ pub fn all(seed: u64, size: u64, emit: &mut dyn FnMut(&[u8]) -> Done) -> Done {
     out.csi_edges()?;
     out.csi_ranges()?;
     out.csi_random()?;
-    out.long()
+    out.long()?;
+    out.whole_records()
 }
 
 // ---- ops, lists and texts

@@ -7,6 +7,7 @@ mod csi;
 mod generate;
 mod oracle;
 mod protocol;
+mod record;
 mod rules;
 mod tags;
 

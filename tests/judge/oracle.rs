@@ -4,7 +4,7 @@
 
 use crate::protocol::{FILL_BYTES, FILL_OPS, Reply, Said, Words, split};
 use crate::rules::{self, MOST_LONG_OPS, MOST_OPS};
-use crate::{bed, csi, tags};
+use crate::{bed, csi, record, tags};
 use original::cigar::{self, CigarKind, CigarOp};
 use original::fields::{self, RawRecordView};
 use original::{bin, overlap};
@@ -334,13 +334,11 @@ fn look_up(words: &mut Words, limit: usize) -> Option<Reply> {
     })
 }
 
-/// A clip at an end, past 3 (1 for a record) and 8: the original has both ends in one call, and counts 0 at the end, which isn't told.
-fn clipped(beyond: Option<u8>, start: bool, original: impl FnOnce() -> (Vec<u32>, usize)) -> Result<(Vec<u32>, Said), Said> {
-    let (list, lost) = fold(beyond, hold(None, original))?;
-    match lost {
-        _ if start => Ok((list.clone(), Said::Values(vec![count(list.len()), count(lost)]))),
-        0 => Ok(counted(list)),
-        _ => Err(Said::Mismatch(format!("the original counts {lost} at the end"))),
+/// A clip at an end, past 3 (1 for a record) and 8: the list, and the count. The original has both ends in one call, and counts 0 at the end.
+fn clip(beyond: Option<u8>, start: bool, original: impl FnOnce() -> (Vec<u32>, usize)) -> Result<(Vec<u32>, usize), Said> {
+    match fold(beyond, hold(None, original))? {
+        (_, lost) if !start && lost != 0 => Err(Said::Mismatch(format!("the original counts {lost} at the end"))),
+        clipped => Ok(clipped),
     }
 }
 
@@ -353,6 +351,17 @@ fn clip_list(list: &[u32], amount: u64, start: bool) -> Result<(Vec<u32>, Said),
 }
 
 /// A lent list clipped, refused by 3 above its limit.
+/// What is told of one: the count at the start alone.
+fn told(written: usize, lost: usize, start: bool) -> Said {
+    Said::Values(if start { vec![count(written), count(lost)] } else { vec![count(written)] })
+}
+
+fn clipped(beyond: Option<u8>, start: bool, original: impl FnOnce() -> (Vec<u32>, usize)) -> Result<(Vec<u32>, Said), Said> {
+    let (list, lost) = clip(beyond, start, original)?;
+    let values = told(list.len(), lost, start);
+    Ok((list, values))
+}
+
 fn clip_raw(words: &mut Words, limit: usize, start: bool) -> Option<Reply> {
     let (list, amount, room) = (words.list()?, words.u64()?, words.room()?);
     words.done()?;
@@ -594,8 +603,31 @@ fn true_clip(words: &mut Words, start: bool) -> Option<Reply> {
     lend(room, FILL_OPS, true_ops(&record).and_then(|list| clip_list(&list, amount, start)))
 }
 
+// ---- document 02, item 8: the record is taken apart and put together by `record`; the ops are clipped, and the bin is computed, by the original
+
+/// The clipped record and the count; 1, 2, 8, 19, 15, 16, 4.
+pub fn clipped_record(bytes: &[u8], amount: u64, start: bool) -> Result<(Vec<u8>, usize), Said> {
+    let parts = record::apart(bytes).map_err(Said::Refusal)?;
+    if let Some(n) = rules::too_long(&parts.ops) {
+        return Err(Said::Refusal(n));
+    }
+    let beyond = rules::beyond(&parts.ops, amount, start);
+    let (ops, lost) = clip(beyond, start, || cigar::clip_cigar_ops_raw(&parts.ops, amount as usize, start))?;
+    let mut written = record::clipped(&parts, &ops, lost, start).map_err(Said::Refusal)?;
+    let bin = hold(rules::bin_overflows(&written), || bin::bin_from_raw_bam(&written))?;
+    written[10..12].copy_from_slice(&bin.to_le_bytes());
+    Ok((written, lost))
+}
+
+fn write_clipped(words: &mut Words, start: bool) -> Option<Reply> {
+    let (bytes, amount, room) = (words.bytes()?, words.u64()?, words.room()?);
+    words.done()?;
+    let answer = clipped_record(&bytes, amount, start).map(|(written, lost)| (bytes_as_list(&written), told(written.len(), lost, start)));
+    lend(room, FILL_BYTES.into(), answer)
+}
+
 /// Every call of the protocol, in its order.
-pub const CALLS: [(&str, Call); 68] = [
+pub const CALLS: [(&str, Call); 70] = [
     ("ref_id", |w| of_record(w, never, fields::ref_id, one)),
     ("pos", |w| of_record(w, never, fields::pos, one)),
     ("l_read_name", |w| of_record(w, never, fields::reach::l_read_name, one)),
@@ -664,6 +696,8 @@ pub const CALLS: [(&str, Call); 68] = [
     ("long_clip_cigar_end_raw", |w| clip_raw(w, MOST_LONG_OPS, false)),
     ("csi_reg2bin", csi_reg2bin),
     ("csi_reg2bins", csi_reg2bins),
+    ("clip_record_start", |w| write_clipped(w, true)),
+    ("clip_record_end", |w| write_clipped(w, false)),
 ];
 
 /// The answer to a request, or none for a bad one.

@@ -28,6 +28,11 @@ pub fn reference_total(ops: &[u32]) -> i64 {
     ops.iter().filter(|&&op| is_reference(op)).map(|&op| length(op)).sum()
 }
 
+/// Of M, I, S, = and X.
+pub fn query_total(ops: &[u32]) -> i64 {
+    ops.iter().filter(|&&op| [0, 1, 4, 7, 8].contains(&code(op))).map(|&op| length(op)).sum()
+}
+
 /// 1: a record has under 32 bytes.
 pub fn too_short(record: &[u8]) -> Option<u8> {
     (record.len() < SHORTEST_RECORD).then_some(1)

@@ -38,6 +38,10 @@ pub enum Refusal {
     OtherCg = 13,
     /// Blocks: a start below 0, no block, or an N before the first or after the last block.
     NoBlocks = 14,
+    /// Clipping a record: its query length is not its l_seq, which is not 0.
+    QueryDiffers = 15,
+    /// Clipping a record: over 65,535 ops would be left.
+    CountOver = 16,
     /// CSI bins: min_shift outside 10 to 20, or depth outside 1 to 8.
     BadLevels = 17,
     /// CSI bins: the region is empty, begins below 0 or ends past the levels.
@@ -60,6 +64,8 @@ const REFUSALS: &[(Refusal, &str)] = &[
     (Refusal::BadTags, "behind a placeholder, bases, qualities or tags overrun the record, or a tag has no known type"),
     (Refusal::OtherCg, "the tag CG is no array of unsigned 32-bit numbers"),
     (Refusal::NoBlocks, "no blocks: a start below 0, no block, or an N before the first or after the last"),
+    (Refusal::QueryDiffers, "clipping a record: its query length is not its l_seq"),
+    (Refusal::CountOver, "clipping a record: over 65,535 ops would be left"),
     (Refusal::BadLevels, "CSI bins: min_shift outside 10 to 20, or depth outside 1 to 8"),
     (Refusal::BadRegion, "CSI bins: not 0 <= beg < end <= 2^(min_shift + 3 * depth)"),
     (Refusal::AmountBeyond, "clipping: the amount is beyond what can be clipped"),
@@ -626,4 +632,16 @@ pub fn csi_reg2bin(beg: i64, end: i64, min_shift: u32, depth: u32) -> Result<u32
 #[inline]
 pub fn csi_reg2bins(beg: i64, end: i64, min_shift: u32, depth: u32, out: &mut [u32]) -> Result<usize, Refusal> {
     count(unsafe { raw::cigar_csi_reg2bins(beg, end, min_shift, depth, out.as_mut_ptr(), out.len()) })
+}
+
+/// The record clipped at the start into the first places of `out`; the bytes written, and the reference bases lost.
+#[inline]
+pub fn clip_record_start(bam: &[u8], clip_amount: usize, out: &mut [u8]) -> Result<(usize, usize), Refusal> {
+    two(unsafe { raw::cigar_clip_record_start(bam.as_ptr(), bam.len(), clip_amount as u64, out.as_mut_ptr(), out.len()) })
+}
+
+/// The record clipped at the end into the first places of `out`; the bytes written.
+#[inline]
+pub fn clip_record_end(bam: &[u8], clip_amount: usize, out: &mut [u8]) -> Result<usize, Refusal> {
+    count(unsafe { raw::cigar_clip_record_end(bam.as_ptr(), bam.len(), clip_amount as u64, out.as_mut_ptr(), out.len()) })
 }

@@ -134,4 +134,6 @@ extern "C" {
     pub fn cigar_long_read_pos_at_ref_pos_raw(ops: *const u32, ops_len: usize, start: u64, position: u64, last_base_if_deleted: u8) -> Lookup;
     pub fn cigar_long_clip_cigar_start_raw(ops: *const u32, ops_len: usize, amount: u64, out: *mut u32, out_len: usize) -> Two;
     pub fn cigar_long_clip_cigar_end_raw(ops: *const u32, ops_len: usize, amount: u64, out: *mut u32, out_len: usize) -> Count;
+    pub fn cigar_clip_record_start(rec: *const u8, rec_len: usize, amount: u64, out: *mut u8, out_len: usize) -> Two;
+    pub fn cigar_clip_record_end(rec: *const u8, rec_len: usize, amount: u64, out: *mut u8, out_len: usize) -> Count;
 }

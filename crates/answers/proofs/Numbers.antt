@@ -6,7 +6,7 @@ use native.Mathlib.Omega.{arith}
 use borrow.Author.Tests.{ne-eqb}
 use lib.Dec.{eqb}
 use Rattle.answers.specs.declared.Refusal.{Refusal}
-use Rattle.answers.specs.declared.Refusal.the-variants.{ShortRecord, AreaOverrun, TooManyOps, Overflow, NotACigar, NoRoom, BadCode, TooLong, BadStart, BadLength, AmountBeyond, BadLevels, BadRegion, NoBlocks, BadTags, OtherCg}
+use Rattle.answers.specs.declared.Refusal.the-variants.{ShortRecord, AreaOverrun, TooManyOps, Overflow, NotACigar, NoRoom, BadCode, TooLong, BadStart, BadLength, AmountBeyond, BadLevels, BadRegion, NoBlocks, QueryDiffers, CountOver, BadTags, OtherCg}
 use Rattle.answers.specs.Answers.{numberOf}
 
 pub from-one : (why : Refusal) → numberOf why ≡ suc (numberOf why - 1)
@@ -23,6 +23,8 @@ from-one BadLength = refl
 from-one BadTags = refl
 from-one OtherCg = refl
 from-one NoBlocks = refl
+from-one QueryDiffers = refl
+from-one CountOver = refl
 from-one BadLevels = refl
 from-one BadRegion = refl
 from-one AmountBeyond = refl

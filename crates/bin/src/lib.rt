@@ -85,7 +85,7 @@ fn span_of(n: i32) -> i32
 }
 
 // The bin of a region of n bases, at least 1. Refusal 4.
-fn bin_from(beg: Pos0, n: i32) -> Nat
+pub fn bin_from(beg: Pos0, n: i32) -> Nat
     ensures { λ r. ⌜ r ≡ binFrom (beg .0) (Number n) ⌝ }
 {
     match signed::checked_add(beg.0, span_of(n)) {

@@ -118,7 +118,7 @@ pub fn clip_end(
 }
 
 // An answer without its count.
-fn without_count(answer: Clipped) -> Count
+pub fn without_count(answer: Clipped) -> Count
     ensures { λ r. ⌜ r ≡ uncounted answer ⌝ }
 {
     match answer {

@@ -145,7 +145,7 @@ module _ {limit : ℕ} (xs : List ℕ) (start : Bool) (T : Takes limit xs) where
   seen = shaped-facing start xs (T .shape)
 
   -- demand 3's amounts are those that can be clipped
-  most-is : most (T .shape) start ≡ clippable xs start
+  pub most-is : most (T .shape) start ≡ clippable xs start
   unfolding clippable
   most-is = let r = shaped-reads (T .shape) in omega arith
 
@@ -154,7 +154,7 @@ module _ {limit : ℕ} (xs : List ℕ) (start : Bool) (T : Takes limit xs) where
   beyond-is a = some-beyond xs a start (λ e. let l = length-facing start xs in shaped-runs seen .some (omega arith)) ∙ ap (λ (n : ℕ). ltb n a) (sym most-is)
 
   module _ (a : ℕ) where
-    small-ops : (length (clippedOps xs a start) ≤ length xs + 1) × (sumOf lenOf (clippedOps xs a start) ≤ sumOf lenOf xs)
+    pub small-ops : (length (clippedOps xs a start) ≤ length xs + 1) × (sumOf lenOf (clippedOps xs a start) ≤ sumOf lenOf xs)
     small-ops =
         let m = small (facing start xs) seen a in
         let p = length-facing start xs in
@@ -182,7 +182,7 @@ module _ {limit : ℕ} (xs : List ℕ) (start : Bool) (T : Takes limit xs) where
         }
 
     -- what can be clipped after it is no less
-    still : clippable xs start ≤ clippable (clippedOps xs a start) start
+    pub still : clippable xs start ≤ clippable (clippedOps xs a start) start
     unfolding clippable
     still =
         let p = still-clippable (shaped-runs seen) a in
@@ -205,7 +205,7 @@ module _ {limit : ℕ} (xs : List ℕ) (start : Bool) (T : Takes limit xs) where
           ∙ survives-facing start (clippedOps xs a start)
           ∙ F .survivor)
 
-      rule-twice : (clippedOps (clippedOps xs a start) b start ≡ clippedOps xs b start) × (clippedCount xs a start + clippedCount (clippedOps xs a start) b start ≡ clippedCount xs b start)
+      pub rule-twice : (clippedOps (clippedOps xs a start) b start ≡ clippedOps xs b start) × (clippedCount xs a start + clippedCount (clippedOps xs a start) b start ≡ clippedCount xs b start)
       unfolding clippedOps clippedCount
       rule-twice =
           let t = twice (shaped-runs seen) a b (F .le) headed (F .apart) in

@@ -8,6 +8,7 @@ pub mod ClipRows
 pub mod BedRows
 pub mod OverlapRows
 pub mod LongRows
+pub mod RecordRows
 pub mod BorderRows
 pub mod Settles
 pub mod Demand3
@@ -16,6 +17,7 @@ pub mod RoundTrip
 pub mod SamLaws
 pub mod ReadLaws
 pub mod LongLaws
+pub mod RecordLaws
 pub mod BedLaws
 pub mod CsiLaws
 pub mod AsBefore

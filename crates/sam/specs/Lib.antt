@@ -6,3 +6,5 @@ pub mod Text
 pub mod Bins
 pub mod Tags
 pub mod TagBytes
+pub mod Bases
+pub mod Parts

@@ -6,7 +6,7 @@ use mathlib.Core.Bool.{Bool, true, false, not, cond}
 use mathlib.Core.Logic.{_⊎_, inl, inr}
 use native.Mathlib.Omega.{arith}
 use lib.IntN.{ℤ, pos, negsuc, subℕ, negℤ, _+ℤ_, _-ℤ_, natAbs}
-use Rattle.signed.specs.Whole.{raised, natural, twos64}
+use Rattle.signed.specs.Whole.{raised, natural, twos32, twos64, bits32}
 use lib.Dec.{T, ltb, ltb→lt, nltb→le}
 use lib.Signed.{leZ, ltZ, nonNeg}
 use borrow.Author.Tests.{lt-ltb, le-ltb, le-leb, lt-leb, leb-true, leb-false, ltb-true, ltb-false}
@@ -207,3 +207,20 @@ pub bits-raised : (z : ℤ) → SFits w32 z → (raised z + 18446744071562067968
 unfolding raised
 bits-raised (pos n) f = omega (arith, f .sfits)
 bits-raised (negsuc n) f = omega (arith, f .sfits)
+
+-- the 32 bits likewise, and read back
+pub bits32-raised : (z : ℤ) → SFits w32 z → (raised z + 2147483648) % 2 ^ 32 ≡ bits32 z
+unfolding raised
+bits32-raised (pos n) f = omega (arith, f .sfits)
+bits32-raised (negsuc n) f = omega (arith, f .sfits)
+
+pub bits32-back : (z : ℤ) → SFits w32 z → twos32 (bits32 z) ≡ z
+unfolding twos32
+bits32-back (pos n) f = simp (lt-ltb n 2147483648 (omega (arith, f .sfits)))
+bits32-back (negsuc n) f =
+    simp (le-ltb (4294967295 - n) 2147483648 (omega (arith, f .sfits)))
+    (same (subℕ (4294967295 - n) 4294967296) (negsuc n) (omega (arith, less (4294967295 - n) 4294967296, f .sfits)))
+
+pub bits32-below : (z : ℤ) → SFits w32 z → bits32 z < 4294967296
+bits32-below (pos n) f = omega (arith, f .sfits)
+bits32-below (negsuc n) f = omega arith

@@ -1,15 +1,18 @@
 -- Which case of `sideOf`, `checked` and `clamp32` a number is in, from facts of its halves; and that sums of two i32 fit an i64.
 use Prim.Native.Nat.{_+_, _≤_, _<_}
-use mathlib.Core.Path.{_≡_, ap, _∙_}
+use mathlib.Core.Path.{_≡_, refl, sym, ap, subst⁻¹, _∙_}
+use mathlib.Core.Bool.{Bool, true, false, cond}
 use native.Mathlib.Omega.{arith}
 use lib.IntN.{ℤ, pos, negsuc, _+ℤ_, _-ℤ_}
+use lib.Signed.{ltZ}
 use mir.Syntax.{w32, w64}
 use mir.Val.{SFits, toZ, ofZ}
 use mir.Facts.{toZ-ofZ, sfits-widen}
 use Rattle.signed.specs.declared.Side.the-variants.{Below, Within, Above}
+use Rattle.signed.specs.declared.Sum.{Sum}
 use Rattle.signed.specs.declared.Sum.the-variants.{Number, Over}
 use Rattle.signed.specs.Whole.{sideOf, sumAt, nearest, checked, clamp32}
-use Rattle.signed.proofs.Halves.{up, dn, plus, minus, ltℤ, geℤ, sfits64, top32, low32}
+use Rattle.signed.proofs.Halves.{up, dn, plus, minus, ltℤ, geℤ, is-ge, sfits32, sfits64, top32, low32}
 
 module _ (z : ℤ) where
   pub side-in : up z < dn z + 2147483648 → dn z ≤ up z + 2147483648 → sideOf z ≡ Within z
@@ -72,3 +75,25 @@ module _ (op : ℤ → ℤ → ℤ) (holds : (a b : ℤ) → SFits w32 a → SFi
 
   pub wide-back : toZ w64 (ofZ w64 (op (widened a) (widened b))) ≡ op a b
   wide-back = simp (wide-is a f, wide-is b g) (toZ-ofZ (holds a b f g))
+
+-- ---- a sum that fits is the number, and an i32 holds it
+
+abbrev numberIn : Sum → ℤ → ℤ
+numberIn (Number z) y = z
+numberIn Over y = y
+
+abbrev Fitting : Sum → Type 0
+Fitting (Number z) = Unit {0}
+Fitting Over = ⊥
+
+pub checked-number : (z y : ℤ) → checked z ≡ Number y → (y ≡ z) × SFits w32 z
+unfolding checked sideOf
+checked-number z y e = go (ltZ z (negsuc 2147483647)) refl (ltZ (pos 2147483647) z) refl e
+  where
+    go : (p : Bool) → ltZ z (negsuc 2147483647) ≡ p → (q : Bool) → ltZ (pos 2147483647) z ≡ q → sumAt (cond p Below (cond q Above (Within z))) ≡ Number y → (y ≡ z) × SFits w32 z
+    go true f q g e = absurd (subst⁻¹ Fitting e tt)
+    go false f true g e = absurd (subst⁻¹ Fitting e tt)
+    go false f false g e =
+        let h = is-ge z (negsuc 2147483647) f in
+        let k = is-ge (pos 2147483647) z g in
+        (ap (λ (s : Sum). numberIn s z) (sym e), sfits32 z (omega arith) (omega arith))

@@ -18,6 +18,11 @@ abbrev pub twos64 : ℤ → ℕ
 twos64 (pos n) = n
 twos64 (negsuc n) = 18446744073709551615 - n
 
+-- and the 32 bits
+abbrev pub bits32 : ℤ → ℕ
+bits32 (pos n) = n
+bits32 (negsuc n) = 4294967295 - n
+
 -- z + 2^31, for a z of an i32
 unfoldable pub raised : ℤ → ℕ
 raised (pos n) = n + 2147483648

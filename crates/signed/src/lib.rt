@@ -3,7 +3,7 @@ ghost use mathlib.Core.Path.{_≡_};
 ghost use Prim.Native.Nat.{_<_};
 ghost use lib.IntN.{_+ℤ_, _-ℤ_};
 ghost use Rattle.signed.specs.Equal.{eqℤ};
-ghost use Rattle.signed.specs.Whole.{twos32, twos64, raised, natural, sideOf, checked, clamp32};
+ghost use Rattle.signed.specs.Whole.{twos32, twos64, bits32, raised, natural, sideOf, checked, clamp32};
 
 // Where a number lies: below the range of an i32, within it, or above it.
 pub enum Side {
@@ -62,6 +62,13 @@ pub fn bits64(x: i32) -> u64
     ensures { λ r. ⌜ r ≡ twos64 x ⌝ }
 {
     std::num::wrapping_add_u64(raise(x), 18446744071562067968)
+}
+
+// The 32 bits of a number in two's complement.
+pub fn bits32(x: i32) -> u32
+    ensures { λ r. ⌜ r ≡ bits32 x ⌝ }
+{
+    std::num::wrapping_add_u32(raise(x) as u32, 2147483648)
 }
 
 fn wide_sum(a: i32, b: i32) -> i64

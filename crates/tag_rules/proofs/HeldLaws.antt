@@ -12,7 +12,8 @@ use Rattle.lists.specs.Lists.{Each}
 use Rattle.sam.specs.Record.{byteAt, le32, seqLenOf, opsEnd, opsIn, tagsStart, uint32, opBytes}
 use Rattle.sam.specs.Tags.{numberSize, tagSize, tagsBehind, tagsOf, Tag, tagAt, Breaks, Then, isCg, isOpArray, isPlaceholder}
 use Rattle.sam.specs.TagBytes.{Proper, array, bytesOf, allBytes}
-use Rattle.sam.proofs.TagLaws.{number, whole, value-length, ops-size}
+use Rattle.sam.proofs.TagLaws.{whole, value-length, ops-size}
+use Rattle.sam.proofs.PartLaws.{length-opBytes, read-ops}
 use Rattle.oplist.specs.Ops.{mostLongOps, opsOf, recordOps}
 use Rattle.oplist.proofs.OpsLaws.{in-is}
 use Rattle.answers.specs.declared.Refusal.{Refusal}
@@ -112,30 +113,8 @@ module _ {A : Type 0} (stop : Refusal → A) (make : List ℕ → A) (b : List �
   pub reads-none : (r : Refusal) → trueList b ≡ Refused r → readFrom stop make b (trueList b) ≡ stop r
   reads-none r e = ap (readFrom stop make b) e
 
--- ---- ops that stand in a record
+-- ---- ops that stand in a record: their part is their bytes
 
-length-opBytes : (xs : List ℕ) → length (opBytes xs) ≡ 4 * length xs
-unfolding opBytes
-length-opBytes [] = refl
-length-opBytes (o ∷ xs) = let l = length-opBytes xs in omega arith
-
--- the ops behind a front are read back
-read-ops : (p xs s : List ℕ) → Each (λ o. o < 4294967296) xs → opsIn (p ++ (opBytes xs ++ s)) (length p) (length xs) ≡ xs
-unfolding opsIn opBytes
-read-ops p [] s h = refl
-read-ops p (o ∷ xs) s h =
-    let b = p ++ ((uint32 o ++ opBytes xs) ++ s) in
-    let z : length p + 0 ≡ length p = omega arith in
-    let f : le32 b (length p) ≡ o =
-    sym (number b (length p) 0 (length p) z) ∙ ap (λ (l : List ℕ). le32 l 0) (drop-at p ((uint32 o ++ opBytes xs) ++ s) (length p) refl) ∙ omega (arith, h .0) in
-    let g : b ≡ (p ++ uint32 o) ++ (opBytes xs ++ s) = sym (append-assoc p (uint32 o) (opBytes xs ++ s)) in
-    let k : length p + 4 ≡ length (p ++ uint32 o) = omega (arith, length-append p (uint32 o)) in
-    ap (λ (y : ℕ). y ∷ opsIn b (length p + 4) (length xs)) f
-    ∙ ap (λ (l : List ℕ). o ∷ l) (ap (λ (l : List ℕ). opsIn l (length p + 4) (length xs)) g
-    ∙ ap (λ (at : ℕ). opsIn ((p ++ uint32 o) ++ (opBytes xs ++ s)) at (length xs)) k
-    ∙ read-ops (p ++ uint32 o) xs s (h .1))
-
--- and their part is their bytes
 ops-part : (p xs s : List ℕ) → partOf (p ++ (opBytes xs ++ s)) (At (length p) (length xs)) ≡ opBytes xs
 ops-part p xs s =
     ap (take (4 * length xs)) (drop-at p (opBytes xs ++ s) (length p) refl)

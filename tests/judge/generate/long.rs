@@ -4,9 +4,9 @@ use super::{Arg, Bytes, Done, Flag, List, MOST_LENGTH, Number, Out, Record, Rng,
 use crate::rules::{self, MOST_LONG_OPS};
 use crate::tags;
 
-const KINDS: &[u8; 11] = b"AcCsSiIfZHB";
+pub(super) const KINDS: &[u8; 11] = b"AcCsSiIfZHB";
 const NUMBERS: &[u8; 7] = b"cCsSiIf";
-const NAMES: [&[u8; 2]; 8] = [b"NM", b"RG", b"CC", b"GG", b"GC", b"cg", b"C\0", b"\0G"];
+pub(super) const NAMES: [&[u8; 2]; 8] = [b"NM", b"RG", b"CC", b"GG", b"GC", b"cg", b"C\0", b"\0G"];
 const LONG_LISTS: [&str; 2] = ["long_reference_length_from_cigar", "long_query_length_from_cigar"];
 
 fn width(number: u8) -> usize {
@@ -40,7 +40,7 @@ fn push_value(rng: &mut Rng, kind: u8, bytes: &mut Vec<u8>) {
 }
 
 /// A whole tag.
-fn push_tag(rng: &mut Rng, name: &[u8; 2], kind: u8, bytes: &mut Vec<u8>) {
+pub(super) fn push_tag(rng: &mut Rng, name: &[u8; 2], kind: u8, bytes: &mut Vec<u8>) {
     bytes.extend_from_slice(name);
     bytes.push(kind);
     push_value(rng, kind, bytes);
@@ -101,7 +101,7 @@ fn front_ops(rng: &mut Rng, bases: u64) -> Vec<u32> {
 }
 
 /// A record up to its tags: its ops, bases and qualities.
-fn front(rng: &mut Rng, bases: u32, ops: Vec<u32>) -> Vec<u8> {
+pub(super) fn front(rng: &mut Rng, bases: u32, ops: Vec<u32>) -> Vec<u8> {
     let mut record = Record::new(rng, ops);
     record.tail = (bases.div_ceil(2) + bases) as usize;
     let mut bytes = record.bytes(rng);
@@ -109,7 +109,7 @@ fn front(rng: &mut Rng, bases: u32, ops: Vec<u32>) -> Vec<u8> {
     bytes
 }
 
-fn tagged_record(rng: &mut Rng) -> Vec<u8> {
+pub(super) fn tagged_record(rng: &mut Rng) -> Vec<u8> {
     let bases = rng.pick(&[0, 0, 1, 2, 3, 30, 31]);
     let ops = front_ops(rng, bases.into());
     let mut bytes = front(rng, bases, ops);

@@ -1,0 +1,91 @@
+-- Bytes are copied in blocks, of which the last may overlap the one before; and an odd last base is written behind the pairs.
+use Prim.Native.Nat.{ℕ, _+_, _-_, _*_, _/_, _%_, _≤_, _<_}
+use mathlib.Core.Path.{_≡_, sym, ap, _∙_}
+use mathlib.Core.List.{List, [], _∷_, _++_}
+use native.Mathlib.Omega.{arith}
+use native.Mathlib.Numerals.{add-one}
+use lib.ListN.{length, getD, take, drop, set, length-drop}
+use lib.Seq.{getD-drop, take-suc, take-suc-set, take-add, take-append-seam, drop-append-add, drop-drop, length-take-le}
+use Rattle.lists.specs.Lists.{splice}
+use Rattle.lists.proofs.ListLaws.{splice-snoc, splice-append, length-splice}
+use Rattle.sam.specs.Bases.{packed}
+use Rattle.sam.proofs.BaseLaws.{packed-size, packed-last}
+
+-- ---- blocks
+
+-- one turn of holding a list's elements
+pub hold-turn : (l s : List ℕ) (from i : ℕ) → i < length l → from + i < length s → take i l ≡ take i (drop from s) → take (i + 1) (set l i (getD s (from + i) 0)) ≡ take (i + 1) (drop from s)
+hold-turn l s from i h k e =
+    let d = length-drop from s in
+    ap (λ (n : ℕ). take n (set l i (getD s (from + i) 0))) (add-one i)
+    ∙ take-suc-set l i (getD s (from + i) 0) h
+    ∙ ap (λ (p : List ℕ). p ++ (getD s (from + i) 0 ∷ [])) e
+    ∙ ap (λ (x : ℕ). take i (drop from s) ++ (x ∷ [])) (sym (getD-drop from s i 0))
+    ∙ sym (take-suc (drop from s) i 0 (omega arith))
+    ∙ ap (λ (n : ℕ). take n (drop from s)) (sym (add-one i))
+
+pub held-all : (d d' l s : List ℕ) (at from i j : ℕ) → i ≡ 16 → j ≡ 16 → length l ≡ 16 → take i l ≡ take i (drop from s) → d' ≡ splice d at (take j l) → d' ≡ splice d at (take 16 (drop from s))
+held-all d d' l s at from i j p q n e f =
+    f
+    ∙ ap (λ (k : ℕ). splice d at (take k l)) (q ∙ sym p)
+    ∙ ap (splice d at) e
+    ∙ ap (λ (k : ℕ). splice d at (take k (drop from s))) p
+
+-- what is written over another, from the same place on and no shorter
+over-written : (d : List ℕ) (at : ℕ) (us ws : List ℕ) → length us ≤ length ws → at + length ws ≤ length d → splice (splice d at us) at ws ≡ splice d at ws
+unfolding splice
+over-written d at us ws h k =
+    let t : length (take at d) ≡ at = length-take-le at d (omega arith) in
+    let e : at + length ws ≡ length (take at d) + length ws = omega arith in
+    let f : length ws ≡ length us + (length ws - length us) = omega arith in
+    let g : at + length us + (length ws - length us) ≡ at + length ws = omega arith in
+    ap (λ (l : List ℕ). l ++ (ws ++ drop (at + length ws) (take at d ++ (us ++ drop (at + length us) d))))
+    (ap (λ (n : ℕ). take n (take at d ++ (us ++ drop (at + length us) d))) (sym t) ∙ take-append-seam (take at d) (us ++ drop (at + length us) d))
+    ∙ ap (λ (l : List ℕ). take at d ++ (ws ++ l))
+    (ap (λ (n : ℕ). drop n (take at d ++ (us ++ drop (at + length us) d))) e
+    ∙ drop-append-add (take at d) (us ++ drop (at + length us) d) (length ws)
+    ∙ ap (λ (n : ℕ). drop n (us ++ drop (at + length us) d)) f
+    ∙ drop-append-add us (drop (at + length us) d) (length ws - length us)
+    ∙ drop-drop (length ws - length us) (at + length us) d
+    ∙ ap (λ (n : ℕ). drop n d) g)
+
+-- k elements from m on, where the first j are written and m ≤ j ≤ m + k: the first m + k are
+pub block-written : (d s : List ℕ) (at from m k j : ℕ) → m ≤ j → j ≤ m + k → from + (m + k) ≤ length s → at + (m + k) ≤ length d
+    → splice (splice d at (take j (drop from s))) (at + m) (take k (drop (from + m) s)) ≡ splice d at (take (m + k) (drop from s))
+block-written d s at from m k j h₁ h₂ f g =
+    let S : List ℕ = drop from s in
+    let l : length S ≡ length s - from = length-drop from s in
+    let vs : List ℕ = take m S in
+    let us : List ℕ = take (j - m) (drop m S) in
+    let ws : List ℕ = take k (drop m S) in
+    let n : length (drop m S) ≡ length S - m = length-drop m S in
+    let a : length vs ≡ m = length-take-le m S (omega arith) in
+    let b : length us ≡ j - m = length-take-le (j - m) (drop m S) (omega arith) in
+    let c : length ws ≡ k = length-take-le k (drop m S) (omega arith) in
+    let e : j ≡ m + (j - m) = omega arith in
+    let p : length (splice d at vs) ≡ length d = length-splice d at vs (omega arith) in
+    ap (λ (t : List ℕ). splice (splice d at t) (at + m) (take k (drop (from + m) s))) (ap (λ (i : ℕ). take i S) e ∙ take-add m (j - m) S)
+    ∙ ap (λ (t : List ℕ). splice (splice d at (vs ++ us)) (at + m) (take k t)) (sym (drop-drop m from s))
+    ∙ ap (λ (t : List ℕ). splice t (at + m) ws) (sym (splice-append d at vs (omega arith) us) ∙ ap (λ (i : ℕ). splice (splice d at vs) (at + i) us) a)
+    ∙ over-written (splice d at vs) (at + m) us ws (omega arith) (omega arith)
+    ∙ ap (λ (i : ℕ). splice (splice d at vs) (at + i) ws) (sym a)
+    ∙ splice-append d at vs (omega arith) ws
+    ∙ ap (splice d at) (sym (take-add m k S))
+
+-- ---- an odd last base
+
+pub put-last : (bs d d₁ : List ℕ) (from n at x : ℕ) → n % 2 ≡ 1 → from + n ≤ length bs → at + (n + 1) / 2 ≤ length d
+    → d₁ ≡ splice d at (packed (take (2 * (n / 2)) (drop from bs))) → x ≡ getD bs (from + n - 1) 0 * 16 + 0
+    → set d₁ (at + n / 2) x ≡ splice d at (packed (take n (drop from bs)))
+put-last bs d d₁ from n at x o h r e p =
+    let k : ℕ = n / 2 in
+    let l : length (drop from bs) ≡ length bs - from = length-drop from bs in
+    let s = packed-size bs from (2 * k) (omega arith) in
+    let g = getD-drop from bs (2 * k) 0 in
+    let z : getD bs (from + n - 1) 0 ≡ getD bs (from + 2 * k) 0 = ap (λ (i : ℕ). getD bs i 0) (omega arith) in
+    let v : x ≡ getD (drop from bs) (2 * k) 0 * 16 = omega arith in
+    ap (λ (m : List ℕ). set m (at + k) x) e
+    ∙ splice-snoc d at (packed (take (2 * k) (drop from bs))) k x (omega arith) (omega arith)
+    ∙ ap (λ (b : ℕ). splice d at (packed (take (2 * k) (drop from bs)) ++ (b ∷ []))) v
+    ∙ ap (splice d at) (sym (packed-last k (drop from bs) (omega arith)))
+    ∙ ap (λ (m : ℕ). splice d at (packed (take m (drop from bs)))) {x = 2 * k + 1} {y = n} (omega arith)

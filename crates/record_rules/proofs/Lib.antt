@@ -1,0 +1,9 @@
+pub mod PlanLaws
+pub mod PartLaws
+pub mod ClippedLaws
+pub mod FateLaws
+pub mod ReadLaws
+pub mod BackLaws
+pub mod TwiceLaws
+pub mod GiveLaws
+pub mod Examples

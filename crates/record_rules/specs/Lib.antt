@@ -1,0 +1,4 @@
+pub mod Written
+pub mod Clipping
+pub mod Reading
+pub mod InnerPlan

@@ -1,0 +1,76 @@
+-- Bases, qualities, tags.
+use Prim.Native.Nat.{_+_, _/_}
+use mathlib.Core.Path.{refl}
+use native.Mathlib.Omega.{arith}
+use Rattle.record_write.proofs.ByteLaws.{tail-is}
+use borrow.Author.Needs.{needs}
+use Rattle.record_write.proofs.bytes.put_tail.Statement.{statement}
+use Rattle.record_write.proofs.bytes.put_tail.Tie as tie
+
+bases-start-requires : tie.Need-bases-start-requires
+bases-start-requires c κs = search needs
+
+quals-start-requires : tie.Need-quals-start-requires
+quals-start-requires c κs = search needs
+
+tags-start-requires : tie.Need-tags-start-requires
+tags-start-requires c κs = search needs
+
+add-second : tie.Need-add-second
+add-second c = search needs
+
+add-second-2 : tie.Need-add-second-2
+add-second-2 c = search needs
+
+put-bases-requires : tie.Need-put-bases-requires
+put-bases-requires c κs = search needs
+
+add-copy-bytes : tie.Need-add-copy-bytes
+add-copy-bytes c = search needs
+
+copy-bytes-requires : tie.Need-copy-bytes-requires
+copy-bytes-requires c κs = search needs
+
+sub-copy-bytes : tie.Need-sub-copy-bytes
+sub-copy-bytes c = search needs
+
+add-copy-bytes-2 : tie.Need-add-copy-bytes-2
+add-copy-bytes-2 c = search needs
+
+copy-bytes-requires-2 : tie.Need-copy-bytes-requires-2
+copy-bytes-requires-2 c κs = search needs
+
+same-length : tie.Need-same-length
+same-length c = search needs
+
+returns : tie.Need-returns
+returns c =
+    let r = c .before .before in
+    let q = r .before .before .before .before in
+    let p = q .before .before .before .before in
+    let t = p .before .before in
+    let g = t .before .before .before .before .before in
+    let a = g .args in
+    let b = a .rec .now in
+    let at₂ = a .at + (a .n + 1) / 2 in
+    tail-is b (a .out .now) _ _ _ (a .from) (a .n) (a .at) at₂ _ _ _
+    (t .before .before .bases-start .ensures .0) (t .before .quals-start .ensures .0) (t .tags-start .ensures .0) (omega arith) (omega arith) refl (omega arith)
+    (p .put-bases .ensures) (q .copy-bytes .ensures) (r .copy-bytes2 .ensures)
+
+pub put-tail-spec : {M : Type 1} → statement M
+put-tail-spec =
+    tie.close
+    (tie.spec
+    bases-start-requires
+    quals-start-requires
+    tags-start-requires
+    add-second
+    add-second-2
+    put-bases-requires
+    add-copy-bytes
+    copy-bytes-requires
+    sub-copy-bytes
+    add-copy-bytes-2
+    copy-bytes-requires-2
+    same-length
+    returns)

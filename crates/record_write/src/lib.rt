@@ -1,0 +1,64 @@
+// Document 02, item 8: the clipped record, written whole. `record_plan` says what becomes of a record, and nothing is written before its plan is made.
+mod bytes;
+
+ghost use mathlib.Core.Path.{_≡_};
+ghost use mathlib.Core.Bool.{Bool};
+ghost use Prim.Native.Nat.{_+_};
+ghost use lib.ListN.{length};
+ghost use Rattle.answers.specs.Settled.{Settled};
+ghost use Rattle.record_rules.specs.Written.{newRecord};
+ghost use Rattle.record_rules.specs.Clipping.{clippedFate, written, putInto, clippedRecordStart, clippedRecordEnd};
+ghost use Rattle.record_rules.specs.InnerPlan.{changeBy, Fits};
+use answers::Count;
+use answers::Refusal;
+use clip_rules::Clipped;
+use record_rules::PlannedRecord;
+use record_rules::RecordPlan;
+
+// Writes the record clipped by `amount` bases at its start to the first places of out: the bytes written, and the reference length taken. Refusals 1, 2, 8, 19, 15, 16, 4, 6.
+pub fn clip_record_start(bam: &[u8], amount: u64, out: &mut [u8]) -> Clipped
+    ensures { λ r. ⌜ Settled (clippedRecordStart (now (bam .entry)) amount (now (out .entry))) r (now (out .exit)) ⌝ }
+{
+    clip_record(bam, amount, true, out)
+}
+
+// The same at the end: the bytes written. Refusals 1, 2, 8, 19, 15, 16, 4, 6.
+pub fn clip_record_end(bam: &[u8], amount: u64, out: &mut [u8]) -> Count
+    ensures { λ r. ⌜ Settled (clippedRecordEnd (now (bam .entry)) amount (now (out .entry))) r (now (out .exit)) ⌝ }
+{
+    clip::without_count(clip_record(bam, amount, false, out))
+}
+
+// Both ends.
+fn clip_record(bam: &[u8], amount: u64, start: bool, out: &mut [u8]) -> Clipped
+    ensures { λ r. ⌜ Settled (written (now (bam .entry)) (clippedFate (now (bam .entry)) amount start) (now (out .entry))) r (now (out .exit)) ⌝ }
+{
+    match record_plan::plan_record(bam, amount, start) {
+        PlannedRecord::Made(p) => put_record(bam, p, start, out),
+        PlannedRecord::Refused(why) => Clipped::Refused(why),
+    }
+}
+
+// How many bytes the record has that a plan is for.
+fn size_of(bam: &[u8], p: RecordPlan) -> usize
+    requires { ⌜ Fits (now bam) p ⌝ }
+    ensures { λ r. ⌜ ((start : Bool) → r ≡ length (newRecord (now (bam .entry)) (changeBy (now (bam .entry)) start p))) ⌝ }
+{
+    let len = p.len as usize;
+    let tags = record_parts::tags_start(bam);
+    let front = 32 + little_endian::u8_at(bam, 8) as usize;
+    front + (4 * (p.n as usize) + ((len + 1) / 2 + (len + (bam.len() - tags))))
+}
+
+// Writes the record that a plan is for, where there is room. Refusal 6.
+fn put_record(bam: &[u8], p: RecordPlan, start: bool, out: &mut [u8]) -> Clipped
+    requires { ⌜ Fits (now bam) p ⌝ }
+    ensures { λ r. ⌜ Settled (putInto (newRecord (now (bam .entry)) (changeBy (now (bam .entry)) start p)) (p .count) (now (out .entry))) r (now (out .exit)) ⌝ }
+{
+    let size = size_of(bam, p);
+    if out.len() < size {
+        return Clipped::Refused(Refusal::NoRoom);
+    }
+    bytes::write_record(bam, p, start, out);
+    Clipped::Done(size as u64, p.count)
+}
