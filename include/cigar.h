@@ -14,10 +14,11 @@
  *   16 clipping a record: over 65,535 ops would be left
  *   17 CSI: min_shift or depth out of range 18 CSI: not 0 <= beg < end <= 2^(min_shift + 3 * depth)
  *   19 clipping: the amount is beyond what can be clipped
+ *   20 the text is no MD                    21 MD: the list holds = or X already    22 MD and the list disagree
  * A call that cannot refuse returns its value.
  *
  * A buffer is a pointer and the number of its elements: `rec` and `mate` are BAM records (the bytes behind block_size), `ops` and
- * `mate_ops` lists of ops as a record holds them (length * 16 + code), `text` a CIGAR as text. The pointer must be valid for that many
+ * `mate_ops` lists of ops as a record holds them (length * 16 + code), `text` a CIGAR or MD as text. The pointer must be valid for that many
  * elements and aligned; it may be NULL where the number is 0. Any bytes, ops and numbers may stand in a buffer.
  * A lent output `out`, `sizes` or `starts` keeps its content where the call refuses; an answer fills its first places, and those after them keep theirs.
  * What an output that overlaps another buffer of the same call does is not promised.
@@ -184,6 +185,12 @@ struct cigar_count cigar_clip_cigar_end(const uint8_t *rec, size_t rec_len, uint
 /* The blocks of an alignment that starts at `start`, counted from 0: their sizes, and where they start, counted from that start, into the first places of the
  * two outputs. Refusals 3, 14, 4 (the end passes 2^31 - 1), 6 (either output has fewer places than there are blocks) */
 struct cigar_blocks cigar_bed_blocks(int32_t start, const uint32_t *ops, size_t ops_len, uint32_t *sizes, size_t sizes_len, uint32_t *starts, size_t starts_len);
+
+/* ---- matches told apart from MD */
+
+/* The ops with each M as the runs of = and X that an MD text tells (SAM optional fields: numbers alternating with letters, or ^ and letters), into the first places of out.
+ * Refusals 3, 20, 21, 22, 6 */
+struct cigar_count cigar_match_ops_from_md(const uint32_t *ops, size_t ops_len, const uint8_t *text, size_t text_len, uint32_t *out, size_t out_len);
 
 /* ---- pair tests. A reverse record is asked for its length, unless its flags, references or strands already fail */
 

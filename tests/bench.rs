@@ -3,6 +3,8 @@
 #[allow(dead_code)]
 #[path = "../bindings/rust/src/lib.rs"]
 mod port;
+#[path = "judge/md.rs"]
+mod plain_md;
 
 use original::{bin, cigar, fields::RawRecordView, overlap};
 use std::hint::black_box;
@@ -121,6 +123,29 @@ fn plain_blocks(start: i32, ops: &[u32]) -> Option<(i32, Vec<u32>, Vec<u32>)> {
     Some((start.checked_add_unsigned(at.checked_add(size)?)?, sizes, starts))
 }
 
+/// An MD text for a list, with a mismatch at one base in fifty.
+fn md_text(random: &mut Random, ops: &[u32]) -> Vec<u8> {
+    let (mut text, mut matches) = (Vec::new(), 0u32);
+    for &op in ops {
+        if op & 15 == 0 {
+            for _ in 0..op >> 4 {
+                if random.below(50) == 0 {
+                    text.extend(format!("{matches}{}", ['A', 'C', 'G', 'T'][random.below(4) as usize]).bytes());
+                    matches = 0;
+                } else {
+                    matches += 1;
+                }
+            }
+        } else if op & 15 == 2 {
+            text.extend(format!("{matches}^").bytes());
+            text.extend((0..op >> 4).map(|_| b"ACGT"[random.below(4) as usize]));
+            matches = 0;
+        }
+    }
+    text.extend(matches.to_string().bytes());
+    text
+}
+
 fn lists(n: usize, random: &mut Random) {
     let l: Vec<Vec<u32>> = (0..INPUTS).map(|_| list(random, n)).collect();
     let mut out = vec![0u32; n + 2];
@@ -135,6 +160,9 @@ fn lists(n: usize, random: &mut Random) {
     pair!("clip_cigar_end_raw", n, "the Rust allocates", cigar::clip_cigar_ops_raw => fn(&[u32], usize, bool) -> (Vec<u32>, usize), port::clip_cigar_end_raw => fn(&[u32], usize, &mut [u32]) -> Result<usize, port::Refusal>, |i, f| f(&l[i], amounts[i], false), |i, g| g(&l[i], amounts[i], &mut out));
     let mut starts = vec![0u32; n + 2];
     pair!("bed_blocks", n, "beside a plain Rust program, which allocates", plain_blocks => fn(i32, &[u32]) -> Option<(i32, Vec<u32>, Vec<u32>)>, port::bed_blocks => fn(i32, &[u32], &mut [u32], &mut [u32]) -> Result<port::BedBlocks, port::Refusal>, |i, f| f(1000, &l[i]), |i, g| g(1000, &l[i], &mut out, &mut starts));
+    let md: Vec<Vec<u8>> = l.iter().map(|ops| md_text(random, ops)).collect();
+    let mut runs = vec![0u32; n + md.iter().map(Vec::len).max().unwrap_or(0)];
+    pair!("match_ops_from_md", n, "beside the tests' plain Rust program, which allocates", plain_md::told => fn(&[u32], &[u8]) -> Result<Vec<u32>, u8>, port::match_ops_from_md => fn(&[u32], &[u8], &mut [u32]) -> Result<usize, port::Refusal>, |i, f| f(&l[i], &md[i]), |i, g| g(&l[i], &md[i], &mut runs));
     let mate = |i: usize| &l[(i + 1) % INPUTS];
     pair!("bases_extending_past_mate_ops", n, "", overlap::bases_extending_past_mate_ops => fn(bool, i32, &[u32], i32, &[u32]) -> usize, port::bases_extending_past_mate_ops => fn(bool, i32, &[u32], i32, &[u32]) -> Result<usize, port::Refusal>, |i, f| f(false, 1000, &l[i], 1010, mate(i)), |i, g| g(false, 1000, &l[i], 1010, mate(i)));
 }

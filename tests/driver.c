@@ -89,6 +89,7 @@ static uint8_t bytes_room[ROOMS][MOST + GUARD];
     CALL(clip_cigar_start, "RUo", "uu", BYTES(0), U64(1), OPS(2)) \
     CALL(clip_cigar_end, "RUo", "u", BYTES(0), U64(1), OPS(2)) \
     CALL(bed_blocks, "iLoo", "uuu", I32(0), OPS(1), OPS(2), OPS(3)) \
+    CALL(match_ops_from_md, "LRo", "u", OPS(0), BYTES(1), OPS(2)) \
     CALL(is_mapped_opposite_strand_pair_raw, "R", "u", BYTES(0)) \
     CALL(is_fr_pair_raw, "R", "u", BYTES(0)) \
     CALL(is_primary_fr_pair_raw, "RR", "u", BYTES(0), BYTES(1)) \

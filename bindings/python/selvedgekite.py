@@ -32,6 +32,9 @@ WORDS = {
     17: 'CSI bins: min_shift outside 10 to 20, or depth outside 1 to 8',
     18: 'CSI bins: not 0 <= beg < end <= 2^(min_shift + 3 * depth)',
     19: 'clipping: the amount is beyond what can be clipped',
+    20: 'malformed MD',
+    21: 'a list that already holds = or X',
+    22: 'MD and the list disagree',
 }
 
 
@@ -126,6 +129,7 @@ DECLARED = [
     (Two, BYTES + [c_uint64] + ROOM, 'clip_record_start'),
     (Count, BYTES + [c_uint64] + ROOM, 'clip_record_end'),
     (Blocks, [c_int32] + OPS + OPS + OPS, 'bed_blocks'),
+    (Count, OPS + BYTES + OPS, 'match_ops_from_md'),
     (Flag, BYTES + BYTES, 'is_primary_fr_pair_raw'),
     (Count, BYTES + BYTES, 'num_bases_extending_past_mate_vs_mate_raw'),
     (Count, [c_uint8, c_int32] + OPS + [c_int32] + OPS, 'bases_extending_past_mate_ops'),
@@ -517,6 +521,12 @@ def clip_cigar_end(bam, clip_amount):
     return _list(C.cigar_clip_cigar_end, *_record(bam), _u64(clip_amount))
 
 
+def clip_cigar_end(bam, clip_amount):
+    """A record's ops clipped at the end."""
+    answer, out = _filled(C.cigar_clip_cigar_end, *_record(bam), _u64(clip_amount))
+    return out[:answer.value]
+
+
 # ---- blocks
 
 
@@ -525,6 +535,15 @@ def bed_blocks(start, ops):
     its start, a list."""
     answer, sizes, starts = _filled(C.cigar_bed_blocks, _i32(start), *_ops(ops), outputs=2)
     return answer.chrom_start, answer.chrom_end, sizes[:answer.block_count], starts[:answer.block_count]
+
+
+# ---- matches told apart from MD
+
+
+def match_ops_from_md(ops, md):
+    """The ops with each M as the runs of = and X that an MD text (bytes or str) tells."""
+    answer, out = _filled(C.cigar_match_ops_from_md, *_ops(ops), *_text(md))
+    return out[:answer.value]
 
 
 # ---- pairs

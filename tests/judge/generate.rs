@@ -5,7 +5,7 @@ mod record;
 
 use crate::csi;
 use crate::protocol::{put_hex, put_list, put_number, put_signed};
-use crate::{bed, rules};
+use crate::{bed, md, rules};
 use original::{cigar, overlap};
 use std::io;
 
@@ -77,6 +77,8 @@ pub fn all(seed: u64, size: u64, emit: &mut dyn FnMut(&[u8]) -> Done) -> Done {
     out.lookups()?;
     out.short_blocks()?;
     out.random_blocks()?;
+    out.short_md()?;
+    out.random_md()?;
     out.short_texts()?;
     out.random_texts()?;
     out.random_fields()?;
@@ -249,6 +251,51 @@ fn random_text(rng: &mut Rng) -> Vec<u8> {
     }
     if rng.one_in(2) {
         damage_text(rng, &mut text);
+    }
+    text
+}
+
+/// An MD text that agrees with a list, with a mismatch at one base in so many; now and then with zeros before a number.
+fn md_of(rng: &mut Rng, list: &[u32], rate: u64) -> Vec<u8> {
+    let (mut text, mut matches) = (Vec::new(), 0);
+    let number = |rng: &mut Rng, text: &mut Vec<u8>, matches: &mut u64| {
+        text.extend(vec![b'0'; usize::from(rng.one_in(20))]);
+        put_number(std::mem::take(matches), text);
+    };
+    for &op in list {
+        let length = rules::length(op) as u64;
+        match rules::code(op) {
+            0 if length > 10_000 => matches += length,
+            0 => {
+                for _ in 0..length {
+                    if rng.one_in(rate) {
+                        number(rng, &mut text, &mut matches);
+                        text.push(rng.pick(b"ACGTNZ"));
+                    } else {
+                        matches += 1;
+                    }
+                }
+            }
+            2 if (1..=10_000).contains(&length) => {
+                number(rng, &mut text, &mut matches);
+                text.push(b'^');
+                text.extend((0..length).map(|_| rng.pick(b"ACGT")));
+            }
+            _ => {}
+        }
+    }
+    number(rng, &mut text, &mut matches);
+    text
+}
+
+/// A text of MD's bytes that hardly agrees with anything.
+fn wild_md(rng: &mut Rng) -> Vec<u8> {
+    let mut text = Vec::new();
+    for _ in 0..rng.below(5) {
+        let number: &[u8] = rng.pick(&[b"", b"0", b"1", b"2", b"10", b"268435455", b"17592186044416", b"17592186044417", b"18446744073709551616", b"99999999999999999999999"]);
+        let letters: &[u8] = rng.pick(&[b"", b"A", b"^A", b"^AC", b"^", b"AC", b"a", b"A0C", b"@", b"[", b"/", b":"]);
+        text.extend_from_slice(number);
+        text.extend_from_slice(letters);
     }
     text
 }
@@ -653,6 +700,88 @@ impl Out<'_> {
         Ok(())
     }
 
+    // ---- matches told apart from MD
+
+    fn md_with(&mut self, list: &[u32], text: &[u8]) -> Done {
+        let places = md::told(list, text).map_or(list.len(), |ops| ops.len());
+        let room = self.room(places);
+        self.say("match_ops_from_md", &[List(list), Bytes(text), room])
+    }
+
+    /// All lists of up to 2 ops over 0M 1M 2M 3M 0D 1D 2D 1I, with all texts to length 5 over `0 1 2 A ^`, those that are no MD with the first 9 lists; and each code with lengths 0 to 2 between two M's.
+    fn short_md(&mut self) -> Done {
+        let ops = [op(0, 0), op(0, 1), op(0, 2), op(0, 3), op(2, 0), op(2, 1), op(2, 2), op(1, 1)];
+        for length in 0..=5 {
+            for number in 0..5usize.pow(length) {
+                let text: Vec<u8> = (0..length).map(|i| b"012A^"[number / 5usize.pow(i) % 5]).collect();
+                let malformed = md::told(&[], &text) == Err(20);
+                for ends in 0..if malformed { 9 } else { 73 } {
+                    let list: Vec<u32> = match ends {
+                        0 => Vec::new(),
+                        1..9 => vec![ops[ends - 1]],
+                        _ => vec![ops[(ends - 9) / 8], ops[(ends - 9) % 8]],
+                    };
+                    self.md_with(&list, &text)?;
+                }
+            }
+        }
+        for code in 0..16 {
+            for length in 0..3 {
+                for text in [&b"3"[..], b"1A1", b"2A0", b"3^A0", b"1^C2", b"1^CG2", b"2T2", b"5", b"3A", b""] {
+                    self.md_with(&[op(0, 2), op(code, length), op(0, 1)], text)?;
+                }
+            }
+        }
+        Ok(())
+    }
+
+    /// Most texts agree with their list; of the others most miss by a byte, an op, the last number, or a part cut in two.
+    fn random_md(&mut self) -> Done {
+        for _ in 0..150_000 * self.size {
+            let longest = self.rng.pick(&[3, 3, 30, 200, MOST_LENGTH]);
+            let codes: &[u32] = self.rng.pick(&[&[0, 2], &[0, 1, 2], &[0, 0, 1, 2, 3, 4, 5, 6, 9, 15]]);
+            let mut list = any_list(&mut self.rng, 8, codes, longest);
+            let rate = self.rng.pick(&[1, 2, 3, 10, 50]);
+            let mut text = md_of(&mut self.rng, &list, rate);
+            match self.rng.below(14) {
+                0 | 1 => {
+                    let byte = if self.rng.one_in(4) { self.rng.below(256) as u8 } else { self.rng.pick(b"0012AC^^a@[/:") };
+                    let at = self.rng.below(text.len() as u64) as usize;
+                    match self.rng.below(3) {
+                        0 => text.insert(at, byte),
+                        1 => text[at] = byte,
+                        _ => {
+                            text.remove(at);
+                        }
+                    }
+                }
+                2 if !list.is_empty() => {
+                    let at = self.rng.below(list.len() as u64) as usize;
+                    list[at] = if self.rng.one_in(2) { list[at].wrapping_add(16) } else { op(self.rng.below(16) as u32, self.rng.below(4)) };
+                }
+                3 => text.truncate(text.iter().rposition(|byte| !byte.is_ascii_digit()).map_or(0, |at| at + 1)),
+                4 => text = wild_md(&mut self.rng),
+                5 => {
+                    list.extend(any_list(&mut self.rng, 2, &[7, 8, 0], 2));
+                    text.truncate(text.len() - usize::from(self.rng.one_in(3)));
+                }
+                6 => {
+                    // a part of two letters or more becomes two parts
+                    let found = text.windows(3).position(|bytes| bytes[0] == b'^' && bytes[2].is_ascii_uppercase());
+                    found.into_iter().for_each(|at| drop(text.splice(at + 2..at + 2, *b"0^")));
+                }
+                7 => {
+                    // two parts with nothing between them become one
+                    let found = text.windows(3).position(|bytes| bytes[0].is_ascii_uppercase() && bytes[1] == b'0' && bytes[2] == b'^');
+                    found.into_iter().for_each(|at| drop(text.drain(at + 1..at + 3)));
+                }
+                _ => {}
+            }
+            self.md_with(&list, &text)?;
+        }
+        Ok(())
+    }
+
     // ---- texts
 
     /// All texts to length 5 over `0 1 9 M I S H * 0xFF`.
@@ -1016,6 +1145,7 @@ impl Out<'_> {
                 self.giant_list(&list)?;
             }
             self.giant_blocks(count)?;
+            self.giant_md(count)?;
             self.giant_text(&vec![op(0, 1); count])?;
             if let Ok(ops) = u16::try_from(count) {
                 self.giant_record(ops.into())?;
@@ -1061,6 +1191,21 @@ impl Out<'_> {
             self.say("bed_blocks", &[Signed(7), List(list), Room(32_769), Room(32_768)])?;
         }
         Ok(())
+    }
+
+    /// As many runs as there are ops, and half as many more; the longest ops; a D for every other op.
+    fn giant_md(&mut self, count: usize) -> Done {
+        let ones = vec![op(0, 1); count];
+        let gaps: Vec<u32> = (0..count).map(|i| if i % 2 == 0 { op(0, 3) } else { op(2, 1) }).collect();
+        for list in [&ones[..], &gaps, &vec![op(0, MOST_LENGTH); count]] {
+            for rate in [1, 4, 1 << 40] {
+                let text = md_of(&mut self.rng, list, rate);
+                self.md_with(list, &text)?;
+                self.md_with(list, &text[..text.len() - 1])?;
+                self.say("match_ops_from_md", &[List(list), Bytes(&text), Room(2 * count)])?;
+            }
+        }
+        self.say("match_ops_from_md", &[List(&ones), Bytes(b""), Room(0)])
     }
 
     fn giant_text(&mut self, list: &[u32]) -> Done {

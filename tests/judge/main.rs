@@ -5,6 +5,7 @@
 mod bed;
 mod csi;
 mod generate;
+mod md;
 mod oracle;
 mod protocol;
 mod record;

@@ -4,7 +4,7 @@
 
 use crate::protocol::{FILL_BYTES, FILL_OPS, Reply, Said, Words, split};
 use crate::rules::{self, MOST_LONG_OPS, MOST_OPS};
-use crate::{bed, csi, record, tags};
+use crate::{bed, csi, md, record, tags};
 use original::cigar::{self, CigarKind, CigarOp};
 use original::fields::{self, RawRecordView};
 use original::{bin, overlap};
@@ -399,6 +399,23 @@ fn bed_blocks(words: &mut Words) -> Option<Reply> {
     Some(Reply { said, lent })
 }
 
+/// The original has no such call: the answer is that of a second program.
+fn match_ops_from_md(words: &mut Words) -> Option<Reply> {
+    let (list, text, room) = (words.list()?, words.bytes()?, words.room()?);
+    words.done()?;
+    let answer = rules::too_many(&list).map_or_else(|| md::told(&list, &text), Err);
+    let mut lent = vec![FILL_OPS; room];
+    let said = match answer {
+        Err(n) => Said::Refusal(n),
+        Ok(ops) if ops.len() > room => Said::Refusal(6),
+        Ok(ops) => {
+            lent[..ops.len()].copy_from_slice(&ops);
+            Said::Values(vec![count(ops.len())])
+        }
+    };
+    Some(Reply { said, lent: vec![lent] })
+}
+
 fn is_primary_fr_pair_raw(words: &mut Words) -> Option<Reply> {
     let (a, b) = (words.bytes()?, words.bytes()?);
     words.done()?;
@@ -627,7 +644,7 @@ fn write_clipped(words: &mut Words, start: bool) -> Option<Reply> {
 }
 
 /// Every call of the protocol, in its order.
-pub const CALLS: [(&str, Call); 70] = [
+pub const CALLS: [(&str, Call); 71] = [
     ("ref_id", |w| of_record(w, never, fields::ref_id, one)),
     ("pos", |w| of_record(w, never, fields::pos, one)),
     ("l_read_name", |w| of_record(w, never, fields::reach::l_read_name, one)),
@@ -672,6 +689,7 @@ pub const CALLS: [(&str, Call); 70] = [
     ("clip_cigar_start", |w| clip_record(w, true)),
     ("clip_cigar_end", |w| clip_record(w, false)),
     ("bed_blocks", bed_blocks),
+    ("match_ops_from_md", match_ops_from_md),
     ("is_mapped_opposite_strand_pair_raw", |w| of_record(w, never, overlap::is_mapped_opposite_strand_pair_raw, one)),
     ("is_fr_pair_raw", |w| of_asked(w, rules::asked_by_its_pair, never, overlap::reach::is_fr_pair_raw, one)),
     ("is_primary_fr_pair_raw", is_primary_fr_pair_raw),

@@ -48,6 +48,12 @@ pub enum Refusal {
     BadRegion = 18,
     /// Clipping: the amount is beyond what can be clipped.
     AmountBeyond = 19,
+    /// The text is no MD: not numbers alternating with letters, or `^` and letters.
+    BadMd = 20,
+    /// The list holds = or X already.
+    MatchesTold = 21,
+    /// MD and the list disagree.
+    MdDisagrees = 22,
 }
 
 const REFUSALS: &[(Refusal, &str)] = &[
@@ -69,6 +75,9 @@ const REFUSALS: &[(Refusal, &str)] = &[
     (Refusal::BadLevels, "CSI bins: min_shift outside 10 to 20, or depth outside 1 to 8"),
     (Refusal::BadRegion, "CSI bins: not 0 <= beg < end <= 2^(min_shift + 3 * depth)"),
     (Refusal::AmountBeyond, "clipping: the amount is beyond what can be clipped"),
+    (Refusal::BadMd, "malformed MD"),
+    (Refusal::MatchesTold, "a list that already holds = or X"),
+    (Refusal::MdDisagrees, "MD and the list disagree"),
 ];
 
 // The refusal of a number, and its words.
@@ -487,6 +496,12 @@ pub struct BedBlocks {
 pub fn bed_blocks(start: i32, ops: &[u32], sizes: &mut [u32], starts: &mut [u32]) -> Result<BedBlocks, Refusal> {
     let found = unsafe { raw::cigar_bed_blocks(start, ops.as_ptr(), ops.len(), sizes.as_mut_ptr(), sizes.len(), starts.as_mut_ptr(), starts.len()) };
     unless(found.refusal, BedBlocks { start: found.chrom_start, end: found.chrom_end, count: found.block_count as usize })
+}
+
+/// The ops with each M as the runs of = and X that an MD text tells, into the first places of `out`: how many there are.
+#[inline]
+pub fn match_ops_from_md(ops: &[u32], md: &[u8], out: &mut [u32]) -> Result<usize, Refusal> {
+    count(unsafe { raw::cigar_match_ops_from_md(ops.as_ptr(), ops.len(), md.as_ptr(), md.len(), out.as_mut_ptr(), out.len()) })
 }
 
 /// The same of two records, by the reverse one.

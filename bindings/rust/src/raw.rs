@@ -115,6 +115,7 @@ extern "C" {
     pub fn cigar_clip_cigar_start(rec: *const u8, rec_len: usize, amount: u64, out: *mut u32, out_len: usize) -> Two;
     pub fn cigar_clip_cigar_end(rec: *const u8, rec_len: usize, amount: u64, out: *mut u32, out_len: usize) -> Count;
     pub fn cigar_bed_blocks(start: i32, ops: *const u32, ops_len: usize, sizes: *mut u32, sizes_len: usize, starts: *mut u32, starts_len: usize) -> Blocks;
+    pub fn cigar_match_ops_from_md(ops: *const u32, ops_len: usize, text: *const u8, text_len: usize, out: *mut u32, out_len: usize) -> Count;
     pub fn cigar_is_mapped_opposite_strand_pair_raw(rec: *const u8, rec_len: usize) -> Flag;
     pub fn cigar_is_fr_pair_raw(rec: *const u8, rec_len: usize) -> Flag;
     pub fn cigar_is_primary_fr_pair_raw(rec: *const u8, rec_len: usize, mate: *const u8, mate_len: usize) -> Flag;

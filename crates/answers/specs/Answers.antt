@@ -4,7 +4,7 @@ use mathlib.Core.Bool.{Bool, cond}
 use mathlib.Core.List.{List, [], _∷_}
 use lib.IntN.{ℤ, pos}
 use Rattle.answers.specs.declared.Refusal.{Refusal}
-use Rattle.answers.specs.declared.Refusal.the-variants.{ShortRecord, AreaOverrun, TooManyOps, Overflow, NotACigar, NoRoom, BadCode, TooLong, BadStart, BadLength, AmountBeyond, BadLevels, BadRegion, NoBlocks, QueryDiffers, CountOver, BadTags, OtherCg}
+use Rattle.answers.specs.declared.Refusal.the-variants.{ShortRecord, AreaOverrun, TooManyOps, Overflow, NotACigar, NoRoom, BadCode, TooLong, BadStart, BadLength, AmountBeyond, BadLevels, BadRegion, NoBlocks, QueryDiffers, CountOver, BadTags, OtherCg, BadMd, MatchesTold, MdDisagrees}
 use Rattle.answers.specs.declared.Int.{Int}
 use Rattle.answers.specs.declared.Int.the-variants as Int
 use Rattle.answers.specs.declared.Nat.{Nat}
@@ -29,7 +29,7 @@ numberOf BadCode = 7
 numberOf TooLong = 8
 numberOf BadStart = 9
 numberOf BadLength = 10
--- document 02, item 1
+-- document 02
 numberOf BadTags = 12
 numberOf OtherCg = 13
 numberOf NoBlocks = 14
@@ -38,6 +38,9 @@ numberOf CountOver = 16
 numberOf BadLevels = 17
 numberOf BadRegion = 18
 numberOf AmountBeyond = 19
+numberOf BadMd = 20
+numberOf MatchesTold = 21
+numberOf MdDisagrees = 22
 
 -- what a caller is told: a refusal carries its number and no value
 pub record Told : Type 0 where

@@ -22,6 +22,9 @@ pub enum Refusal {
     BadLevels,
     BadRegion,
     AmountBeyond,
+    BadMd,
+    MatchesTold,
+    MdDisagrees,
 }
 
 // A signed number.
@@ -90,6 +93,9 @@ pub fn number(why: Refusal) -> u32
         Refusal::BadLevels => 17,
         Refusal::BadRegion => 18,
         Refusal::AmountBeyond => 19,
+        Refusal::BadMd => 20,
+        Refusal::MatchesTold => 21,
+        Refusal::MdDisagrees => 22,
     }
 }
 

@@ -6,7 +6,7 @@ use mathlib.Core.List.{List}
 use native.Mathlib.Omega.{arith}
 use Rattle.answers.specs.Answers.{Told, flagValue, numberOf}
 use Rattle.answers.specs.declared.Refusal.{Refusal}
-use Rattle.answers.specs.declared.Refusal.the-variants.{ShortRecord, AreaOverrun, TooManyOps, Overflow, NotACigar, NoRoom, BadCode, TooLong, BadStart, BadLength, AmountBeyond, BadLevels, BadRegion, NoBlocks, QueryDiffers, CountOver, BadTags, OtherCg}
+use Rattle.answers.specs.declared.Refusal.the-variants.{ShortRecord, AreaOverrun, TooManyOps, Overflow, NotACigar, NoRoom, BadCode, TooLong, BadStart, BadLength, AmountBeyond, BadLevels, BadRegion, NoBlocks, QueryDiffers, CountOver, BadTags, OtherCg, BadMd, MatchesTold, MdDisagrees}
 use Rattle.answers.specs.Settled.{Outcome, Settled, OutcomeTwo, SettledTwo}
 use Rattle.border.specs.Border.{isSet, across, acrossTwo}
 
@@ -37,6 +37,9 @@ small-number BadStart = omega arith
 small-number BadLength = omega arith
 small-number BadTags = omega arith
 small-number OtherCg = omega arith
+small-number BadMd = omega arith
+small-number MatchesTold = omega arith
+small-number MdDisagrees = omega arith
 small-number NoBlocks = omega arith
 small-number QueryDiffers = omega arith
 small-number CountOver = omega arith

@@ -6,6 +6,7 @@ pub mod TextRows
 pub mod EndRows
 pub mod ClipRows
 pub mod BedRows
+pub mod MdRows
 pub mod OverlapRows
 pub mod LongRows
 pub mod RecordRows
@@ -19,6 +20,7 @@ pub mod ReadLaws
 pub mod LongLaws
 pub mod RecordLaws
 pub mod BedLaws
+pub mod MdLaws
 pub mod CsiLaws
 pub mod AsBefore
 pub mod ThreeAnswers

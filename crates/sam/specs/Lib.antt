@@ -8,3 +8,4 @@ pub mod Tags
 pub mod TagBytes
 pub mod Bases
 pub mod Parts
+pub mod Md

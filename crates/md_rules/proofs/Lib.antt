@@ -1,0 +1,11 @@
+pub mod ByteLaws
+pub mod PlaceLaws
+pub mod RunLaws
+pub mod MatchLaws
+pub mod OpLaws
+pub mod PassLaws
+pub mod StepLaws
+pub mod AnswerLaws
+pub mod GrammarLaws
+pub mod RuleLaws
+pub mod Examples

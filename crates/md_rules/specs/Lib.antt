@@ -1,0 +1,4 @@
+pub mod Md
+pub mod Rule
+pub mod Meaning
+pub mod InnerWalk
