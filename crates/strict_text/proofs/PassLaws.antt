@@ -18,7 +18,7 @@ use Rattle.text_rules.specs.Text.{isRow, textOps}
 use Rattle.text_rules.specs.Valid.{validMapped}
 use Rattle.text_rules.specs.Strict.{strict}
 use Rattle.strict_text.specs.Parsed.{measuredText}
-use Rattle.validity.specs.InnerStages.{codeClass, classOf, stepOf, acceptOf, isWrong}
+use Rattle.validity.specs.InnerStages.{codeClass, classOf, stepOf, acceptOf, isWrong, stageAfter}
 use Rattle.strict_text.specs.InnerPass.{refBasesOf, tookOf, endingOf, onTook, atStart, walkOf}
 use Rattle.tokens.specs.InnerToken.{OpAt, NoneAt}
 use Rattle.validity.specs.InnerClass.{Class, Class.Reference, Class.Other, Class.Soft, Class.Hard, Class.Unknown}
@@ -29,7 +29,7 @@ use Rattle.strict_text.specs.declared.Took.the-variants.{More, Stop}
 use Rattle.strict_text.specs.declared.Measured.{Measured}
 use Rattle.strict_text.specs.declared.Measured.the-variants as Measured
 use Rattle.tokens.proofs.TextLaws.{at-end}
-use Rattle.validity.proofs.StageLaws.{refB, class-ref, long-class, short-class, stageAfter, wrong-accept, valid-run}
+use Rattle.validity.proofs.StageLaws.{refB, class-ref, long-class, short-class, wrong-accept, valid-run}
 
 -- ---- the reference bases
 

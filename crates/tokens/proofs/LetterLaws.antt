@@ -8,14 +8,16 @@ use lib.ListN.{length, getD}
 use Rattle.sam.specs.Op.{letterCode}
 use Rattle.sam.specs.Text.{isDigit}
 use Rattle.text_rules.specs.Text.{effectOf, Effect, Effect.Number, Effect.Letter}
-use Rattle.tokens.specs.InnerToken.{OpAt}
+use Rattle.tokens.specs.InnerToken.{OpAt, ShortAt, Lettered}
+use Rattle.tokens.specs.declared.Token.{Token}
+use Rattle.tokens.specs.declared.Token.the-variants as Token
 use Rattle.sam.proofs.LetterLaws.{letter-digit, code-letter}
 use Rattle.sam.proofs.TextLaws.{a-digit}
 use Rattle.text_rules.proofs.ByteLaws.{byte-digit, byte-letter}
 use Rattle.tokens.proofs.TextLaws.{Reading, reading, read-digit, read-letter}
 
 -- a letter is no digit
-code-no-digit : (b : ℕ) → letterCode b ≤ 8 → isDigit b ≡ false
+pub code-no-digit : (b : ℕ) → letterCode b ≤ 8 → isDigit b ≡ false
 code-no-digit b h = ap isDigit (sym (code-letter b (omega arith))) ∙ letter-digit (letterCode b) (omega arith)
 
 -- ---- a digit more, or the letter
@@ -26,11 +28,11 @@ module _ (s : List ℕ) (at i num b : ℕ) (r : Reading s at i num) (e : b ≡ g
       subst (λ (k : ℕ). Reading s at k v) (sym p)
       (read-digit s at i num r v h l (ap (effectOf num) (sym e) ∙ byte-digit num b d (omega arith) ∙ ap Effect.Number (sym q)))
 
-  letter-on : (len code next : ℕ) → len ≡ num → next ≡ i + 1 → (len ≡ 0 → ⊥) → len ≤ 268435455 → code ≡ letterCode b → code ≤ 8 → OpAt s at len code next
-  letter-on len code next p q z m c k =
+  letter-on : at < i → (len code next : ℕ) → len ≡ num → next ≡ i + 1 → (len ≡ 0 → ⊥) → len ≤ 268435455 → code ≡ letterCode b → code ≤ 8 → OpAt s at len code next
+  letter-on g len code next p q z m c k =
       subst (λ (n : ℕ). OpAt s at len code n) (sym q)
       (subst (λ (n : ℕ). OpAt s at n code (i + 1)) (sym p)
-      (read-letter s at i num r code h l (omega arith) (omega arith) (omega arith)
+      (read-letter s at i num r code h g (omega arith) (omega arith) (omega arith)
       (ap (effectOf num) (sym e) ∙ byte-letter num b (code-no-digit b (omega arith)) (omega arith) (omega arith) ∙ ap Effect.Letter (sym c))))
 
 -- the op at a place with four bytes, by whether the second and the third are digits
@@ -60,11 +62,18 @@ module _ (s : List ℕ) (at first second third : ℕ) (room : at + 4 ≤ length 
       let a = a-digit first d₁ in
       let m = a-digit second d₂ in
       let n = a-digit third d₃ in
-      letter-on s at (at + 3) _ _ (three-digits d₂ d₃) refl (omega arith) (omega arith) len code next p (omega arith) z (omega arith) c k
+      letter-on s at (at + 3) _ _ (three-digits d₂ d₃) refl (omega arith) (omega arith) (omega arith) len code next p (omega arith) z (omega arith) c k
   short-op true false d₂ d₃ len code next p z c k q =
       let a = a-digit first d₁ in
       let m = a-digit second d₂ in
-      letter-on s at (at + 2) _ third (two-digits d₂) e₃ (omega arith) (omega arith) len code next p (omega arith) z (omega arith) (c ∙ ap letterCode (sym e₃)) k
+      letter-on s at (at + 2) _ third (two-digits d₂) e₃ (omega arith) (omega arith) (omega arith) len code next p (omega arith) z (omega arith) (c ∙ ap letterCode (sym e₃)) k
   short-op false three d₂ d₃ len code next p z c k q =
       let a = a-digit first d₁ in
-      letter-on s at (at + 1) _ second one-digit e₂ (omega arith) (omega arith) len code next p (omega arith) z (omega arith) (c ∙ ap letterCode (sym e₂)) k
+      letter-on s at (at + 1) _ second one-digit e₂ (omega arith) (omega arith) (omega arith) len code next p (omega arith) z (omega arith) (c ∙ ap letterCode (sym e₂)) k
+
+-- a letter that is looked up after the number
+pub lettered-short : (s : List ℕ) (at len letter next : ℕ) (r : Token) → Lettered len letter next r
+    → ((code : ℕ) → code ≡ letterCode letter → code ≤ 8 → OpAt s at len code next) → ShortAt s at r
+lettered-short s at len letter next (Token.Op l code n) h f =
+    subst (λ (k : ℕ). OpAt s at k code n) (sym (h .0)) (subst (λ (k : ℕ). OpAt s at len code k) (sym (h .3)) (f code (h .1) (h .2)))
+lettered-short s at len letter next Token.Bad h f = tt

@@ -52,7 +52,7 @@ module _ (s : List ℕ) (at i num : ℕ) (r : Reading s at i num) where
       let d = on-digit s i num (getD s i 0) (ltb at i) refl h v n in
       (r .0 ∙ d .0 ∙ rw (lt-ltb at (i + 1) (omega arith)) refl, r .1 ∙ d .1)
 
-  pub read-letter : (c : ℕ) → i < length s → at ≤ i → 0 < num → num ≤ 268435455 → c < 9 → effectOf num (getD s i 0) ≡ Effect.Letter c → OpAt s at num c (i + 1)
+  pub read-letter : (c : ℕ) → i < length s → at < i → 0 < num → num ≤ 268435455 → c < 9 → effectOf num (getD s i 0) ≡ Effect.Letter c → OpAt s at num c (i + 1)
   read-letter c h l some most known n =
       let d = on-letter s i num (getD s i 0) (ltb at i) refl h c n in
       record { ahead = omega arith; inside = omega arith; some = some; most = most; known = known; row = r .0 ∙ d .0; ops = r .1 ∙ d .1 }

@@ -11,7 +11,7 @@ use Rattle.lists.proofs.Absurd.{never}
 use Rattle.lists.proofs.Tables.{below-same}
 use Rattle.sam.specs.Op.{lenOf, codeOf, isRef}
 use Rattle.text_rules.specs.Valid.{isEmpty, softOp, hardOp, allHard, anyRef, each, noZero, hardOutside, softOutside, inTable, validMapped}
-use Rattle.validity.specs.InnerStages.{codeClass, classOf, stepOf, acceptOf, isWrong}
+use Rattle.validity.specs.InnerStages.{codeClass, classOf, stepOf, acceptOf, isWrong, stageAfter}
 use Rattle.validity.specs.InnerClass.{Class, Class.Reference, Class.Other, Class.Soft, Class.Hard, Class.Unknown}
 use Rattle.validity.specs.declared.Stage.{Stage}
 use Rattle.validity.specs.declared.Stage.the-variants.{Start, AfterHard, Inner, Good, EndSoft, EndHard, Wrong}
@@ -150,10 +150,6 @@ odd-class o h = go (ltb o 16)
     go false = sym (has-is 4 (codeClass (codeOf o)) (class-known (codeOf o) (omega arith) ∙ lt-ltb 8 (codeOf o) (omega arith)))
 
 -- ---- the walk by its last stage
-
-unfoldable pub stageAfter : Stage → List ℕ → Stage
-stageAfter p [] = p
-stageAfter p (o ∷ xs) = stageAfter (stepOf p (classOf o)) xs
 
 pub wrong-run : (xs : List ℕ) → acceptOf (stageAfter Wrong xs) ≡ false
 unfolding stageAfter

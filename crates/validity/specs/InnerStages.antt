@@ -2,6 +2,7 @@
 -- says that the walk answers them.
 use Prim.Native.Nat.{ℕ}
 use mathlib.Core.Bool.{Bool, true, false, cond}
+use mathlib.Core.List.{List, [], _∷_}
 use lib.Dec.{ltb, eqb}
 use Rattle.sam.specs.Op.{codeOf, isRef}
 use Rattle.validity.specs.InnerClass.{Class, Class.Reference, Class.Other, Class.Soft, Class.Hard, Class.Unknown}
@@ -77,3 +78,8 @@ isInnerClass Other = true
 isInnerClass Soft = false
 isInnerClass Hard = false
 isInnerClass Unknown = false
+
+-- the stage after a list
+unfoldable pub stageAfter : Stage → List ℕ → Stage
+stageAfter p [] = p
+stageAfter p (o ∷ xs) = stageAfter (stepOf p (classOf o)) xs

@@ -24,7 +24,7 @@ pub enum Stage {
 }
 
 // Whether an op's code is an inner op's, which is neither a clip nor unknown: bit c of 463 is code c's.
-fn is_inner(op: u32) -> bool
+pub fn is_inner(op: u32) -> bool
     ensures { λ r. ⌜ r ≡ isInnerClass (codeClass (codeOf op)) ⌝ }
 {
     (463u32 >> (op % 16)) % 2 == 1

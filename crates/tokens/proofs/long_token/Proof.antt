@@ -16,7 +16,7 @@ use Rattle.tokens.proofs.long_token.Statement.{statement}
 use Rattle.tokens.proofs.long_token.Tie as tie
 
 abbrev Inv-loop : tie.InvT-loop
-Inv-loop text at num₀ i₀ num i = (at ≤ i) × (i ≤ length text) × (num ≤ 268435455) × Reading text at i num
+Inv-loop text at num₀ i₀ num i = (at ≤ i) × (i ≤ length text) × (num ≤ 268435455) × (num ≤ (i - at) * 268435455) × Reading text at i num
 
 abbrev μ-loop : tie.MeasureT-loop
 μ-loop text at num₀ i₀ num i = length text - i
@@ -32,7 +32,7 @@ digit : (c : tie.Else1 Inv-loop μ-loop) → isDigit (here (c .before .before .b
 digit c = sym (c .before .is-digit .ensures) ∙ not-false _ (c .if1 .left)
 
 loop-holds : tie.Need-loop-holds Inv-loop μ-loop
-loop-holds c = let a = c .before .args in (omega arith, omega arith, omega arith, reading (a .text .now) (a .at))
+loop-holds c = let a = c .before .args in (omega arith, omega arith, omega arith, omega arith, reading (a .text .now) (a .at))
 
 shared-slice-read-b : tie.Need-shared-slice-read-b Inv-loop μ-loop
 shared-slice-read-b c = omega arith
@@ -48,7 +48,7 @@ returns c =
     let t = c .before .before in
     let l = t .before .before .before .before in
     let a = l .before .before .args in
-    read-bad (a .text .now) (a .at) (l .loop .i) (l .loop .num) (l .loop .inv .3) (t .before .before .before .loop-test .taken)
+    read-bad (a .text .now) (a .at) (l .loop .i) (l .loop .num) (l .loop .inv .4) (t .before .before .before .loop-test .taken)
     (byte-zero (l .loop .num) (here l) (letter t) (c .if2 .taken))
 
 returns-2 : tie.Need-returns-2 Inv-loop μ-loop
@@ -57,7 +57,7 @@ returns-2 c =
     let l = t .before .before .before .before in
     let a = l .before .before .args in
     let k = c .before .before .code-at .ensures in
-    read-bad (a .text .now) (a .at) (l .loop .i) (l .loop .num) (l .loop .inv .3) (t .before .before .before .loop-test .taken)
+    read-bad (a .text .now) (a .at) (l .loop .i) (l .loop .num) (l .loop .inv .4) (t .before .before .before .loop-test .taken)
     (byte-unknown (l .loop .num) (here l) (letter t) (unknown (here l) (omega (arith, k, c .if3 .taken))))
 
 add-t13 : tie.Need-add-t13 Inv-loop μ-loop
@@ -71,7 +71,7 @@ returns-3 c =
     let k = c .before .before .code-at in
     let z = c .before .if2 .left in
     let q : k .result ≡ letterCode (here l) = k .ensures ∙ known (here l) (omega (arith, k .ensures)) in
-    read-letter (a .text .now) (a .at) (l .loop .i) (l .loop .num) (l .loop .inv .3) (k .result) (t .before .before .before .loop-test .taken)
+    read-letter (a .text .now) (a .at) (l .loop .i) (l .loop .num) (l .loop .inv .4) (k .result) (t .before .before .before .loop-test .taken)
     (omega arith) (omega arith) (omega arith) (omega arith)
     (byte-letter (l .loop .num) (here l) (letter t) z (omega (arith, q)) ∙ ap Effect.Letter (sym q))
 
@@ -93,7 +93,7 @@ returns-4 c =
     let l = w .before .before .before .before .before in
     let a = l .before .before .args in
     let d = a-digit (here l) (digit (w .before)) in
-    read-bad (a .text .now) (a .at) (l .loop .i) (l .loop .num) (l .loop .inv .3) (w .before .before .before .before .loop-test .taken)
+    read-bad (a .text .now) (a .at) (l .loop .i) (l .loop .num) (l .loop .inv .4) (w .before .before .before .before .loop-test .taken)
     (byte-over (l .loop .num) (here l) (digit (w .before)) (omega (arith, w .wide .ensures)))
 
 add-i : tie.Need-add-i Inv-loop μ-loop
@@ -113,8 +113,9 @@ loop-again c =
       omega arith,
       omega arith,
       omega arith,
+      omega arith,
       subst (λ (v : ℕ). Reading (a .text .now) (a .at) (l .loop .i + 1) v) e
-          (read-digit (a .text .now) (a .at) (l .loop .i) (l .loop .num) (l .loop .inv .3) (l .loop .num * 10 + (here l - 48))
+          (read-digit (a .text .now) (a .at) (l .loop .i) (l .loop .num) (l .loop .inv .4) (l .loop .num * 10 + (here l - 48))
           (w .before .before .before .before .loop-test .taken) (omega arith) (byte-digit (l .loop .num) (here l) (digit (w .before)) m)),
     )
 
@@ -123,7 +124,7 @@ returns-5 c =
     let l = c .before in
     let a = l .before .before .args in
     let p = l .before .before .pre in
-    read-end (a .text .now) (a .at) (l .loop .i) (l .loop .num) (l .loop .inv .3) (omega arith) (omega arith)
+    read-end (a .text .now) (a .at) (l .loop .i) (l .loop .num) (l .loop .inv .4) (omega arith) (omega arith)
 
 pub long-token-spec : {M : Type 1} → statement M
 long-token-spec =

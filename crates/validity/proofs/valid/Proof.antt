@@ -8,9 +8,9 @@ use mathlib.Core.List.{List, _∷_}
 use Rattle.lists.proofs.Walks.{step, done}
 use Rattle.oplist.specs.Ops.{opsOf}
 use Rattle.text_rules.specs.Valid.{validMapped}
-use Rattle.validity.specs.InnerStages.{acceptOf}
+use Rattle.validity.specs.InnerStages.{acceptOf, stageAfter}
 use Rattle.validity.specs.declared.Stage.{Stage}
-use Rattle.validity.proofs.StageLaws.{stageAfter, valid-run, short-class, unknown-run, long-run}
+use Rattle.validity.proofs.StageLaws.{valid-run, short-class, unknown-run, long-run}
 use Rattle.validity.proofs.StageLaws.{wrong-accept}
 use Rattle.validity.proofs.valid.Statement.{statement}
 use Rattle.validity.proofs.valid.Tie as tie
