@@ -15,6 +15,7 @@
  *   17 CSI: min_shift or depth out of range 18 CSI: not 0 <= beg < end <= 2^(min_shift + 3 * depth)
  *   19 clipping: the amount is beyond what can be clipped
  *   20 the text is no MD                    21 MD: the list holds = or X already    22 MD and the list disagree
+ *   23 a received record has under 32 bytes 24 a received record ends before its last quality
  * A call that cannot refuse returns its value.
  *
  * A buffer is a pointer and the number of its elements: `rec` and `mate` are BAM records (the bytes behind block_size), `ops` and
@@ -256,6 +257,15 @@ struct cigar_count cigar_long_clip_cigar_end_raw(const uint32_t *ops, size_t ops
 struct cigar_two cigar_clip_record_start(const uint8_t *rec, size_t rec_len, uint64_t amount, uint8_t *out, size_t out_len);
 /* At the end: the bytes written. Refusals 1, 2, 8, 19, 15, 16, 4, 6 */
 struct cigar_count cigar_clip_record_end(const uint8_t *rec, size_t rec_len, uint64_t amount, uint8_t *out, size_t out_len);
+
+/* ---- the receiving check: whether `received` is what clipping the record `rec`, which was sent, writes, byte for byte, apart from the two bytes of the bin, which
+ * may both be 0. 0 is accepted; else the first part that differs: 1 the 32 bytes of header, 2 the name, 3 the ops, 4 the bases, 5 the qualities, 6 the tags to the
+ * record's end. What the sent record is refused for comes first */
+
+/* Clipped at the start. Refusals 1, 2, 8, 19, 15, 16, 4, 23, 24 */
+struct cigar_count cigar_check_clipped_start(const uint8_t *rec, size_t rec_len, uint64_t amount, const uint8_t *received, size_t received_len);
+/* Clipped at the end. Refusals 1, 2, 8, 19, 15, 16, 4, 23, 24 */
+struct cigar_count cigar_check_clipped_end(const uint8_t *rec, size_t rec_len, uint64_t amount, const uint8_t *received, size_t received_len);
 
 #ifdef __cplusplus
 }

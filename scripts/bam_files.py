@@ -1,4 +1,4 @@
-"""What ./report, ./bed12 and ./clip share: an input as it is stored, inflated block by block and gone through piece by piece; an output of which nothing that is not written goes
+"""What ./report, ./bed12, ./clip and ./check-clipped share: an input as it is stored, inflated block by block and gone through piece by piece; an output of which nothing that is not written goes
 unnoticed; progress on a terminal; whether what is proved is built; and the words on standard error with the exit status."""
 import collections
 import concurrent.futures
@@ -413,6 +413,14 @@ def records(stream):
             break
     if stream.at < len(stream.data):
         raise Damaged(f'it was cut off: it ends inside record {count + 1:,}')
+
+
+def is_placeholder(kite, record):
+    """Two ops, an S as long as the sequence and an N."""
+    if record[12:14] != b'\2\0':
+        return False
+    ops = kite.get_cigar_ops(record)
+    return len(ops) == 2 and ops[0] == kite.l_seq(record) << 4 | 4 and ops[1] & 15 == 3
 
 
 # ---- the answer

@@ -349,7 +349,8 @@ fn whole(random: &mut Random, ops: usize, bases: usize) -> Vec<u8> {
     r
 }
 
-/// A clipped record, beside a copy of the same record whose bin is computed, by memcpy and by the port's own call; even and odd numbers of bases lost, at both ends.
+/// A clipped record, beside a copy of the same record whose bin is computed, by memcpy and by the port's own call; even and odd numbers of bases lost, at both ends. A received record that is accepted,
+/// beside writing it and comparing the two.
 fn written(bases: usize, every: usize, random: &mut Random) {
     const FEW: usize = 16;
     let ops = (bases / every).max(1) | 1;
@@ -363,6 +364,9 @@ fn written(bases: usize, every: usize, random: &mut Random) {
         };
         beside("clip_record_start", &mut |x| { black_box(port::clip_record_start(x, lost, &mut out)).unwrap(); });
         beside("clip_record_end", &mut |x| { black_box(port::clip_record_end(x, lost, &mut out)).unwrap(); });
+        let received: Vec<Vec<u8>> = r.iter().map(|x| { let (n, _) = port::clip_record_start(x, lost, &mut out).unwrap(); out[..n].to_vec() }).collect();
+        let compared = |i: usize| { let (n, _) = port::clip_record_start(&r[i % FEW], lost, &mut out).unwrap(); black_box(out[..n] == received[i % FEW][..]); };
+        row(&format!("check_clipped_start, {parity}, {kind}"), bases, "clip_record_start and memcmp", compared, |i| { black_box(port::check_clipped_start(&r[i % FEW], lost, &received[i % FEW])).unwrap(); });
     }
 }
 

@@ -115,7 +115,9 @@ static uint8_t bytes_room[ROOMS][MOST + GUARD];
     CALL(long_clip_cigar_start_raw, "LUo", "uu", OPS(0), U64(1), OPS(2)) \
     CALL(long_clip_cigar_end_raw, "LUo", "u", OPS(0), U64(1), OPS(2)) \
     CALL(clip_record_start, "RUb", "uu", BYTES(0), U64(1), BYTES(2)) \
-    CALL(clip_record_end, "RUb", "u", BYTES(0), U64(1), BYTES(2))
+    CALL(clip_record_end, "RUb", "u", BYTES(0), U64(1), BYTES(2)) \
+    CALL(check_clipped_start, "RUR", "u", BYTES(0), U64(1), BYTES(2)) \
+    CALL(check_clipped_end, "RUR", "u", BYTES(0), U64(1), BYTES(2))
 
 /* A call that the library lacks is a null pointer here, and a bad request. */
 #define CALL(name, args, kinds, ...) extern __typeof__(cigar_##name) cigar_##name __attribute__((weak));

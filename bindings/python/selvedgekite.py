@@ -35,11 +35,17 @@ WORDS = {
     20: 'malformed MD',
     21: 'a list that already holds = or X',
     22: 'MD and the list disagree',
+    23: 'the received record has under 32 bytes',
+    24: 'the received record ends before its last quality',
 }
 
 
 # what the unclipped position is told as in place of a number, for an unmapped record, and for one without ops
 UNMAPPED, NO_OPS = 'unmapped', 'no_ops'
+
+# what the receiving check answers: that the record is accepted, or its first part that differs
+ACCEPTED = 'accepted'
+CHECKED = (ACCEPTED, 'header', 'name', 'ops', 'bases', 'qualities', 'tags')
 
 
 class Refusal(Exception):
@@ -128,6 +134,7 @@ DECLARED = [
     (Count, BYTES + [c_uint64] + OPS, 'clip_cigar_end true_clip_cigar_end'),
     (Two, BYTES + [c_uint64] + ROOM, 'clip_record_start'),
     (Count, BYTES + [c_uint64] + ROOM, 'clip_record_end'),
+    (Count, BYTES + [c_uint64] + BYTES, 'check_clipped_start check_clipped_end'),
     (Blocks, [c_int32] + OPS + OPS + OPS, 'bed_blocks'),
     (Count, OPS + BYTES + OPS, 'match_ops_from_md'),
     (Flag, BYTES + BYTES, 'is_primary_fr_pair_raw'),
@@ -136,7 +143,7 @@ DECLARED = [
     (Two, BYTES + BYTES + OPS, 'num_bases_extending_past_mate_text_raw'),
 ]
 
-__all__ = ['Refusal', 'UNMAPPED', 'NO_OPS'] + [name for _, _, names in DECLARED for name in names.split()]
+__all__ = ['Refusal', 'UNMAPPED', 'NO_OPS', 'ACCEPTED', 'CHECKED'] + [name for _, _, names in DECLARED for name in names.split()]
 
 
 def loaded():
@@ -664,3 +671,16 @@ def clip_record_end(bam, clip_amount):
     data, n = _record(bam)
     answer, out = _filled(C.cigar_clip_record_end, data, n, _u64(clip_amount), kind=c_uint8, places=n + 4)
     return bytes(memoryview(out)[:answer.value])
+
+
+# ---- the receiving check
+
+
+def check_clipped_start(bam, clip_amount, received):
+    """Whether a received record is the one that was sent, clipped at the start: ACCEPTED, or its first part that differs."""
+    return CHECKED[_value(C.cigar_check_clipped_start(*_record(bam), _u64(clip_amount), *_record(received)))]
+
+
+def check_clipped_end(bam, clip_amount, received):
+    """Whether a received record is the one that was sent, clipped at the end: ACCEPTED, or its first part that differs."""
+    return CHECKED[_value(C.cigar_check_clipped_end(*_record(bam), _u64(clip_amount), *_record(received)))]

@@ -1,6 +1,7 @@
 //! Seeded request lines over every call: short lists and texts exhaustively, boundaries, damaged and truncated records, rooms full and short.
 
 mod long;
+mod receive;
 mod record;
 
 use crate::csi;
@@ -95,7 +96,8 @@ pub fn all(seed: u64, size: u64, emit: &mut dyn FnMut(&[u8]) -> Done) -> Done {
     out.csi_ranges()?;
     out.csi_random()?;
     out.long()?;
-    out.whole_records()
+    out.whole_records()?;
+    out.received_records()
 }
 
 // ---- ops, lists and texts

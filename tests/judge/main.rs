@@ -8,6 +8,7 @@ mod generate;
 mod md;
 mod oracle;
 mod protocol;
+mod receive;
 mod record;
 mod rules;
 mod tags;

@@ -4,7 +4,7 @@
 
 use crate::protocol::{FILL_BYTES, FILL_OPS, Reply, Said, Words, split};
 use crate::rules::{self, MOST_LONG_OPS, MOST_OPS};
-use crate::{bed, csi, md, record, tags};
+use crate::{bed, csi, md, receive, record, tags};
 use original::cigar::{self, CigarKind, CigarOp};
 use original::fields::{self, RawRecordView};
 use original::{bin, overlap};
@@ -643,8 +643,19 @@ fn write_clipped(words: &mut Words, start: bool) -> Option<Reply> {
     lend(room, FILL_BYTES.into(), answer)
 }
 
+// ---- document 02, item 14: the received record is held to that one by `receive`
+
+fn check_clipped(words: &mut Words, start: bool) -> Option<Reply> {
+    let (sent, amount, received) = (words.bytes()?, words.u64()?, words.bytes()?);
+    words.done()?;
+    alone(match clipped_record(&sent, amount, start) {
+        Err(why) => why,
+        Ok((written, _)) => receive::first_difference(&written, &received).map_or_else(Said::Refusal, one),
+    })
+}
+
 /// Every call of the protocol, in its order.
-pub const CALLS: [(&str, Call); 71] = [
+pub const CALLS: [(&str, Call); 73] = [
     ("ref_id", |w| of_record(w, never, fields::ref_id, one)),
     ("pos", |w| of_record(w, never, fields::pos, one)),
     ("l_read_name", |w| of_record(w, never, fields::reach::l_read_name, one)),
@@ -716,6 +727,8 @@ pub const CALLS: [(&str, Call); 71] = [
     ("csi_reg2bins", csi_reg2bins),
     ("clip_record_start", |w| write_clipped(w, true)),
     ("clip_record_end", |w| write_clipped(w, false)),
+    ("check_clipped_start", |w| check_clipped(w, true)),
+    ("check_clipped_end", |w| check_clipped(w, false)),
 ];
 
 /// The answer to a request, or none for a bad one.

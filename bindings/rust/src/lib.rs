@@ -54,6 +54,10 @@ pub enum Refusal {
     MatchesTold = 21,
     /// MD and the list disagree.
     MdDisagrees = 22,
+    /// The receiving check: the received record has under 32 bytes.
+    ReceivedShort = 23,
+    /// The receiving check: the received record ends before its last quality.
+    ReceivedCut = 24,
 }
 
 const REFUSALS: &[(Refusal, &str)] = &[
@@ -78,6 +82,8 @@ const REFUSALS: &[(Refusal, &str)] = &[
     (Refusal::BadMd, "malformed MD"),
     (Refusal::MatchesTold, "a list that already holds = or X"),
     (Refusal::MdDisagrees, "MD and the list disagree"),
+    (Refusal::ReceivedShort, "the received record has under 32 bytes"),
+    (Refusal::ReceivedCut, "the received record ends before its last quality"),
 ];
 
 // The refusal of a number, and its words.
@@ -659,4 +665,30 @@ pub fn clip_record_start(bam: &[u8], clip_amount: usize, out: &mut [u8]) -> Resu
 #[inline]
 pub fn clip_record_end(bam: &[u8], clip_amount: usize, out: &mut [u8]) -> Result<usize, Refusal> {
     count(unsafe { raw::cigar_clip_record_end(bam.as_ptr(), bam.len(), clip_amount as u64, out.as_mut_ptr(), out.len()) })
+}
+
+/// What the receiving check says of a record: that it is accepted, or its first part that differs.
+#[derive(Clone, Copy, Debug, PartialEq, Eq)]
+pub enum Checked {
+    Accepted,
+    Header,
+    Name,
+    Ops,
+    Bases,
+    Qualities,
+    Tags,
+}
+
+const CHECKED: [Checked; 7] = [Checked::Accepted, Checked::Header, Checked::Name, Checked::Ops, Checked::Bases, Checked::Qualities, Checked::Tags];
+
+/// Whether `received` is the record `bam`, clipped at the start, byte for byte but for its bin, which may be 0.
+#[inline]
+pub fn check_clipped_start(bam: &[u8], clip_amount: usize, received: &[u8]) -> Result<Checked, Refusal> {
+    count(unsafe { raw::cigar_check_clipped_start(bam.as_ptr(), bam.len(), clip_amount as u64, received.as_ptr(), received.len()) }).map(|part| CHECKED[part])
+}
+
+/// Whether `received` is the record `bam`, clipped at the end, byte for byte but for its bin, which may be 0.
+#[inline]
+pub fn check_clipped_end(bam: &[u8], clip_amount: usize, received: &[u8]) -> Result<Checked, Refusal> {
+    count(unsafe { raw::cigar_check_clipped_end(bam.as_ptr(), bam.len(), clip_amount as u64, received.as_ptr(), received.len()) }).map(|part| CHECKED[part])
 }

@@ -137,4 +137,6 @@ extern "C" {
     pub fn cigar_long_clip_cigar_end_raw(ops: *const u32, ops_len: usize, amount: u64, out: *mut u32, out_len: usize) -> Count;
     pub fn cigar_clip_record_start(rec: *const u8, rec_len: usize, amount: u64, out: *mut u8, out_len: usize) -> Two;
     pub fn cigar_clip_record_end(rec: *const u8, rec_len: usize, amount: u64, out: *mut u8, out_len: usize) -> Count;
+    pub fn cigar_check_clipped_start(rec: *const u8, rec_len: usize, amount: u64, received: *const u8, received_len: usize) -> Count;
+    pub fn cigar_check_clipped_end(rec: *const u8, rec_len: usize, amount: u64, received: *const u8, received_len: usize) -> Count;
 }

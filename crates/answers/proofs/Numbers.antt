@@ -6,7 +6,7 @@ use native.Mathlib.Omega.{arith}
 use borrow.Author.Tests.{ne-eqb}
 use lib.Dec.{eqb}
 use Rattle.answers.specs.declared.Refusal.{Refusal}
-use Rattle.answers.specs.declared.Refusal.the-variants.{ShortRecord, AreaOverrun, TooManyOps, Overflow, NotACigar, NoRoom, BadCode, TooLong, BadStart, BadLength, AmountBeyond, BadLevels, BadRegion, NoBlocks, QueryDiffers, CountOver, BadTags, OtherCg, BadMd, MatchesTold, MdDisagrees}
+use Rattle.answers.specs.declared.Refusal.the-variants.{ShortRecord, AreaOverrun, TooManyOps, Overflow, NotACigar, NoRoom, BadCode, TooLong, BadStart, BadLength, AmountBeyond, BadLevels, BadRegion, NoBlocks, QueryDiffers, CountOver, BadTags, OtherCg, BadMd, MatchesTold, MdDisagrees, ReceivedShort, ReceivedCut}
 use Rattle.answers.specs.Answers.{numberOf}
 
 pub from-one : (why : Refusal) → numberOf why ≡ suc (numberOf why - 1)
@@ -31,6 +31,8 @@ from-one AmountBeyond = refl
 from-one BadMd = refl
 from-one MatchesTold = refl
 from-one MdDisagrees = refl
+from-one ReceivedShort = refl
+from-one ReceivedCut = refl
 
 pub not-zero : (why : Refusal) → eqb (numberOf why) 0 ≡ false
 not-zero why = ne-eqb (numberOf why) 0 (λ e. omega (arith, from-one why))

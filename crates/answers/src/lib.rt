@@ -25,6 +25,8 @@ pub enum Refusal {
     BadMd,
     MatchesTold,
     MdDisagrees,
+    ReceivedShort,
+    ReceivedCut,
 }
 
 // A signed number.
@@ -96,6 +98,8 @@ pub fn number(why: Refusal) -> u32
         Refusal::BadMd => 20,
         Refusal::MatchesTold => 21,
         Refusal::MdDisagrees => 22,
+        Refusal::ReceivedShort => 23,
+        Refusal::ReceivedCut => 24,
     }
 }
 

@@ -6,7 +6,7 @@ use mathlib.Core.List.{List}
 use native.Mathlib.Omega.{arith}
 use Rattle.answers.specs.Answers.{Told, flagValue, numberOf}
 use Rattle.answers.specs.declared.Refusal.{Refusal}
-use Rattle.answers.specs.declared.Refusal.the-variants.{ShortRecord, AreaOverrun, TooManyOps, Overflow, NotACigar, NoRoom, BadCode, TooLong, BadStart, BadLength, AmountBeyond, BadLevels, BadRegion, NoBlocks, QueryDiffers, CountOver, BadTags, OtherCg, BadMd, MatchesTold, MdDisagrees}
+use Rattle.answers.specs.declared.Refusal.the-variants.{ShortRecord, AreaOverrun, TooManyOps, Overflow, NotACigar, NoRoom, BadCode, TooLong, BadStart, BadLength, AmountBeyond, BadLevels, BadRegion, NoBlocks, QueryDiffers, CountOver, BadTags, OtherCg, BadMd, MatchesTold, MdDisagrees, ReceivedShort, ReceivedCut}
 use Rattle.answers.specs.Settled.{Outcome, Settled, OutcomeTwo, SettledTwo}
 use Rattle.border.specs.Border.{isSet, across, acrossTwo}
 
@@ -46,3 +46,5 @@ small-number CountOver = omega arith
 small-number BadLevels = omega arith
 small-number BadRegion = omega arith
 small-number AmountBeyond = omega arith
+small-number ReceivedShort = omega arith
+small-number ReceivedCut = omega arith

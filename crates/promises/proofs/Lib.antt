@@ -10,6 +10,7 @@ pub mod MdRows
 pub mod OverlapRows
 pub mod LongRows
 pub mod RecordRows
+pub mod ReceiveRows
 pub mod BorderRows
 pub mod Settles
 pub mod Demand3
@@ -19,6 +20,7 @@ pub mod SamLaws
 pub mod ReadLaws
 pub mod LongLaws
 pub mod RecordLaws
+pub mod ReceiveLaws
 pub mod BedLaws
 pub mod MdLaws
 pub mod CsiLaws

@@ -137,7 +137,7 @@ module _ (b : List ℕ) (amount : ℕ) (start : Bool) (d : List ℕ) where
       fate-row (differs (seqLenOf b) (sumOf queryLen (recordOps b))) QueryDiffers 15 _ refl refl
       (λ e. fate-row (ltb mostRecordOps (length ys)) CountOver 16 _ refl refl (λ f. place-row s))
 
-  fate-rows : FateGives (clippedFate b amount start) (clippedRecordRows b amount start d)
+  pub fate-rows : FateGives (clippedFate b amount start) (clippedRecordRows b amount start d)
   unfolding clippedFate isBeyond clippable
   fate-rows =
       fate-row (isShort b) ShortRecord 1 _ refl refl

@@ -92,7 +92,7 @@ fn base_at(rec: &[u8], area: usize, i: usize) -> u8
 }
 
 // Two bases that lie in two bytes: the second of byte i and the first of the next.
-fn straddled(rec: &[u8], i: usize) -> u8
+pub fn straddled(rec: &[u8], i: usize) -> u8
     requires { ⌜ i + 1 < length (now rec) ⌝ }
     ensures { λ r. ⌜ r ≡ getD (now (rec .entry)) i 0 % 16 * 16 + getD (now (rec .entry)) (i + 1) 0 / 16 % 16 ⌝ }
 {
@@ -100,7 +100,7 @@ fn straddled(rec: &[u8], i: usize) -> u8
 }
 
 // Base i by itself in a byte: the low half is 0.
-fn alone(rec: &[u8], area: usize, i: usize) -> u8
+pub fn alone(rec: &[u8], area: usize, i: usize) -> u8
     requires { ⌜ area + i / 2 < length (now rec) ⌝ }
     ensures { λ r. ⌜ r ≡ getD (basesOf (drop area (now (rec .entry)))) i 0 * 16 + 0 ⌝ }
 {

@@ -3,7 +3,7 @@ use Prim.Native.Nat.{ℕ, _+_, _-_, _≤_, _<_}
 use mathlib.Core.Path.{_≡_, refl, sym, ap, _∙_}
 use mathlib.Core.Bool.{Bool, true, false, cond}
 use mathlib.Core.Logic.{inl, inr}
-use mathlib.Core.List.{List, [], _∷_, _++_}
+use mathlib.Core.List.{List, [], _∷_, _++_, reverse}
 use native.Mathlib.Omega.{arith}
 use borrow.Author.Tests.{lt-ltb, le-ltb, le-leb}
 use lib.IntN.{ℤ, pos, _+ℤ_}
@@ -37,7 +37,8 @@ use Rattle.clip_rules.specs.declared.Planned.the-variants as Ops
 use Rattle.clip_laws.proofs.Drops.{clip-drops, drops-length}
 use Rattle.record_rules.specs.Written.{Change, newRecord}
 use Rattle.record_rules.specs.Clipping.{mostRecordOps, differs, lostQuery, newLen, firstKept, startCount, binAt, Fate, Refuses, Becomes, binned, placed, counted, clippedFate, putInto, written}
-use Rattle.record_rules.specs.InnerPlan.{plannedOps, FateIs}
+use Rattle.record_rules.specs.InnerPlan.{plannedOps, changeBy, Fits, FateIs}
+use Rattle.record_rules.specs.declared.RecordPlan.{RecordPlan}
 use Rattle.record_rules.specs.declared.PlannedRecord.{PlannedRecord}
 use Rattle.record_rules.specs.declared.PlannedRecord.the-variants as Planned
 
@@ -66,6 +67,14 @@ module _ (start : Bool) (xs : List ℕ) (p : Plan) where
       let d = length-drop (p .skip) (facing start xs) in
       let l = length-facing start xs in
       omega arith
+
+-- the ops that are left, from either end
+pub planned-start : (start : Bool) (xs : List ℕ) (p : Plan) → start ≡ true → take (p .heads) (p .first ∷ (p .second ∷ [])) ++ drop (p .skip) xs ≡ plannedOps start xs p
+planned-start start xs p e = rw e
+
+pub planned-end : (start : Bool) (xs : List ℕ) (p : Plan) → start ≡ false
+    → reverse (take (p .heads) (p .first ∷ (p .second ∷ [])) ++ drop (p .skip) (reverse xs)) ≡ plannedOps start xs p
+planned-end start xs p e = rw e
 
 module _ (xs : List ℕ) (start : Bool) (amount : ℕ) (p : Plan) (P : PlanIs (facing start xs) amount (p .skip) (p .heads) (p .first) (p .second) (p .lost)) where
   pub planned-is : plannedOps start xs p ≡ clippedOps xs amount start
@@ -108,6 +117,13 @@ ops-lie b h = simp (le-leb (opsEnd b) (length b) (omega arith))
 
 pub ops-count : (b : List ℕ) → tagsStart b ≤ length b → length (recordOps b) ≡ opCountOf b
 ops-count b h = ap length (ops-lie b h) ∙ length-opsIn b (opsStart b) (opCountOf b)
+
+-- how many ops a plan leaves that fits
+pub ops-left : (b : List ℕ) (start : Bool) (p : RecordPlan) → Fits b p → p .n ≡ length (changeBy b start p .ops)
+ops-left b start p F =
+    let o = ops-count b (F .whole) in
+    let l = planned-count start (recordOps b) (p .ops) (F .heads-in) (omega (arith, F .skip-in)) in
+    omega (arith, F .n-is, F .skip-in)
 
 -- ---- the cases of a fate
 

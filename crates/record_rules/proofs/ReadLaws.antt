@@ -12,7 +12,7 @@ use Rattle.signed.specs.Whole.{bits32, twos32}
 use Rattle.signed.proofs.Halves.{bits32-back, bits32-below}
 use Rattle.sam.specs.Record.{byteAt, refIdOf, posOf, nameLenOf, storedBinOf, opCountOf, flagsOf, seqLenOf, mateRefIdOf, matePosOf, templateLenOf, opsStart, opsIn, basesStart, qualsStart, tagsStart, uint32, opBytes}
 use Rattle.sam.specs.Bases.{basesOf, packed}
-use Rattle.sam.specs.Parts.{part, namePart, basesPart, qualsPart, tagsPart, recordBases, uint16}
+use Rattle.sam.specs.Parts.{part, headerPart, namePart, opsPart, basesPart, qualsPart, tagsPart, recordBases, uint16}
 use Rattle.sam.proofs.BaseLaws.{length-behind, read-back, last-half}
 use Rattle.sam.proofs.PartLaws.{read-ops}
 use Rattle.oplist.specs.Ops.{recordOps}
@@ -215,6 +215,10 @@ module _ (b : List ℕ) (c : Change) (H : Holdable b c) where
 
   -- ---- the parts
 
+  pub header-back : headerPart (newRecord b c) ≡ newHeader b c
+  unfolding newRecord
+  header-back = take-at (newHeader b c) Rest 32 (header-size b c long)
+
   pub name-back : namePart (newRecord b c) ≡ namePart b
   unfolding newRecord
   name-back =
@@ -230,7 +234,14 @@ module _ (b : List ℕ) (c : Change) (H : Holdable b c) where
       ∙ ap (opsIn (Two ++ (opBytes (c .ops) ++ r)) (length Two)) count-back
       ∙ read-ops Two (c .ops) r (H .ops-small)
 
-  bases-part-back : basesPart (newRecord b c) ≡ newBases b c
+  pub ops-part-back : opsPart (newRecord b c) ≡ newOps b c
+  ops-part-back =
+      let r : List ℕ = newBases b c ++ (newQuals b c ++ newTags b c) in
+      ap (λ (l : List ℕ). part l (opsStart (newRecord b c)) (4 * opCountOf (newRecord b c))) as-two
+      ∙ part-at Two (newOps b c) r (opsStart (newRecord b c)) (4 * opCountOf (newRecord b c)) two-size
+      (ops-size b c (H .whole) (H .within) ∙ ap (λ (n : ℕ). 4 * n) (sym count-back))
+
+  pub bases-part-back : basesPart (newRecord b c) ≡ newBases b c
   bases-part-back =
       ap (λ (l : List ℕ). part l (basesStart (newRecord b c)) ((seqLenOf (newRecord b c) + 1) / 2)) as-three
       ∙ part-at Three (newBases b c) (newQuals b c ++ newTags b c) (basesStart (newRecord b c)) ((seqLenOf (newRecord b c) + 1) / 2) three-size

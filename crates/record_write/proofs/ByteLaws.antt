@@ -1,8 +1,8 @@
 -- The parts of a clipped record, as the writers leave them.
 use Prim.Native.Nat.{ℕ, _+_, _-_, _*_, _/_, _≤_, _<_}
 use mathlib.Core.Path.{_≡_, refl, sym, ap, _∙_}
-use mathlib.Core.Bool.{Bool, true, false}
-use mathlib.Core.List.{List, [], _∷_, _++_, append-assoc, reverse, reverse-append}
+use mathlib.Core.Bool.{Bool}
+use mathlib.Core.List.{List, _++_, append-assoc, reverse, reverse-append}
 use native.Mathlib.Omega.{arith}
 use lib.ListN.{length, getD, take, drop, length-drop, length-append}
 use lib.Seq.{take-add, take-all, drop-drop, length-take-le}
@@ -17,11 +17,10 @@ use Rattle.sam.proofs.BaseLaws.{packed-size, length-behind}
 use Rattle.sam.proofs.PartLaws.{length-opBytes, ops-append, ops-stand, drop-ops, take-ops}
 use Rattle.oplist.specs.Ops.{recordOps}
 use Rattle.oplist.proofs.OpsLaws.{length-opsIn}
-use Rattle.clip_rules.specs.declared.Plan.{Plan}
 use Rattle.record_rules.specs.Written.{Change, newHeader, newName, newOps, newBases, newQuals, newTags, newRecord}
 use Rattle.record_rules.specs.InnerPlan.{changeBy, plannedOps, Fits}
 use Rattle.record_rules.specs.declared.RecordPlan.{RecordPlan}
-use Rattle.record_rules.proofs.PlanLaws.{ops-lie, ops-count, planned-count}
+use Rattle.record_rules.proofs.PlanLaws.{ops-lie, planned-count, ops-left}
 use Rattle.record_rules.proofs.PartLaws.{header-stored, bases-left, front-size, record-size}
 
 -- header and name
@@ -107,38 +106,24 @@ tail-is b d d₁ d₂ d₃ from n at second x y z ex ey ez t f e g p q r =
     ∙ ap (λ (o : List ℕ). packed (part (recordBases b) from n) ++ (o ++ tagsPart b))
     (ap (take n) (sym (drop-drop from (qualsStart b) b)) ∙ sym (part-of-front (drop (qualsStart b) b) from n (seqLenOf b) f)))
 
-pub planned-start : (start : Bool) (xs : List ℕ) (p : Plan) → start ≡ true → take (p .heads) (p .first ∷ (p .second ∷ [])) ++ drop (p .skip) xs ≡ plannedOps start xs p
-planned-start start xs p e = rw e
-
-pub planned-end : (start : Bool) (xs : List ℕ) (p : Plan) → start ≡ false
-    → reverse (take (p .heads) (p .first ∷ (p .second ∷ [])) ++ drop (p .skip) (reverse xs)) ≡ plannedOps start xs p
-planned-end start xs p e = rw e
-
 -- of the record that a plan is for
 module _ (b : List ℕ) (start : Bool) (p : RecordPlan) (F : Fits b p) where
-  -- how many ops it has
-  pub n-is : p .n ≡ length (changeBy b start p .ops)
-  n-is =
-      let o = ops-count b (F .whole) in
-      let l = planned-count start (recordOps b) (p .ops) (F .heads-in) (omega (arith, F .skip-in)) in
-      omega (arith, F .n-is, F .skip-in)
-
   pub size-is : (n : ℕ) → n ≡ 32 + nameLenOf b + (4 * p .n + ((p .len + 1) / 2 + (p .len + (length b - tagsStart b)))) → n ≡ length (newRecord b (changeBy b start p))
-  size-is n e = let s = record-size b (changeBy b start p) (F .whole) (F .bases-in) in let k = n-is in omega arith
+  size-is n e = let s = record-size b (changeBy b start p) (F .whole) (F .bases-in) in let k = ops-left b start p F in omega arith
 
   -- its places lie within memory that it fits
   pub ops-fit : (m at n : ℕ) → length (newRecord b (changeBy b start p)) ≤ m → at ≡ opsStart b → n ≡ opCountOf b
       → (p .ops .skip ≤ n) × (at + 4 * n ≤ length b) × (at + 4 * (p .ops .heads + (n - p .ops .skip)) ≤ m)
   ops-fit m at n h ea en =
       let s = record-size b (changeBy b start p) (F .whole) (F .bases-in) in
-      let k = n-is in
+      let k = ops-left b start p F in
       (omega (arith, F .skip-in), omega (arith, F .whole), omega (arith, F .n-is, F .skip-in))
 
   pub front-fit : (m : ℕ) → length (newRecord b (changeBy b start p)) ≤ m → 32 + nameLenOf b ≤ m
   front-fit m h = let s = record-size b (changeBy b start p) (F .whole) (F .bases-in) in omega arith
 
   tail-fit : (m at : ℕ) → length (newRecord b (changeBy b start p)) ≤ m → at ≡ opsStart b → at + 4 * p .n + ((p .len + 1) / 2 + (p .len + (length b - tagsStart b))) ≤ m
-  tail-fit m at h ea = let s = record-size b (changeBy b start p) (F .whole) (F .bases-in) in let k = n-is in omega arith
+  tail-fit m at h ea = let s = record-size b (changeBy b start p) (F .whole) (F .bases-in) in let k = ops-left b start p F in omega arith
 
   -- also when front and ops are written
   pub tail-room : (d d₁ d₂ : List ℕ) (at n : ℕ) → at ≡ opsStart b → n ≡ opCountOf b → length (newRecord b (changeBy b start p)) ≤ length d
@@ -165,7 +150,7 @@ module _ (b : List ℕ) (start : Bool) (p : RecordPlan) (F : Fits b p) where
   record-is d d₁ d₂ d₃ at n ea en f q₁ q₂ q₃ =
       let c = changeBy b start p in
       let z : List ℕ = newBases b c ++ (newQuals b c ++ newTags b c) in
-      let k = n-is in
+      let k = ops-left b start p F in
       let g = tail-fit (length d) at f ea in
       let s = front-size b c (F .whole) (F .bases-in) in
       let l = length-opBytes (c .ops) in

@@ -16,7 +16,7 @@ fn written_bytes(record: &[u8], amount: u64, start: bool) -> usize {
 }
 
 /// A stored length: mostly the query's, or none; now and then one that is near, or far too large.
-fn stored(rng: &mut Rng, ops: &[u32]) -> u32 {
+pub(super) fn stored(rng: &mut Rng, ops: &[u32]) -> u32 {
     let query = u32::try_from(rules::query_total(ops)).unwrap_or(0).min(1 << 12);
     match rng.below(12) {
         0..=7 => query,
@@ -41,7 +41,7 @@ fn moved_position(rng: &mut Rng, ops: &[u32]) -> i32 {
 }
 
 /// A record of these ops and so many bases, with tags behind it.
-fn whole(rng: &mut Rng, ops: Vec<u32>, bases: u32) -> Vec<u8> {
+pub(super) fn whole(rng: &mut Rng, ops: Vec<u32>, bases: u32) -> Vec<u8> {
     let pos = moved_position(rng, &ops);
     let mut bytes = front(rng, bases, ops);
     bytes[4..8].copy_from_slice(&pos.to_le_bytes());
@@ -52,7 +52,7 @@ fn whole(rng: &mut Rng, ops: Vec<u32>, bases: u32) -> Vec<u8> {
     bytes
 }
 
-fn some_list(rng: &mut Rng) -> Vec<u32> {
+pub(super) fn some_list(rng: &mut Rng) -> Vec<u32> {
     match rng.below(8) {
         0..=3 => placed_list(rng, 12),
         4 => any_list(rng, 8, &ALL_CODES, 9),

@@ -5,7 +5,8 @@ use native.Mathlib.Omega.{arith}
 use mir.Syntax.{w32}
 use mir.Val.{toZ, ofZ}
 use Rattle.record_rules.specs.InnerPlan.{changeBy}
-use Rattle.record_write.proofs.ByteLaws.{front-is, n-is}
+use Rattle.record_rules.proofs.PlanLaws.{ops-left}
+use Rattle.record_write.proofs.ByteLaws.{front-is}
 use borrow.Author.Needs.{needs}
 use Rattle.record_write.proofs.bytes.put_front.Statement.{statement}
 use Rattle.record_write.proofs.bytes.put_front.Tie as tie
@@ -54,7 +55,7 @@ returns c =
     let b = a .rec .now in
     let e : toZ w32 (ofZ w32 (a .p .place)) ≡ a .p .place = search (needs, t .before .struct-told .given) in
     front-is b (a .out .now) _ _ _ _ _ (changeBy b (a .start) (a .p)) (32 + u .u8-at .result) _ _ _ _ (omega arith) (omega (arith, s .pre .0 .whole))
-    (simp e at (t .bits32 .ensures)) refl (n-is b (a .start) (a .p) (s .pre .0)) refl
+    (simp e at (t .bits32 .ensures)) refl (ops-left b (a .start) (a .p) (s .pre .0)) refl
     (p₁ .copy-bytes .ensures) (p₂ .put-u32 .ensures) (p₃ .put-u16 .ensures) (p₄ .put-u162 .ensures) (p₅ .put-u322 .ensures)
 
 pub put-front-spec : {M : Type 1} → statement M

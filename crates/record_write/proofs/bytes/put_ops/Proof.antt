@@ -5,7 +5,7 @@ use mathlib.Core.List.{List}
 use Rattle.lists.specs.Lists.{splice}
 use Rattle.sam.specs.Record.{opsIn}
 use Rattle.sam.specs.Record.{opBytes}
-use Rattle.record_write.proofs.ByteLaws.{planned-start, planned-end}
+use Rattle.record_rules.proofs.PlanLaws.{planned-start, planned-end}
 use borrow.Author.Needs.{needs}
 use Rattle.record_write.proofs.bytes.put_ops.Statement.{statement}
 use Rattle.record_write.proofs.bytes.put_ops.Tie as tie
