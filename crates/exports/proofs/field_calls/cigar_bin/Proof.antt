@@ -1,4 +1,5 @@
 -- What the call answers, told.
+use mathlib.Core.Path.{refl}
 use borrow.Author.Needs.{needs}
 use Rattle.exports.proofs.field_calls.cigar_bin.Statement.{statement}
 use Rattle.exports.proofs.field_calls.cigar_bin.Tie as tie
@@ -10,7 +11,7 @@ told-nat-requires : tie.Need-told-nat-requires
 told-nat-requires c κs = search needs
 
 returns : tie.Need-returns
-returns c = cc
+returns c = rw (c .told-nat .ensures, c .before .bin .ensures) refl
 
 pub cigar-bin-spec : {M : Type 1} → statement M
 cigar-bin-spec = tie.close (tie.spec bin-requires told-nat-requires returns)

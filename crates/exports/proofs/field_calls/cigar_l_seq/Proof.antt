@@ -1,4 +1,5 @@
 -- What the call answers, told.
+use mathlib.Core.Path.{refl}
 use borrow.Author.Needs.{needs}
 use Rattle.exports.proofs.field_calls.cigar_l_seq.Statement.{statement}
 use Rattle.exports.proofs.field_calls.cigar_l_seq.Tie as tie
@@ -10,7 +11,7 @@ told-nat-requires : tie.Need-told-nat-requires
 told-nat-requires c κs = search needs
 
 returns : tie.Need-returns
-returns c = cc
+returns c = rw (c .told-nat .ensures, c .before .l-seq .ensures) refl
 
 pub cigar-l-seq-spec : {M : Type 1} → statement M
 cigar-l-seq-spec = tie.close (tie.spec l-seq-requires told-nat-requires returns)

@@ -1,4 +1,5 @@
 -- What the call answers, told.
+use mathlib.Core.Path.{refl}
 use borrow.Author.Needs.{needs}
 use Rattle.exports.proofs.length_calls.cigar_saturating_reference_length.Statement.{
   statement,
@@ -12,7 +13,7 @@ told-int-requires : tie.Need-told-int-requires
 told-int-requires c κs = search needs
 
 returns : tie.Need-returns
-returns c = cc
+returns c = rw (c .told-int .ensures, c .before .saturating-reference-length .ensures) refl
 
 pub cigar-saturating-reference-length-spec : {M : Type 1} → statement M
 cigar-saturating-reference-length-spec =

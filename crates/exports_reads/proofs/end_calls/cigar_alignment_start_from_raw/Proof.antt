@@ -1,4 +1,5 @@
 -- What the call answers, told.
+use mathlib.Core.Path.{refl}
 use borrow.Author.Needs.{needs}
 use Rattle.exports_reads.proofs.end_calls.cigar_alignment_start_from_raw.Statement.{
   statement,
@@ -12,7 +13,7 @@ told-place1-requires : tie.Need-told-place1-requires
 told-place1-requires c κs = search needs
 
 returns : tie.Need-returns
-returns c = cc
+returns c = rw (c .told-place1 .ensures, c .before .alignment-start-from-raw .ensures) refl
 
 pub cigar-alignment-start-from-raw-spec : {M : Type 1} → statement M
 cigar-alignment-start-from-raw-spec =

@@ -1,5 +1,6 @@
 -- What the call answers, told.
 use mir.Facts.{toZ-ofZ}
+use mathlib.Core.Path.{refl}
 use borrow.Author.Needs.{needs}
 use Rattle.exports_reads.proofs.end_calls.cigar_unclipped_5prime_raw.Statement.{statement}
 use Rattle.exports_reads.proofs.end_calls.cigar_unclipped_5prime_raw.Tie as tie
@@ -17,7 +18,7 @@ told-int-requires : tie.Need-told-int-requires
 told-int-requires c κs = search needs
 
 returns : tie.Need-returns
-returns c = let s = c .before .before .before .before .before in cc (toZ-ofZ (s .fits .position))
+returns c = let s = c .before .before .before .before .before in rw (c .told-int .ensures, c .before .bare0 .ensures, c .before .before .unclipped-5prime-raw .ensures, c .before .before .before .flag .ensures, toZ-ofZ (s .fits .position)) refl
 
 pub cigar-unclipped-5prime-raw-spec : {M : Type 1} → statement M
 cigar-unclipped-5prime-raw-spec =

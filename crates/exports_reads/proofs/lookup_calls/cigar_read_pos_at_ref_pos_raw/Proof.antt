@@ -1,4 +1,5 @@
 -- What the call answers, told.
+use mathlib.Core.Path.{refl}
 use borrow.Author.Needs.{needs}
 use Rattle.exports_reads.proofs.lookup_calls.cigar_read_pos_at_ref_pos_raw.Statement.{
   statement,
@@ -15,7 +16,7 @@ told-found-requires : tie.Need-told-found-requires
 told-found-requires c κs = search needs
 
 returns : tie.Need-returns
-returns c = cc
+returns c = rw (c .told-found .ensures, c .before .read-pos-at-ref-pos-raw .ensures, c .before .before .flag .ensures) refl
 
 pub cigar-read-pos-at-ref-pos-raw-spec : {M : Type 1} → statement M
 cigar-read-pos-at-ref-pos-raw-spec =

@@ -1,5 +1,6 @@
 -- What the call answers, told.
 use mir.Facts.{toZ-ofZ}
+use mathlib.Core.Path.{refl}
 use borrow.Author.Needs.{needs}
 use Rattle.exports_reads.proofs.overlap_calls.cigar_bases_extending_past_mate_ops.Statement.{
   statement,
@@ -16,7 +17,7 @@ told-count-requires : tie.Need-told-count-requires
 told-count-requires c κs = search needs
 
 returns : tie.Need-returns
-returns c = let s = c .before .before .before .before .before in cc (toZ-ofZ (s .fits .position), toZ-ofZ (s .fits .mate-position))
+returns c = let s = c .before .before .before .before .before in rw (c .told-count .ensures, c .before .bases-extending-past-mate-ops .ensures, c .before .before .flag .ensures, toZ-ofZ (s .fits .position), toZ-ofZ (s .fits .mate-position)) refl
 
 pub cigar-bases-extending-past-mate-ops-spec : {M : Type 1} → statement M
 cigar-bases-extending-past-mate-ops-spec =

@@ -1,4 +1,5 @@
 -- What the call answers, told.
+use mathlib.Core.Path.{refl}
 use borrow.Author.Needs.{needs}
 use Rattle.exports_reads.proofs.overlap_calls.cigar_is_fr_pair_raw.Statement.{statement}
 use Rattle.exports_reads.proofs.overlap_calls.cigar_is_fr_pair_raw.Tie as tie
@@ -10,7 +11,7 @@ told-flag-requires : tie.Need-told-flag-requires
 told-flag-requires c κs = search needs
 
 returns : tie.Need-returns
-returns c = cc
+returns c = rw (c .told-flag .ensures, c .before .is-fr-pair-raw .ensures) refl
 
 pub cigar-is-fr-pair-raw-spec : {M : Type 1} → statement M
 cigar-is-fr-pair-raw-spec = tie.close (tie.spec is-fr-pair-raw-requires told-flag-requires returns)

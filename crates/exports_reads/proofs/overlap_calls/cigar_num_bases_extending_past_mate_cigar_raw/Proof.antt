@@ -1,4 +1,5 @@
 -- What the call answers, told.
+use mathlib.Core.Path.{refl}
 use borrow.Author.Needs.{needs}
 use Rattle.exports_reads.proofs.overlap_calls.cigar_num_bases_extending_past_mate_cigar_raw.Statement.{
   statement,
@@ -13,7 +14,7 @@ told-count-requires : tie.Need-told-count-requires
 told-count-requires c κs = search needs
 
 returns : tie.Need-returns
-returns c = cc
+returns c = rw (c .told-count .ensures, c .before .num-bases-extending-past-mate-cigar-raw .ensures) refl
 
 pub cigar-num-bases-extending-past-mate-cigar-raw-spec : {M : Type 1} → statement M
 cigar-num-bases-extending-past-mate-cigar-raw-spec =

@@ -1,4 +1,5 @@
 -- What the call answers, told.
+use mathlib.Core.Path.{refl}
 use borrow.Author.Needs.{needs}
 use Rattle.exports_reads.proofs.text_calls.cigar_is_valid_mapped_cigar.Statement.{
   statement,
@@ -12,7 +13,7 @@ told-flag-requires : tie.Need-told-flag-requires
 told-flag-requires c κs = search needs
 
 returns : tie.Need-returns
-returns c = cc
+returns c = rw (c .told-flag .ensures, c .before .is-valid-mapped-cigar .ensures) refl
 
 pub cigar-is-valid-mapped-cigar-spec : {M : Type 1} → statement M
 cigar-is-valid-mapped-cigar-spec =
