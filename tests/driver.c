@@ -338,7 +338,7 @@ static int read_arg(char kind, int i)
     switch (kind) {
     case 'R':
     case 'W':
-        return read_bytes(a, record_area[i & 1]);
+        return read_bytes(a, record_area[i > 0]);
     case 'L':
         return read_list(a, list_area[i > 2]);
     case 'o':

@@ -670,12 +670,19 @@ pub fn clip_record_end(bam: &[u8], clip_amount: usize, out: &mut [u8]) -> Result
 /// What the receiving check says of a record: that it is accepted, or its first part that differs.
 #[derive(Clone, Copy, Debug, PartialEq, Eq)]
 pub enum Checked {
+    /// It is the record that is due.
     Accepted,
+    /// The 32 bytes of its header differ.
     Header,
+    /// Its name differs.
     Name,
+    /// Its ops differ.
     Ops,
+    /// Its bases differ, or the half byte behind an odd number of them.
     Bases,
+    /// Its qualities differ.
     Qualities,
+    /// Its tags differ, or end elsewhere.
     Tags,
 }
 
