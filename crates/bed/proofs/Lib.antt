@@ -1,2 +1,1 @@
-pub mod PassLaws
 pub mod PutLaws

@@ -15,9 +15,9 @@ use Rattle.lists.proofs.Walks.{step}
 use Rattle.bed_rules.specs.Blocks.{isSkip, Block, blocks}
 use Rattle.bed_rules.specs.InnerWalk.{blocksFrom}
 use Rattle.bed_rules.proofs.WalkLaws.{ended}
-use Rattle.bed.specs.InnerWalked.{Passes}
-use Rattle.bed.specs.declared.Walk.{Walk}
-use Rattle.bed.proofs.PassLaws.{Left, end-rest, end-count}
+use Rattle.bed_walk.specs.InnerWalked.{Passes}
+use Rattle.bed_walk.specs.declared.Walk.{Walk}
+use Rattle.bed_walk.proofs.PassLaws.{Left, end-rest, end-count}
 
 module _ (f : Block → ℕ) where
   take-next : (bs : List Block) (n : ℕ) (b : Block) (rest : List Block) → drop n bs ≡ b ∷ rest → take (suc n) (map f bs) ≡ take n (map f bs) ++ (f b ∷ [])

@@ -1,100 +1,18 @@
 // Document 02, item 5: the blocks of a spliced alignment, as BED12 has them. A measuring pass decides every refusal, and then the blocks are written.
 ghost use mathlib.Core.Path.{_≡_};
 ghost use mathlib.Core.Bool.{false, cond};
-ghost use Prim.Native.Nat.{ℕ, _+_, _≤_, _<_};
+ghost use Prim.Native.Nat.{_≤_, _<_};
 ghost use lib.Dec.{ltb};
 ghost use lib.ListN.{length, set};
 ghost use Rattle.lists.specs.Lists.{sumOf, splice};
 ghost use Rattle.sam.specs.Op.{refLen};
 ghost use Rattle.answers.specs.Settled.{SettledTwo};
-ghost use Rattle.bed_rules.specs.Blocks.{isSkip, blocks};
+ghost use Rattle.bed_rules.specs.Blocks.{blocks};
 ghost use Rattle.bed_rules.specs.Bed.{sizesOf, startsOf, unfit, bedBlocks};
-ghost use Rattle.bed_rules.specs.InnerWalk.{measured};
-ghost use Rattle.bed_rules.specs.declared.Measured.the-variants.{Blocks};
-ghost use Rattle.bed.specs.InnerWalked.{Passes, isEarly};
 use answers::Refusal;
 use bed_rules::Bed;
 use bed_rules::Measured;
-
-// What a walk has passed: n blocks, and the stretch that is open, by its start, counted from the alignment's, and its size so far.
-pub struct Walk {
-    pub n: usize,
-    pub start: u64,
-    pub size: u64,
-}
-
-// N
-fn is_skip(op: u32) -> bool
-    ensures { λ r. ⌜ r ≡ isSkip op ⌝ }
-{
-    op % 16 == 3
-}
-
-// An op more: an N ends the stretch, which makes a block unless its size is 0, and any other op belongs to it.
-fn pass(walk: Walk, op: u32) -> Walk
-    requires { ⌜ (walk .n ≤ 4294967295) × (walk .start + walk .size ≤ 1152921504606846976) ⌝ }
-    ensures { λ r. ⌜ (Passes walk op r) × (r .n ≤ walk .n + 1) × (r .start + r .size < walk .start + walk .size + 268435456) ⌝ }
-{
-    if !is_skip(op) {
-        return Walk {
-            n: walk.n,
-            start: walk.start,
-            size: walk.size + ops::ref_len(op),
-        };
-    }
-    let start = walk.start + walk.size + ops::ref_len(op);
-    if 0 < walk.size {
-        return Walk {
-            n: walk.n + 1,
-            start: start,
-            size: 0,
-        };
-    }
-    Walk {
-        n: walk.n,
-        start: start,
-        size: 0,
-    }
-}
-
-// Whether the op is an N before the first block.
-fn is_early(walk: Walk, op: u32) -> bool
-    ensures { λ r. ⌜ r ≡ isEarly walk op ⌝ }
-{
-    if !is_skip(op) {
-        return false;
-    }
-    if 0 < walk.n {
-        return false;
-    }
-    walk.size == 0
-}
-
-// The measuring pass.
-fn measure(ops: &[u32]) -> Measured
-    requires { ⌜ length (now ops) ≤ 65535 ⌝ }
-    ensures { λ r. ⌜ r ≡ measured (now (ops .entry)) ⌝ }
-    ensures { λ r. ⌜ ((n refs : ℕ) → r ≡ Blocks n refs → (n ≤ 65536) × (refs ≤ 17592186044416)) ⌝ }
-{
-    let mut walk = Walk {
-        n: 0,
-        start: 0,
-        size: 0,
-    };
-    let mut i: usize = 0;
-    while i < ops.len() {
-        let op = ops[i];
-        if is_early(walk, op) {
-            return Measured::Nothing;
-        }
-        walk = pass(walk, op);
-        i += 1;
-    }
-    if walk.size == 0 {
-        return Measured::Nothing;
-    }
-    Measured::Blocks(walk.n + 1, walk.start + walk.size)
-}
+use bed_walk::Walk;
 
 // Writes the stretch as a block, where n blocks are more than were passed before it.
 fn put(walk: Walk, n: usize, sizes: &mut [u32], starts: &mut [u32])
@@ -125,7 +43,7 @@ fn write(ops: &[u32], sizes: &mut [u32], starts: &mut [u32])
     };
     let mut i: usize = 0;
     while i < ops.len() {
-        let next = pass(walk, ops[i]);
+        let next = bed_walk::pass(walk, ops[i]);
         put(walk, next.n, sizes, starts);
         walk = next;
         i += 1;
@@ -143,7 +61,7 @@ pub fn bed_blocks(start: i32, ops: &[u32], sizes: &mut [u32], starts: &mut [u32]
     if start < 0 {
         return Bed::Refused(Refusal::NoBlocks);
     }
-    let Measured::Blocks(n, refs) = measure(ops) else {
+    let Measured::Blocks(n, refs) = bed_walk::measure(ops) else {
         return Bed::Refused(Refusal::NoBlocks);
     };
     let at = signed::natural_of(start);

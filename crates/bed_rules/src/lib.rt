@@ -1,4 +1,4 @@
-// Document 02, item 5: which blocks an alignment has, and what the functions of `bed` come to: definitions and proofs. No function stands here.
+// Document 02, item 5: which blocks an alignment has, and what the functions of `bed_walk` and `bed` come to: definitions and proofs. No function stands here.
 use answers::Refusal;
 
 // chromStart, chromEnd and blockCount, or the refusal.

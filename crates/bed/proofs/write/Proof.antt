@@ -9,7 +9,7 @@ use Rattle.lists.specs.Lists.{splice}
 use Rattle.lists.proofs.ListLaws.{splice-nil}
 use Rattle.bed_rules.specs.Blocks.{blocks}
 use Rattle.bed_rules.specs.Bed.{sizesOf, startsOf}
-use Rattle.bed.proofs.PassLaws.{Left, left-all, left-turn, fit-not-early, end-fit, end-count}
+use Rattle.bed_walk.proofs.PassLaws.{Left, left-all, left-turn, fit-not-early, end-fit, end-count}
 use Rattle.bed.proofs.PutLaws.{written-length, put-next, put-last}
 use Rattle.bed.proofs.write.Statement.{statement}
 use Rattle.bed.proofs.write.Tie as tie

@@ -5,10 +5,10 @@ use mathlib.Core.Bool.{true, false}
 use native.Mathlib.Omega.{arith}
 use borrow.Author.Tests.{not-true, not-false, eq-eqb, ne-eqb}
 use Rattle.bed_rules.specs.Blocks.{isSkip}
-use Rattle.bed.proofs.PassLaws.{other, skip}
+use Rattle.bed_walk.proofs.PassLaws.{other, skip}
 use borrow.Author.Needs.{needs}
-use Rattle.bed.proofs.pass.Statement.{statement}
-use Rattle.bed.proofs.pass.Tie as tie
+use Rattle.bed_walk.proofs.pass.Statement.{statement}
+use Rattle.bed_walk.proofs.pass.Tie as tie
 
 is-skip-requires : tie.Need-is-skip-requires
 is-skip-requires c κs = search needs

@@ -7,10 +7,10 @@ use borrow.Author.Tests.{eq-eqb, ne-eqb}
 use lib.ListN.{length}
 use Rattle.lists.proofs.Absurd.{never}
 use Rattle.bed_rules.proofs.AnswerLaws.{measured-not, measured-are, same-blocks}
-use Rattle.bed.proofs.PassLaws.{Left, left-all, left-turn, early-unfit, end-fit, end-refs, end-count}
+use Rattle.bed_walk.proofs.PassLaws.{Left, left-all, left-turn, early-unfit, end-fit, end-refs, end-count}
 use borrow.Author.Needs.{needs}
-use Rattle.bed.proofs.measure.Statement.{statement}
-use Rattle.bed.proofs.measure.Tie as tie
+use Rattle.bed_walk.proofs.measure.Statement.{statement}
+use Rattle.bed_walk.proofs.measure.Tie as tie
 
 abbrev Inv-loop : tie.InvT-loop
 Inv-loop ops walk₀ i₀ walk i = (i ≤ length ops) × (walk .start + walk .size ≤ 268435456 * i) × Left walk i ops

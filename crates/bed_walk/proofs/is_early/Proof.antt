@@ -7,8 +7,8 @@ use borrow.Author.Tests.{not-true, not-false, ne-eqb}
 use lib.Dec.{eqb}
 use Rattle.bed_rules.specs.Blocks.{isSkip}
 use borrow.Author.Needs.{needs}
-use Rattle.bed.proofs.is_early.Statement.{statement}
-use Rattle.bed.proofs.is_early.Tie as tie
+use Rattle.bed_walk.proofs.is_early.Statement.{statement}
+use Rattle.bed_walk.proofs.is_early.Tie as tie
 
 is-skip-requires : tie.Need-is-skip-requires
 is-skip-requires c κs = search needs

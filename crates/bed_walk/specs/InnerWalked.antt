@@ -8,7 +8,7 @@ use lib.ListN.{length}
 use Rattle.sam.specs.Op.{refLen}
 use Rattle.bed_rules.specs.Blocks.{isSkip, Block}
 use Rattle.bed_rules.specs.InnerWalk.{blocksFrom, unfitFrom}
-use Rattle.bed.specs.declared.Walk.{Walk}
+use Rattle.bed_walk.specs.declared.Walk.{Walk}
 
 -- the block that ends with the op: an N ends the open stretch
 abbrev pub ending : Walk → ℕ → List Block

@@ -16,8 +16,8 @@ use Rattle.bed_rules.specs.Bed.{unfit}
 use Rattle.bed_rules.specs.InnerWalk.{blocksFrom, unfitFrom}
 use Rattle.bed_rules.proofs.WalkLaws.{ended, walked, from-skip, from-other}
 use Rattle.bed_rules.proofs.FitLaws.{unfit-is, fit-early, fit-skip, fit-other}
-use Rattle.bed.specs.InnerWalked.{ending, isEarly, Passes}
-use Rattle.bed.specs.declared.Walk.{Walk}
+use Rattle.bed_walk.specs.InnerWalked.{ending, isEarly, Passes}
+use Rattle.bed_walk.specs.declared.Walk.{Walk}
 
 as-many : (t : Bool) (start size : ℕ) → length (ended t 0 size) ≡ length (ended t start size)
 as-many true start size = refl
