@@ -1,15 +1,15 @@
 // Standard input is an uncompressed BAM stream; its records are written as the stream that `report` takes, behind the mark CGR. Where the records begin is said by the crate `bam_header`, and
-// `bam_turns` what the turns of reads and writes come to: this takes turn after turn. What is wrong is said in words on standard error, and a head that is damaged leaves standard output empty.
+// `bam_rules` what the turns of reads and writes come to: this takes turn after turn. What is wrong is said in words on standard error, and a head that is damaged leaves standard output empty.
 ghost use mathlib.Core.Path.{_≡_};
 ghost use mathlib.Core.Bool.{true, false};
 ghost use lib.ListN.{length, take};
 ghost use Rattle.blocks.specs.Fill.{First};
 ghost use Rattle.bam_header.specs.Header.{isBam};
-ghost use Rattle.bam_turns.specs.Run.{BamCame};
+ghost use Rattle.bam_rules.specs.Run.{BamCame};
 ghost use Rattle.bam_to_cgr.specs.Words.{wordOf, lackOf};
 ghost use Rattle.bam_to_cgr.specs.declared.Word.the-variants.{NotBam};
-use bam_turns::BamBehind;
-use bam_turns::BamState;
+use bam_rules::BamState;
+use bam_writes::BamBehind;
 use blocks::Read;
 
 // No stream takes so many turns; each reads at least a byte.

@@ -5,7 +5,7 @@ use native.Mathlib.Omega.{arith}
 use lib.ListN.{length}
 use borrow.Author.Tests.{not-true, not-false}
 use Rattle.lists.proofs.Absurd.{never}
-use Rattle.bam_turns.proofs.RunLaws.{BamAlong, along-start, along-on, along-off, along-last}
+use Rattle.bam_rules.proofs.RunLaws.{BamAlong, along-start, along-on, along-off, along-last}
 use Rattle.bam_to_cgr.proofs.convert.Statement.{statement}
 use Rattle.bam_to_cgr.proofs.convert.Tie as tie
 

@@ -6,9 +6,9 @@ use borrow.Author.Tests.{not-true, not-false}
 use borrow.Author.Needs.{needs}
 use Rattle.lists.proofs.Absurd.{never}
 use Rattle.bam_header.specs.Inner.{isBegun}
-use Rattle.bam_turns.specs.Run.{behindOf}
-use Rattle.bam_turns.specs.declared.BamState.{BamState}
-use Rattle.bam_turns.proofs.RunLaws.{relieved-not, behind-mark, behind-left, behind-both}
+use Rattle.bam_rules.specs.Run.{behindOf}
+use Rattle.bam_rules.specs.declared.BamState.{BamState}
+use Rattle.bam_rules.proofs.RunLaws.{relieved-not, behind-mark, behind-left, behind-both}
 use Rattle.bam_turns.proofs.write_due.Statement.{statement}
 use Rattle.bam_turns.proofs.write_due.Tie as tie
 

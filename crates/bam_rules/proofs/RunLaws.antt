@@ -19,8 +19,8 @@ use Rattle.bam_header.specs.Inner.{fromPlace, isBegun}
 use Rattle.bam_header.specs.declared.HeadPlace.{HeadPlace}
 use Rattle.bam_header.proofs.HeadLaws.{begun-records}
 use Rattle.bam_header.specs.Converted.{cgrMark, converted}
-use Rattle.bam_turns.specs.Run.{left, BamTurn, readIn, behindOf, dueBytes, behindAll, headStart, BamRan, BamRan.starts, BamRan.turns, BamCame, Wrote, Wrote.ended, Wrote.refused}
-use Rattle.bam_turns.specs.declared.BamState.{BamState}
+use Rattle.bam_rules.specs.Run.{left, BamTurn, readIn, behindOf, dueBytes, behindAll, headStart, BamRan, BamRan.starts, BamRan.turns, BamCame, Wrote, Wrote.ended, Wrote.refused}
+use Rattle.bam_rules.specs.declared.BamState.{BamState}
 
 -- ---- the magic
 

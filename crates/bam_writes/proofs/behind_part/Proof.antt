@@ -3,9 +3,9 @@ use Prim.Native.Nat.{ℕ}
 use mathlib.Core.Path.{ap}
 use mathlib.Core.Bool.{true}
 use borrow.Author.Needs.{needs}
-use Rattle.bam_turns.specs.declared.BamState.{BamState}
-use Rattle.bam_turns.proofs.behind_part.Statement.{statement}
-use Rattle.bam_turns.proofs.behind_part.Tie as tie
+use Rattle.bam_rules.specs.declared.BamState.{BamState}
+use Rattle.bam_writes.proofs.behind_part.Statement.{statement}
+use Rattle.bam_writes.proofs.behind_part.Tie as tie
 
 with-used : BamState → ℕ → BamState
 with-used s n = record { place = s .place; have = s .have; used = n; failed = s .failed; ended = s .ended; marked = true }

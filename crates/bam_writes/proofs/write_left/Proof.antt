@@ -2,8 +2,8 @@
 use mathlib.Core.Path.{sym}
 use borrow.Author.Needs.{needs}
 use Rattle.blocks.proofs.BlockLaws.{drop-take}
-use Rattle.bam_turns.proofs.write_left.Statement.{statement}
-use Rattle.bam_turns.proofs.write_left.Tie as tie
+use Rattle.bam_writes.proofs.write_left.Statement.{statement}
+use Rattle.bam_writes.proofs.write_left.Tie as tie
 
 sub-write : tie.Need-sub-write
 sub-write c = search needs

@@ -1,6 +1,6 @@
 -- By cases.
-use Rattle.bam_turns.proofs.used_behind.Statement.{statement}
-use Rattle.bam_turns.proofs.used_behind.Tie as tie
+use Rattle.bam_writes.proofs.used_behind.Statement.{statement}
+use Rattle.bam_writes.proofs.used_behind.Tie as tie
 
 returns : tie.Need-returns
 returns c = simp (c .if1 .taken)

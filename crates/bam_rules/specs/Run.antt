@@ -11,7 +11,7 @@ use Rattle.bam_header.specs.Header.{isBam, texted}
 use Rattle.bam_header.specs.Inner.{fromPlace, isBegun, HeadWent}
 use Rattle.bam_header.specs.declared.HeadPlace.{HeadPlace}
 use Rattle.bam_header.specs.Converted.{cgrMark}
-use Rattle.bam_turns.specs.declared.BamState.{BamState}
+use Rattle.bam_rules.specs.declared.BamState.{BamState}
 
 -- the bytes at hand that are not used
 abbrev pub left : BamState → List ℕ → List ℕ
@@ -30,10 +30,7 @@ pub record BamTurn (s : BamState) (block : List ℕ) (r : BamState) (block' : Li
 abbrev pub readIn : BamState → BamState → List ℕ → List ℕ
 readIn s r block' = drop (s .have - s .used) (take (r .have) block')
 
--- What is due first where the records begin, the mark or what is left behind it; the bytes that are used behind its write, and the state.
-abbrev pub partOf : BamState → List ℕ → List ℕ
-partOf s block = cond (s .marked) (left s block) cgrMark
-
+-- What is due first where the records begin is the mark, or what is left behind it. The bytes that are used behind its write, and the state.
 abbrev pub usedBehind : BamState → ℕ
 usedBehind s = cond (s .marked) (s .have) (s .used)
 

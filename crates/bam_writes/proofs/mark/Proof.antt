@@ -1,7 +1,7 @@
 -- By computing it.
 use mathlib.Core.Path.{refl}
-use Rattle.bam_turns.proofs.mark.Statement.{statement}
-use Rattle.bam_turns.proofs.mark.Tie as tie
+use Rattle.bam_writes.proofs.mark.Statement.{statement}
+use Rattle.bam_writes.proofs.mark.Tie as tie
 
 returns : tie.Need-returns
 returns c = refl
