@@ -4,7 +4,7 @@ ghost use Rattle.answers.specs.Settled.{Settled};
 ghost use Rattle.answers.specs.Answers.{tellCount, tellFlag};
 ghost use Rattle.print_rules.specs.Text.{printed};
 ghost use Rattle.validity.specs.Validity.{validity};
-ghost use Rattle.strict_text.specs.Parsed.{parsed};
+ghost use Rattle.parsed_rules.specs.Parsed.{parsed};
 ghost use Rattle.border.specs.Border.{countOf, flagOf, across};
 use border::ToldCount;
 use border::ToldFlag;

@@ -26,10 +26,10 @@ use Rattle.ends_rules.specs.Ends.{plusOne}
 use Rattle.text_rules.specs.Text.{textOps}
 use Rattle.text_rules.specs.Valid.{validMapped}
 use Rattle.text_rules.specs.Strict.{strict}
-use Rattle.strict_text.specs.Parsed.{measuredText}
-use Rattle.strict_text.specs.declared.Measured.{Measured}
-use Rattle.strict_text.specs.declared.Measured.the-variants as Measured
-use Rattle.strict_text.proofs.PassLaws.{ops-bad, ops-some}
+use Rattle.parsed_rules.specs.Parsed.{measuredText}
+use Rattle.parsed_rules.specs.declared.Measured.{Measured}
+use Rattle.parsed_rules.specs.declared.Measured.the-variants as Measured
+use Rattle.parsed_rules.proofs.ParsedLaws.{ops-bad, ops-some}
 use Rattle.pairs_rules.specs.Pairs.{isFrWithMate, isPrimaryFr}
 use Rattle.overhang_rules.specs.Overhang.{overhangOf}
 use Rattle.overlap_rules.specs.declared.PairPlaces.{PairPlaces}

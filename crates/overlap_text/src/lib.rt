@@ -11,7 +11,7 @@ use answers::Flag;
 use answers::Refusal;
 use oplist::Ops;
 use overlap_rules::Overhang;
-use strict_text::Measured;
+use parsed_rules::Measured;
 
 // Writes the n ops of a text that the strict reader takes, and counts. Refusals 4 and 6.
 fn list_left(fr: bool, bam: &[u8], text: &[u8], n: u64, out: &mut [u32]) -> Overhang
@@ -25,7 +25,7 @@ fn list_left(fr: bool, bam: &[u8], text: &[u8], n: u64, out: &mut [u32]) -> Over
     if (out.len() as u64) < n {
         return Overhang::Refused(Refusal::NoRoom);
     }
-    strict_text::write_ops(text, out);
+    measure_text::write_ops(text, out);
     let list = Ops {
         inside: false,
         at: 0,
@@ -42,7 +42,7 @@ pub fn num_bases_extending_past_mate_text_raw(bam: &[u8], text: &[u8], out: &mut
     if bam.len() < 32 {
         return Overhang::Refused(Refusal::ShortRecord);
     }
-    let Measured::Ops(n, span) = strict_text::measure(text) else {
+    let Measured::Ops(n, span) = measure_text::measure(text) else {
         return Overhang::Bases(0, 0);
     };
     if (oplist::MOST_OPS as u64) < n {

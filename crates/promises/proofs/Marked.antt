@@ -11,7 +11,7 @@ use Rattle.clip_rules.specs.Answer.{clippedOps, clippedCount, clippable, isBeyo
 use Rattle.text_rules.specs.Text.{effectOf, rowFrom, opsFrom}
 use Rattle.text_rules.specs.Valid.{isEmpty, allHard, anyRef, each, validMapped}
 use Rattle.text_rules.specs.Strict.{strict}
-use Rattle.strict_text.specs.Parsed.{parsed}
+use Rattle.parsed_rules.specs.Parsed.{parsed}
 use Rattle.lookup_rules.specs.Lookup.{look, lookupUpTo, lookedUpTo}
 use Rattle.lookup_rules.specs.Examined.{reached, firstAbove, placeOf, examined}
 use Rattle.signed.specs.Equal.{eqℤ}

@@ -16,7 +16,7 @@ use Rattle.print_rules.specs.Text.{anyBad, textOf, printed}
 use Rattle.text_rules.specs.Text.{textOps}
 use Rattle.text_rules.specs.Strict.{strict}
 use Rattle.validity.specs.Validity.{validity}
-use Rattle.strict_text.specs.Parsed.{parsed}
+use Rattle.parsed_rules.specs.Parsed.{parsed}
 use Rattle.promises.specs.Table.{Gives, GivesFilled}
 use Rattle.promises.specs.Rows.{listRows, printRows, textRows}
 use Rattle.promises.proofs.RowLaws.{answer, row, kept-row, last-row}

@@ -7,7 +7,7 @@ use Rattle.sam.specs.Op.{opOf}
 use Rattle.answers.specs.Answers.{Told, answered, some, none, tellCount, tellNat}
 use Rattle.answers.specs.Settled.{Outcome, keeps}
 use Rattle.clip_rules.specs.Answer.{clippedStart, clippedEnd, tellClipped}
-use Rattle.strict_text.specs.Parsed.{parsed}
+use Rattle.parsed_rules.specs.Parsed.{parsed}
 use Rattle.lookup_rules.specs.Lookup.{looked, tellFound}
 use Rattle.bin_rules.specs.Bin.{reg2bin}
 

@@ -7,8 +7,8 @@ use Rattle.answers.proofs.Unique.{settled, resettled}
 use Rattle.answers.specs.declared.Flag.{Flag}
 use Rattle.answers.specs.declared.Flag.the-variants as Flag
 use Rattle.text_rules.specs.Text.{textOps}
-use Rattle.strict_text.specs.Parsed.{measuredText}
-use Rattle.strict_text.specs.declared.Measured.the-variants as Measured
+use Rattle.parsed_rules.specs.Parsed.{measuredText}
+use Rattle.parsed_rules.specs.declared.Measured.the-variants as Measured
 use Rattle.pairs_rules.specs.Pairs.{isFrWithMate}
 use Rattle.overlap_rules.specs.Overlap.{pairListLeft, pastMateText}
 use Rattle.overlap_rules.proofs.CallLaws.{text-count, text-short, text-bad, text-many, text-left}

@@ -8,10 +8,11 @@ use Rattle.lists.specs.Lists.{splice}
 use Rattle.oplist.specs.Ops.{mostOps}
 use Rattle.answers.proofs.Unique.{settled}
 use Rattle.text_rules.specs.Text.{textOps}
-use Rattle.strict_text.specs.InnerRead.{ReadTo}
-use Rattle.strict_text.specs.declared.Counted.{Counted}
-use Rattle.strict_text.specs.declared.Counted.the-variants as Counted
-use Rattle.strict_text.proofs.ReadLaws.{held, not-strict, no-place, all-told}
+use Rattle.read_text.specs.InnerRead.{ReadTo}
+use Rattle.read_text.specs.declared.Counted.{Counted}
+use Rattle.read_text.specs.declared.Counted.the-variants as Counted
+use Rattle.parsed_rules.proofs.ParsedLaws.{not-strict, no-place, all-told}
+use Rattle.read_text.proofs.ReadLaws.{held}
 use Rattle.strict_text.proofs.by_copy.Statement.{statement}
 use Rattle.strict_text.proofs.by_copy.Tie as tie
 

@@ -11,9 +11,9 @@ use Rattle.lists.proofs.Absurd.{never}
 use Rattle.answers.proofs.Unique.{settled}
 use Rattle.text_rules.specs.Text.{textOps}
 use Rattle.text_rules.specs.Strict.{strict}
-use Rattle.strict_text.specs.InnerRead.{ReadTo}
-use Rattle.strict_text.specs.declared.Counted.{Counted}
-use Rattle.strict_text.proofs.ReadLaws.{not-strict, too-many, no-place, all-told}
+use Rattle.read_text.specs.InnerRead.{ReadTo}
+use Rattle.read_text.specs.declared.Counted.{Counted}
+use Rattle.parsed_rules.proofs.ParsedLaws.{not-strict, too-many, no-place, all-told}
 use Rattle.strict_text.proofs.in_two.Statement.{statement}
 use Rattle.strict_text.proofs.in_two.Tie as tie
 

@@ -1,0 +1,2 @@
+pub mod ParsedLaws
+pub mod PutLaws

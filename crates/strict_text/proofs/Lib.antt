@@ -1,3 +1,0 @@
-pub mod PassLaws
-pub mod PutLaws
-pub mod ReadLaws

@@ -1,3 +1,0 @@
-pub mod Parsed
-pub mod InnerPass
-pub mod InnerRead
