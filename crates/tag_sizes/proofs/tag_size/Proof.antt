@@ -3,10 +3,10 @@ use mathlib.Core.Path.{sym, _∙_}
 use native.Mathlib.Omega.{arith}
 use lib.ListN.{drop, length-drop}
 use Rattle.sam.proofs.TagLaws.{tag-short, tag-unlisted, tag-over, tag-is}
-use Rattle.tags.proofs.SizeLaws.{value-at}
+use Rattle.tag_sizes.proofs.SizeLaws.{value-at}
 use borrow.Author.Needs.{needs}
-use Rattle.tags.proofs.tag_size.Statement.{statement}
-use Rattle.tags.proofs.tag_size.Tie as tie
+use Rattle.tag_sizes.proofs.tag_size.Statement.{statement}
+use Rattle.tag_sizes.proofs.tag_size.Tie as tie
 
 sub-if1 : tie.Need-sub-if1
 sub-if1 c = search needs

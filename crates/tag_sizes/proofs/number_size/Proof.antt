@@ -3,8 +3,8 @@ use mathlib.Core.Path.{sym, ap}
 use native.Mathlib.Omega.{arith}
 use borrow.Author.Tests.{ne-eqb}
 use Rattle.sam.specs.Tags.{numberSize}
-use Rattle.tags.proofs.number_size.Statement.{statement}
-use Rattle.tags.proofs.number_size.Tie as tie
+use Rattle.tag_sizes.proofs.number_size.Statement.{statement}
+use Rattle.tag_sizes.proofs.number_size.Tie as tie
 
 returns : tie.Need-returns
 unfolding numberSize

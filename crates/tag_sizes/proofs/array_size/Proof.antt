@@ -4,10 +4,10 @@ use native.Mathlib.Omega.{arith}
 use lib.ListN.{drop, length-drop}
 use Rattle.sam.specs.Tags.{numberSize}
 use Rattle.sam.proofs.TagLaws.{byte, array-short, array-other}
-use Rattle.tags.proofs.SizeLaws.{array-at, product}
+use Rattle.tag_sizes.proofs.SizeLaws.{array-at, product}
 use borrow.Author.Needs.{needs}
-use Rattle.tags.proofs.array_size.Statement.{statement}
-use Rattle.tags.proofs.array_size.Tie as tie
+use Rattle.tag_sizes.proofs.array_size.Statement.{statement}
+use Rattle.tag_sizes.proofs.array_size.Tie as tie
 
 sub-if1 : tie.Need-sub-if1
 sub-if1 c = search needs

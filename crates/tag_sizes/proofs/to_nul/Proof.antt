@@ -4,9 +4,9 @@ use mathlib.Core.Path.{_≡_}
 use native.Mathlib.Omega.{arith}
 use lib.ListN.{length, drop}
 use Rattle.sam.specs.Tags.{toNul}
-use Rattle.tags.proofs.SizeLaws.{nul-found, nul-later, nul-none}
-use Rattle.tags.proofs.to_nul.Statement.{statement}
-use Rattle.tags.proofs.to_nul.Tie as tie
+use Rattle.tag_sizes.proofs.SizeLaws.{nul-found, nul-later, nul-none}
+use Rattle.tag_sizes.proofs.to_nul.Statement.{statement}
+use Rattle.tag_sizes.proofs.to_nul.Tie as tie
 
 abbrev Inv-loop : tie.InvT-loop
 Inv-loop b at i₀ i = (at ≤ i) × (i ≤ length b) × (i - at + toNul (drop i b) ≡ toNul (drop at b))

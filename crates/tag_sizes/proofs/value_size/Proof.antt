@@ -5,8 +5,8 @@ use lib.ListN.{drop}
 use borrow.Author.Tests.{ne-eqb}
 use Rattle.sam.specs.Tags.{valueSize}
 use borrow.Author.Needs.{needs}
-use Rattle.tags.proofs.value_size.Statement.{statement}
-use Rattle.tags.proofs.value_size.Tie as tie
+use Rattle.tag_sizes.proofs.value_size.Statement.{statement}
+use Rattle.tag_sizes.proofs.value_size.Tie as tie
 
 to-nul-requires : tie.Need-to-nul-requires
 to-nul-requires c κs = search needs
