@@ -1,8 +1,5 @@
 // Document 02, item 14: whether a received record is the one that item 8 would write of the record that was sent. The received record is compared with the plan, part by part;
 // nothing is written.
-mod header;
-mod same;
-
 ghost use mathlib.Core.Path.{_≡_};
 ghost use Prim.Native.Nat.{_+_, _≤_};
 ghost use lib.ListN.{length};
@@ -63,7 +60,7 @@ fn compare(got: &[u8], rec: &[u8], p: RecordPlan, start: bool) -> Received
     requires { ⌜ tagsStart (now got) ≤ length (now got) ⌝ }
     ensures { λ r. ⌜ r ≡ compared (now (got .entry)) (now (rec .entry)) (changeBy (now (rec .entry)) start p) ⌝ }
 {
-    if !header::same_header(got, rec, p) {
+    if !receive_header::same_header(got, rec, p) {
         return Received::Differs(Part::Header);
     }
     compare_behind(got, rec, p, start)
@@ -81,10 +78,10 @@ fn compare_behind(got: &[u8], rec: &[u8], p: RecordPlan, start: bool) -> Receive
     let name = little_endian::u8_at(rec, 8) as usize;
     let n = little_endian::u16_at(rec, 12) as usize;
     let ops = p.ops;
-    if !same::same_bytes(got, 32, rec, 32, name) {
+    if !receive_parts::same_bytes(got, 32, rec, 32, name) {
         return Received::Differs(Part::Name);
     }
-    if !same::same_ops(got, 32 + name, rec, 32 + name, n, ops, start) {
+    if !receive_parts::same_ops(got, 32 + name, rec, 32 + name, n, ops, start) {
         return Received::Differs(Part::Ops);
     }
     compare_tail(got, rec, p.from as usize, p.len as usize)
@@ -101,13 +98,13 @@ fn compare_tail(got: &[u8], rec: &[u8], from: usize, n: usize) -> Received
     let bases = record_parts::bases_start(rec);
     let quals = record_parts::quals_start(rec);
     let tags = record_parts::tags_start(rec);
-    if !same::same_bases(got, record_parts::bases_start(got), rec, bases, from, n) {
+    if !receive_parts::same_bases(got, record_parts::bases_start(got), rec, bases, from, n) {
         return Received::Differs(Part::Bases);
     }
-    if !same::same_bytes(got, record_parts::quals_start(got), rec, quals + from, n) {
+    if !receive_parts::same_bytes(got, record_parts::quals_start(got), rec, quals + from, n) {
         return Received::Differs(Part::Qualities);
     }
-    if !same::same_rest(got, record_parts::tags_start(got), rec, tags) {
+    if !receive_parts::same_rest(got, record_parts::tags_start(got), rec, tags) {
         return Received::Differs(Part::Tags);
     }
     Received::Accepted
