@@ -1,11 +1,10 @@
 // Document 02, item 8: the clipped record, written whole. `record_plan` says what becomes of a record, and nothing is written before its plan is made.
-mod bytes;
-
 ghost use mathlib.Core.Path.{_≡_};
 ghost use mathlib.Core.Bool.{Bool};
-ghost use Prim.Native.Nat.{_+_};
+ghost use Prim.Native.Nat.{_≤_};
 ghost use lib.ListN.{length};
 ghost use Rattle.answers.specs.Settled.{Settled};
+ghost use Rattle.lists.specs.Lists.{splice};
 ghost use Rattle.record_rules.specs.Written.{newRecord};
 ghost use Rattle.record_rules.specs.Clipping.{clippedFate, written, putInto, clippedRecordStart, clippedRecordEnd};
 ghost use Rattle.record_rules.specs.InnerPlan.{changeBy, Fits};
@@ -50,6 +49,26 @@ fn size_of(bam: &[u8], p: RecordPlan) -> usize
     front + (4 * (p.n as usize) + ((len + 1) / 2 + (len + (bam.len() - tags))))
 }
 
+// The record that a plan is for.
+fn write_record(rec: &[u8], p: RecordPlan, start: bool, out: &mut [u8])
+    requires { ⌜ Fits (now rec) p ⌝ }
+    requires { ⌜ length (newRecord (now rec) (changeBy (now rec) start p)) ≤ length (now out) ⌝ }
+    ensures { λ _. ⌜ now (out .exit) ≡ splice (now (out .entry)) 0 (newRecord (now (rec .entry)) (changeBy (now (rec .entry)) start p)) ⌝ }
+{
+    let area = 32 + little_endian::u8_at(rec, 8) as usize;
+    let n = little_endian::u16_at(rec, 12) as usize;
+    let ops = p.ops;
+    record_bytes::put_front(rec, p, start, out);
+    record_ops::put_ops(rec, area, n, ops, start, out, area);
+    record_bytes::put_tail(
+        rec,
+        p.from as usize,
+        p.len as usize,
+        out,
+        area + 4 * (p.n as usize),
+    );
+}
+
 // Writes the record that a plan is for, where there is room. Refusal 6.
 fn put_record(bam: &[u8], p: RecordPlan, start: bool, out: &mut [u8]) -> Clipped
     requires { ⌜ Fits (now bam) p ⌝ }
@@ -59,6 +78,6 @@ fn put_record(bam: &[u8], p: RecordPlan, start: bool, out: &mut [u8]) -> Clipped
     if out.len() < size {
         return Clipped::Refused(Refusal::NoRoom);
     }
-    bytes::write_record(bam, p, start, out);
+    write_record(bam, p, start, out);
     Clipped::Done(size as u64, p.count)
 }

@@ -1,6 +1,6 @@
 -- The sizes of the parts.
 use native.Mathlib.Omega.{arith}
-use Rattle.record_write.proofs.ByteLaws.{size-is}
+use Rattle.record_write.proofs.RecordLaws.{size-is}
 use borrow.Author.Needs.{needs}
 use Rattle.record_write.proofs.size_of.Statement.{statement}
 use Rattle.record_write.proofs.size_of.Tie as tie

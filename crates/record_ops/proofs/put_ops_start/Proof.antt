@@ -3,10 +3,10 @@ use mathlib.Core.List.{[], _∷_}
 use native.Mathlib.Omega.{arith}
 use lib.ListN.{take}
 use lib.Seq.{length-take-le}
-use Rattle.record_write.proofs.ByteLaws.{ops-start}
+use Rattle.record_ops.proofs.OpLaws.{ops-start}
 use borrow.Author.Needs.{needs}
-use Rattle.record_write.proofs.bytes.put_ops_start.Statement.{statement}
-use Rattle.record_write.proofs.bytes.put_ops_start.Tie as tie
+use Rattle.record_ops.proofs.put_ops_start.Statement.{statement}
+use Rattle.record_ops.proofs.put_ops_start.Tie as tie
 
 put-heads-requires : tie.Need-put-heads-requires
 put-heads-requires c κs = search needs

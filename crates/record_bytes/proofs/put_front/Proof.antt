@@ -6,10 +6,10 @@ use mir.Syntax.{w32}
 use mir.Val.{toZ, ofZ}
 use Rattle.record_rules.specs.InnerPlan.{changeBy}
 use Rattle.record_rules.proofs.PlanLaws.{ops-left}
-use Rattle.record_write.proofs.ByteLaws.{front-is}
+use Rattle.record_bytes.proofs.ByteLaws.{front-is}
 use borrow.Author.Needs.{needs}
-use Rattle.record_write.proofs.bytes.put_front.Statement.{statement}
-use Rattle.record_write.proofs.bytes.put_front.Tie as tie
+use Rattle.record_bytes.proofs.put_front.Statement.{statement}
+use Rattle.record_bytes.proofs.put_front.Tie as tie
 
 u8-at-requires : tie.Need-u8-at-requires
 u8-at-requires c κs = search needs

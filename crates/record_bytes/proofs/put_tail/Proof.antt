@@ -2,10 +2,10 @@
 use Prim.Native.Nat.{_+_, _/_}
 use mathlib.Core.Path.{refl}
 use native.Mathlib.Omega.{arith}
-use Rattle.record_write.proofs.ByteLaws.{tail-is}
+use Rattle.record_bytes.proofs.ByteLaws.{tail-is}
 use borrow.Author.Needs.{needs}
-use Rattle.record_write.proofs.bytes.put_tail.Statement.{statement}
-use Rattle.record_write.proofs.bytes.put_tail.Tie as tie
+use Rattle.record_bytes.proofs.put_tail.Statement.{statement}
+use Rattle.record_bytes.proofs.put_tail.Tie as tie
 
 bases-start-requires : tie.Need-bases-start-requires
 bases-start-requires c κs = search needs

@@ -7,8 +7,8 @@ use Rattle.sam.specs.Record.{opsIn}
 use Rattle.sam.specs.Record.{opBytes}
 use Rattle.record_rules.proofs.PlanLaws.{planned-start, planned-end}
 use borrow.Author.Needs.{needs}
-use Rattle.record_write.proofs.bytes.put_ops.Statement.{statement}
-use Rattle.record_write.proofs.bytes.put_ops.Tie as tie
+use Rattle.record_ops.proofs.put_ops.Statement.{statement}
+use Rattle.record_ops.proofs.put_ops.Tie as tie
 
 put-ops-start-requires : tie.Need-put-ops-start-requires
 put-ops-start-requires c κs = search needs

@@ -8,8 +8,8 @@ use Rattle.lists.specs.Lists.{splice}
 use Rattle.lists.proofs.ListLaws.{splice-nil, two-parts}
 use Rattle.sam.specs.Record.{uint32, opBytes}
 use borrow.Author.Needs.{needs}
-use Rattle.record_write.proofs.bytes.put_heads.Statement.{statement}
-use Rattle.record_write.proofs.bytes.put_heads.Tie as tie
+use Rattle.record_ops.proofs.put_heads.Statement.{statement}
+use Rattle.record_ops.proofs.put_heads.Tie as tie
 
 returns : tie.Need-returns
 unfolding opBytes

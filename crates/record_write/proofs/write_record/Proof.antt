@@ -2,10 +2,10 @@
 use Prim.Native.Nat.{_+_}
 use native.Mathlib.Omega.{arith}
 use lib.ListN.{length}
-use Rattle.record_write.proofs.ByteLaws.{front-fit, ops-fit, tail-room, record-is}
+use Rattle.record_write.proofs.RecordLaws.{front-fit, ops-fit, tail-room, record-is}
 use borrow.Author.Needs.{needs}
-use Rattle.record_write.proofs.bytes.write_record.Statement.{statement}
-use Rattle.record_write.proofs.bytes.write_record.Tie as tie
+use Rattle.record_write.proofs.write_record.Statement.{statement}
+use Rattle.record_write.proofs.write_record.Tie as tie
 
 u8-at-requires : tie.Need-u8-at-requires
 u8-at-requires c κs = search needs

@@ -3,10 +3,10 @@ use mathlib.Core.List.{[], _∷_}
 use native.Mathlib.Omega.{arith}
 use lib.ListN.{take}
 use Rattle.clip.proofs.WriteLaws.{few-reverse, two-reverse}
-use Rattle.record_write.proofs.ByteLaws.{ops-end}
+use Rattle.record_ops.proofs.OpLaws.{ops-end}
 use borrow.Author.Needs.{needs}
-use Rattle.record_write.proofs.bytes.put_ops_end.Statement.{statement}
-use Rattle.record_write.proofs.bytes.put_ops_end.Tie as tie
+use Rattle.record_ops.proofs.put_ops_end.Statement.{statement}
+use Rattle.record_ops.proofs.put_ops_end.Tie as tie
 
 sub-copy-bytes : tie.Need-sub-copy-bytes
 sub-copy-bytes c = search needs
