@@ -6,7 +6,7 @@
  *    3 a list has too many ops: over 65,535   8 clipping: total length 2^28 or more
  *      (long lists: over 1,048,576)           9 lookup: start outside 1 to 2^31
  *    4 a signed 32-bit sum overflows         10 op_new: length 0 or above 268,435,455
- *    5 the text is no valid mapped CIGAR
+ *    5 the text is no valid mapped CIGAR        (2 also: clipping a record that ends before its last quality)
  *   12 behind a placeholder: bases, qualities or tags up to the first CG overrun the record, or a tag among these has no known type
  *   13 the tag CG is no array of unsigned 32-bit numbers (B of I)
  *   14 a start below 0, no block, or an N before the first or after the last block

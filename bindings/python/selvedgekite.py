@@ -15,7 +15,7 @@ from operator import index
 
 WORDS = {
     1: 'a record has under 32 bytes',
-    2: 'the op area ends past the record',
+    2: 'the op area, or in clipping a record its last quality, ends past the record',
     3: 'a list has over 65,535 ops (a long one over 1,048,576)',
     4: 'a signed 32-bit sum overflows',
     5: 'the text is no valid mapped CIGAR',

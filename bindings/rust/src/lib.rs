@@ -14,7 +14,7 @@ use core::fmt;
 pub enum Refusal {
     /// A record has under 32 bytes.
     ShortRecord = 1,
-    /// The op area ends past the record.
+    /// The op area ends past the record, or, where a record is clipped whole, its qualities do.
     AreaOverrun = 2,
     /// A list has over 65,535 ops; a long list over 1,048,576.
     TooManyOps = 3,
@@ -62,7 +62,7 @@ pub enum Refusal {
 
 const REFUSALS: &[(Refusal, &str)] = &[
     (Refusal::ShortRecord, "a record has under 32 bytes"),
-    (Refusal::AreaOverrun, "the op area ends past the record"),
+    (Refusal::AreaOverrun, "the op area, or in clipping a record its last quality, ends past the record"),
     (Refusal::TooManyOps, "a list has over 65,535 ops (a long one over 1,048,576)"),
     (Refusal::Overflow, "a signed 32-bit sum overflows"),
     (Refusal::NotACigar, "the text is no valid mapped CIGAR"),
