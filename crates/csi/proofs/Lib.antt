@@ -1,4 +1,2 @@
-pub mod Region
-pub mod Up
-pub mod Listing
+pub mod Calls
 pub mod Examples

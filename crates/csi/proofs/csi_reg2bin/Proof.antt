@@ -2,7 +2,7 @@ use mathlib.Core.Path.{_≡_, sym, ap, _∙_}
 use mir.Facts.{toZ-ofZ}
 use Rattle.answers.specs.declared.Nat.the-variants.{Number}
 use Rattle.csi_rules.specs.Csi.{regionOf, binIn, csiBin}
-use Rattle.csi.proofs.Up.{found}
+use Rattle.csi.proofs.Calls.{found}
 use borrow.Author.Needs.{needs}
 use Rattle.csi.proofs.csi_reg2bin.Statement.{statement}
 use Rattle.csi.proofs.csi_reg2bin.Tie as tie

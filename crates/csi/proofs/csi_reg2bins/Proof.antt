@@ -5,9 +5,8 @@ use mir.Facts.{toZ-ofZ}
 use Rattle.answers.proofs.Unique.{settled}
 use Rattle.csi_rules.specs.declared.Region.the-variants.{Over}
 use Rattle.csi_rules.specs.Csi.{regionOf, binsUp, binsIn, csiBins}
-use Rattle.csi.specs.InnerLevels.{Sound}
-use Rattle.csi.proofs.Up.{found}
-use Rattle.csi.proofs.Listing.{filled-none, filled-all}
+use Rattle.csi_levels.specs.InnerLevels.{Sound}
+use Rattle.csi.proofs.Calls.{found, filled-none, filled-all}
 use borrow.Author.Needs.{needs}
 use Rattle.csi.proofs.csi_reg2bins.Statement.{statement}
 use Rattle.csi.proofs.csi_reg2bins.Tie as tie

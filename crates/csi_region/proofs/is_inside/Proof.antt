@@ -6,10 +6,10 @@ use lib.IntN.{pos}
 use lib.Signed.{ltZ, leZ}
 use mir.Facts.{toZ-ofZ}
 use Rattle.signed.specs.Whole.{natural}
-use Rattle.csi.proofs.Region.{before-zero, empty, behind, taken}
+use Rattle.csi_region.proofs.Region.{before-zero, empty, behind, taken}
 use borrow.Author.Needs.{needs}
-use Rattle.csi.proofs.is_inside.Statement.{statement}
-use Rattle.csi.proofs.is_inside.Tie as tie
+use Rattle.csi_region.proofs.is_inside.Statement.{statement}
+use Rattle.csi_region.proofs.is_inside.Tie as tie
 
 -- what the tests told so far
 from-zero : (c : tie.Else1) → ltZ (c .before .args .beg) (pos 0) ≡ false

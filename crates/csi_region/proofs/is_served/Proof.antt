@@ -1,8 +1,8 @@
 -- Each test is one of the definition.
 use native.Mathlib.Omega.{arith}
 use borrow.Author.Tests.{lt-leb, le-leb}
-use Rattle.csi.proofs.is_served.Statement.{statement}
-use Rattle.csi.proofs.is_served.Tie as tie
+use Rattle.csi_region.proofs.is_served.Statement.{statement}
+use Rattle.csi_region.proofs.is_served.Tie as tie
 
 returns : tie.Need-returns
 returns c = simp (lt-leb 10 (c .before .args .shift) (omega arith))

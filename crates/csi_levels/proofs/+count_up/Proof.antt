@@ -2,17 +2,17 @@
 use borrow.Author.Needs.{needs}
 use native.Mathlib.Omega.{arith}
 use native.Mathlib.Nat.{pos-of-ne-zero}
-use Rattle.csi.proofs.Up.{sound-up}
-use Rattle.csi.proofs.Listing.{count-none, count-more}
+use Rattle.csi_levels.proofs.Up.{sound-up}
+use Rattle.csi_levels.proofs.Listing.{count-none, count-more}
 use Prim.Native.Nat.{ℕ, _<_}
 use borrow.Fn.Kinds.{In}
 use borrow.Fn.PlainCycle.{Measures, is, falls, and}
-use Rattle.csi.proofs.count_up.Reads as count-up
-use Rattle.csi.proofs.count_up.Kinds as count-up-kinds
-use Rattle.csi.proofs.+count_up.Lts-count_up as count-up-lts
-use Rattle.csi.proofs.level_count.Reads as level-count-reads
-use Rattle.csi.proofs.+count_up.{statement}
-use Rattle.csi.proofs.+count_up.Tie.{close}
+use Rattle.csi_levels.proofs.count_up.Reads as count-up
+use Rattle.csi_levels.proofs.count_up.Kinds as count-up-kinds
+use Rattle.csi_levels.proofs.+count_up.Lts-count_up as count-up-lts
+use Rattle.csi_levels.proofs.level_count.Reads as level-count-reads
+use Rattle.csi_levels.proofs.+count_up.{statement}
+use Rattle.csi_levels.proofs.+count_up.Tie.{close}
 
 abbrev μ-count-up : Measures 0 count-up-kinds.ps ℕ
 μ-count-up κs a = a .0

@@ -1,18 +1,13 @@
 -- Numbers put one behind another, and the list of bins by its cases: no level left, and one level more.
-use Prim.Native.Nat.{ℕ, zero, suc, _+_, _-_, _/_, _≤_, _<_, _^_}
+use Prim.Native.Nat.{ℕ, zero, suc, _+_, _-_, _/_, _<_, _^_}
 use mathlib.Core.Path.{_≡_, refl, sym, ap, _∙_}
 use mathlib.Core.List.{List, [], _∷_, _++_}
 use native.Mathlib.Omega.{arith}
 use native.Mathlib.Numerals.{add-one, sub-one}
-use borrow.Author.Tests.{lt-ltb, le-ltb}
 use lib.ListN.{length, set, length-append}
 use Rattle.lists.specs.Lists.{splice}
 use Rattle.lists.proofs.ListLaws.{splice-nil, splice-snoc}
-use Rattle.answers.specs.Settled.{keeps}
-use Rattle.answers.specs.declared.Refusal.the-variants.{NoRoom}
-use Rattle.answers.specs.declared.Count.the-variants.{Number, Refused}
-use Rattle.answers.proofs.Unique.{outcome}
-use Rattle.csi_rules.specs.Csi.{numbersFrom, levelBins, binsUp, filled}
+use Rattle.csi_rules.specs.Csi.{numbersFrom, levelBins, binsUp}
 
 length-from : (a n : ℕ) → length (numbersFrom a n) ≡ n
 unfolding numbersFrom
@@ -59,10 +54,3 @@ module _ (shift beg last : ℕ) where
       ap length (list-more left h)
       ∙ length-append (binsUp (left - 1) (shift + 3) beg last) (levelBins left shift beg last)
       ∙ ap (λ (n : ℕ). length (binsUp (left - 1) (shift + 3) beg last) + n) (length-from _ _)
-
--- the two ways of a list into lent memory
-pub filled-none : (bins out : List ℕ) → length out < length bins → filled bins out ≡ keeps (Refused NoRoom) out
-filled-none bins out h = simp (lt-ltb (length out) (length bins) h)
-
-pub filled-all : (bins out now : List ℕ) (n : ℕ) → length bins ≤ length out → n ≡ length bins → now ≡ splice out 0 bins → filled bins out ≡ record { answer = Number n; left = now }
-filled-all bins out now n h e f = simp (le-ltb (length out) (length bins) h) (outcome (ap Number e) f)

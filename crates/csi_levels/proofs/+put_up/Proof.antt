@@ -6,19 +6,19 @@ use Rattle.csi_rules.specs.Csi.{levelBins, binsUp}
 use borrow.Author.Needs.{needs}
 use native.Mathlib.Omega.{arith}
 use native.Mathlib.Nat.{pos-of-ne-zero}
-use Rattle.csi.proofs.Up.{sound-up}
-use Rattle.csi.proofs.Listing.{restated, list-none, list-more, count-none, count-more}
+use Rattle.csi_levels.proofs.Up.{sound-up}
+use Rattle.csi_levels.proofs.Listing.{restated, list-none, list-more, count-none, count-more}
 use Prim.Native.Nat.{ℕ, _+_, _-_, _<_}
 use borrow.Fn.Kinds.{In}
 use borrow.Fn.PlainCycle.{Measures, is, falls, and}
-use Rattle.csi.proofs.put_up.Reads as put-up
-use Rattle.csi.proofs.put_up.Kinds as put-up-kinds
-use Rattle.csi.proofs.+put_up.Lts-put_up as put-up-lts
-use Rattle.csi.proofs.bin_at.Reads as bin-at-reads
-use Rattle.csi.proofs.level_count.Reads as level-count-reads
-use Rattle.csi.proofs.put_numbers.Reads as put-numbers-reads
-use Rattle.csi.proofs.+put_up.{statement}
-use Rattle.csi.proofs.+put_up.Tie.{close}
+use Rattle.csi_levels.proofs.put_up.Reads as put-up
+use Rattle.csi_levels.proofs.put_up.Kinds as put-up-kinds
+use Rattle.csi_levels.proofs.+put_up.Lts-put_up as put-up-lts
+use Rattle.csi_levels.proofs.bin_at.Reads as bin-at-reads
+use Rattle.csi_levels.proofs.level_count.Reads as level-count-reads
+use Rattle.csi_levels.proofs.put_numbers.Reads as put-numbers-reads
+use Rattle.csi_levels.proofs.+put_up.{statement}
+use Rattle.csi_levels.proofs.+put_up.Tie.{close}
 
 abbrev μ-put-up : Measures 1 put-up-kinds.ps ℕ
 μ-put-up κs a = a .0

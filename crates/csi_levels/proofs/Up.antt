@@ -1,23 +1,15 @@
 -- The rule by its cases: no level left; the ends agree; one level up. And what the functions of the levels ask, kept from level to level.
 use Prim.Native.Nat.{ℕ, zero, suc, _+_, _-_, _*_, _/_, _≤_, _<_, _^_}
-use mathlib.Core.Path.{_≡_, refl, sym, subst, _∙_}
-use mathlib.Core.Bool.{Bool, true, false}
+use mathlib.Core.Path.{_≡_, refl, subst}
 use native.Mathlib.Omega.{arith}
 use native.Mathlib.Nat.{lt-of-lt-of-le}
 use native.Mathlib.Numerals.{sub-one}
 use borrow.Author.Tests.{eq-eqb, ne-eqb, eqb-true}
 use lib.Dec.{eqb}
-use lib.IntN.{ℤ}
 use lib.Pow.{pow-mono, shr-lt, shr-mono, shr-le}
-use Rattle.lists.proofs.Absurd.{never}
 use Rattle.lists.proofs.Tables.{below-at}
-use Rattle.signed.specs.Whole.{natural}
 use Rattle.sam.specs.Bins.{firstOf, binUp}
-use Rattle.csi_rules.specs.declared.Region.the-variants.{Over}
-use Rattle.csi_rules.specs.Csi.{served, inside, regionOf}
-use Rattle.csi_rules.proofs.Ranges.{levels, within}
-use Rattle.csi_rules.proofs.Cases.{levels-first, region-next, taken}
-use Rattle.csi.specs.InnerLevels.{Sound}
+use Rattle.csi_levels.specs.InnerLevels.{Sound}
 
 -- a level of at most 8 has at most 2^24 bins
 few : (l : ℕ) → l ≤ 8 → 2 ^ (3 * l) ≤ 16777216
@@ -60,20 +52,3 @@ module _ (left shift beg last : ℕ) (k : Sound left shift beg last) where
       let b = k .bits in
       let e : 3 * left + shift ≡ 3 * (left - 1) + (shift + 3) = omega arith in
       record { few = omega arith; bits = omega arith; order = k .order; whole = subst (λ (n : ℕ). last < 2 ^ n) e (k .whole) }
-
--- a region that is taken
-pub found : (beg end : ℤ) (s d first last : ℕ) → regionOf beg end s d ≡ Over first last → Sound d s first last
-found beg end s d first last e = go (served s d) refl (inside s d beg end) refl
-  where
-    go : (t : Bool) → served s d ≡ t → (u : Bool) → inside s d beg end ≡ u → Sound d s first last
-    go true p true q =
-        let f = sym (taken beg end s d p q) ∙ e in
-        let x : natural beg ≡ first = cc in
-        let y : natural end - 1 ≡ last = cc in
-        let v = levels s d p in
-        let w = within s d beg end q in
-        let k : s + 3 * d ≡ 3 * d + s = omega arith in
-        let g : natural end ≤ 2 ^ (3 * d + s) = subst (λ (n : ℕ). natural end ≤ 2 ^ n) k (w .1) in
-        record { few = v .shallow; bits = omega arith; order = omega arith; whole = omega arith }
-    go true p false q = let f = sym (region-next beg end s d p q) ∙ e in never cc
-    go false p u q = let f = sym (levels-first beg end s d p) ∙ e in never cc

@@ -1,10 +1,10 @@
 -- The last place is on the level at or behind the first.
 use mathlib.Core.Path.{refl}
 use native.Mathlib.Omega.{arith}
-use Rattle.csi.proofs.Up.{order-up, last-small}
+use Rattle.csi_levels.proofs.Up.{order-up, last-small}
 use borrow.Author.Needs.{needs}
-use Rattle.csi.proofs.level_count.Statement.{statement}
-use Rattle.csi.proofs.level_count.Tie as tie
+use Rattle.csi_levels.proofs.level_count.Statement.{statement}
+use Rattle.csi_levels.proofs.level_count.Tie as tie
 
 shr-result : tie.Need-shr-result
 shr-result c = search needs

@@ -6,9 +6,9 @@ use borrow.Author.Needs.{needs}
 use lib.ListN.{length, length-set}
 use Rattle.lists.specs.Lists.{splice}
 use Rattle.csi_rules.specs.Csi.{numbersFrom}
-use Rattle.csi.proofs.Listing.{first-none, one-more}
-use Rattle.csi.proofs.put_numbers.Statement.{statement}
-use Rattle.csi.proofs.put_numbers.Tie as tie
+use Rattle.csi_levels.proofs.Listing.{first-none, one-more}
+use Rattle.csi_levels.proofs.put_numbers.Statement.{statement}
+use Rattle.csi_levels.proofs.put_numbers.Tie as tie
 
 abbrev Inv-loop : tie.InvT-loop
 Inv-loop bin n out₀ at j₀ out j = (j ≤ n) × (out ≡ splice out₀ at (numbersFrom bin j)) × (length out ≡ length out₀)

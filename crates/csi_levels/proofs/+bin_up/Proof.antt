@@ -1,18 +1,18 @@
 -- The rule by its cases; the levels left fall.
 use borrow.Author.Needs.{needs}
 use native.Mathlib.Omega.{arith}
-use Rattle.csi.proofs.Up.{none-left, sound-up, agreed, differ}
+use Rattle.csi_levels.proofs.Up.{none-left, sound-up, agreed, differ}
 use Prim.Native.Nat.{ℕ, _<_}
 use mathlib.Core.Path.{_∙_}
 use native.Mathlib.Nat.{pos-of-ne-zero}
 use borrow.Fn.Kinds.{In}
 use borrow.Fn.PlainCycle.{Measures, is, falls, and}
-use Rattle.csi.proofs.bin_up.Reads as bin-up
-use Rattle.csi.proofs.bin_up.Kinds as bin-up-kinds
-use Rattle.csi.proofs.+bin_up.Lts-bin_up as bin-up-lts
-use Rattle.csi.proofs.bin_at.Reads as bin-at-reads
-use Rattle.csi.proofs.+bin_up.{statement}
-use Rattle.csi.proofs.+bin_up.Tie.{close}
+use Rattle.csi_levels.proofs.bin_up.Reads as bin-up
+use Rattle.csi_levels.proofs.bin_up.Kinds as bin-up-kinds
+use Rattle.csi_levels.proofs.+bin_up.Lts-bin_up as bin-up-lts
+use Rattle.csi_levels.proofs.bin_at.Reads as bin-at-reads
+use Rattle.csi_levels.proofs.+bin_up.{statement}
+use Rattle.csi_levels.proofs.+bin_up.Tie.{close}
 
 abbrev μ-bin-up : Measures 0 bin-up-kinds.ps ℕ
 μ-bin-up κs a = a .0

@@ -3,8 +3,8 @@ use native.Mathlib.Omega.{arith}
 use lib.Dec.{lit<}
 use lib.Pow.{shl-exact}
 use borrow.Author.Needs.{needs}
-use Rattle.csi.proofs.power.Statement.{statement}
-use Rattle.csi.proofs.power.Tie as tie
+use Rattle.csi_region.proofs.power.Statement.{statement}
+use Rattle.csi_region.proofs.power.Tie as tie
 
 shl-result : tie.Need-shl-result
 shl-result c = search needs

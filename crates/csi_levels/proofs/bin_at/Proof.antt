@@ -2,10 +2,10 @@
 use Prim.Native.Nat.{ℕ, _+_, _/_, _^_}
 use mathlib.Core.Path.{ap}
 use native.Mathlib.Omega.{arith}
-use Rattle.csi.proofs.Up.{order-up, last-small}
+use Rattle.csi_levels.proofs.Up.{order-up, last-small}
 use borrow.Author.Needs.{needs}
-use Rattle.csi.proofs.bin_at.Statement.{statement}
-use Rattle.csi.proofs.bin_at.Tie as tie
+use Rattle.csi_levels.proofs.bin_at.Statement.{statement}
+use Rattle.csi_levels.proofs.bin_at.Tie as tie
 
 first-of-requires : tie.Need-first-of-requires
 first-of-requires c κs = search needs

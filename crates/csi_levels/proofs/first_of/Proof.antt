@@ -1,8 +1,8 @@
 -- The first numbers are shifts of the largest.
 use borrow.Author.Needs.{needs}
-use Rattle.csi.proofs.Up.{first-code}
-use Rattle.csi.proofs.first_of.Statement.{statement}
-use Rattle.csi.proofs.first_of.Tie as tie
+use Rattle.csi_levels.proofs.Up.{first-code}
+use Rattle.csi_levels.proofs.first_of.Statement.{statement}
+use Rattle.csi_levels.proofs.first_of.Tie as tie
 
 mul-result : tie.Need-mul-result
 mul-result c = search needs

@@ -11,8 +11,8 @@ use Rattle.csi_rules.specs.Csi.{served, inside}
 use Rattle.csi_rules.proofs.Ranges.{levels, within}
 use Rattle.csi_rules.proofs.Cases.{levels-first, region-next, taken}
 use borrow.Author.Needs.{needs}
-use Rattle.csi.proofs.region_of.Statement.{statement}
-use Rattle.csi.proofs.region_of.Tie as tie
+use Rattle.csi_region.proofs.region_of.Statement.{statement}
+use Rattle.csi_region.proofs.region_of.Tie as tie
 
 -- what the tests told so far
 in-range : (c : tie.Else1) → served (c .before .before .args .shift) (c .before .before .args .depth) ≡ true
