@@ -12,7 +12,7 @@ use Rattle.answers.specs.Settled.{keeps}
 use Rattle.answers.specs.declared.Refusal.{Refusal}
 use Rattle.answers.specs.declared.Int.the-variants as Int
 use Rattle.answers.specs.declared.Nat.the-variants.{Number, Refused}
-use Rattle.lengths.specs.Lengths.{checkedRefLength}
+use Rattle.length_rules.specs.Lengths.{checkedRefLength}
 use Rattle.bin_rules.specs.Bin.{recordBin, binFrom, setBin}
 
 module _ (b : List ℕ) (h : 32 ≤ length b) where

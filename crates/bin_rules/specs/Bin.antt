@@ -13,7 +13,7 @@ use Rattle.signed.specs.declared.Sum.the-variants as Sum
 use Rattle.sam.specs.Record.{posOf, isShort}
 use Rattle.answers.specs.declared.Int.{Int}
 use Rattle.answers.specs.declared.Int.the-variants as Int
-use Rattle.lengths.specs.Lengths.{checkedRefLength}
+use Rattle.length_rules.specs.Lengths.{checkedRefLength}
 use Rattle.answers.specs.Settled.{Outcome, keeps}
 use Rattle.answers.specs.declared.Refusal.the-variants.{Overflow, ShortRecord}
 use Rattle.answers.specs.declared.Nat.{Nat}

@@ -1,9 +1,9 @@
 // How the lengths of an op list cross the C border. An inner crate of the static libraries `exports` and `exports_long`.
 ghost use mathlib.Core.Path.{_≡_};
-ghost use Rattle.lengths.specs.Lengths.{tellLengths};
+ghost use Rattle.length_rules.specs.Lengths.{tellLengths};
 ghost use Rattle.border.specs.Border.{lengthsOf};
 use border::ToldLengths;
-use lengths::Lengths;
+use length_rules::Lengths;
 
 // Reference and query length, and the clips at both ends.
 pub fn told_lengths(answer: Lengths) -> ToldLengths

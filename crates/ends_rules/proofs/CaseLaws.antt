@@ -13,7 +13,7 @@ use Rattle.signed.specs.declared.Sum.the-variants.{Number}
 use Rattle.sam.specs.Op.{refLen}
 use Rattle.sam.specs.Record.{posOf, flagsOf, isUnmapped, isReverse}
 use Rattle.oplist.specs.Ops.{recordOps}
-use Rattle.lengths.specs.Lengths.{checkedRefLength}
+use Rattle.length_rules.specs.Lengths.{checkedRefLength}
 use Rattle.clip_runs.specs.Clips.{leadingClips, clipsAfterReference}
 use Rattle.answers.specs.declared.Pos0.{Pos0}
 use Rattle.answers.specs.declared.Place0.the-variants as Place0

@@ -1,7 +1,7 @@
 // Lengths.
 ghost use mathlib.Core.Path.{_≡_};
 ghost use Rattle.answers.specs.Answers.{tellInt, tellCount};
-ghost use Rattle.lengths.specs.Lengths.{refLength, queryLength, saturatedLength, checkedRefLength, recordQueryLength, recordLengths, tellLengths};
+ghost use Rattle.length_rules.specs.Lengths.{refLength, queryLength, saturatedLength, checkedRefLength, recordQueryLength, recordLengths, tellLengths};
 ghost use Rattle.border.specs.Border.{intOf, countOf, lengthsOf};
 use border::ToldCount;
 use border::ToldInt;

@@ -2,7 +2,7 @@
 ghost use mathlib.Core.Path.{_≡_};
 ghost use Rattle.answers.specs.Answers.{tellInt, tellCount};
 ghost use Rattle.answers.specs.Settled.{Settled};
-ghost use Rattle.lengths.specs.Lengths.{longRefLength, longQueryLength};
+ghost use Rattle.length_rules.specs.Lengths.{longRefLength, longQueryLength};
 ghost use Rattle.lookup_rules.specs.Lookup.{longLooked, tellFound};
 ghost use Rattle.clip_rules.specs.Answer.{longStart, longEnd, tellClipped};
 ghost use Rattle.border.specs.Border.{intOf, countOf, lookupOf, twoOf, flagged, across};

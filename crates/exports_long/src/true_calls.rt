@@ -2,7 +2,7 @@
 ghost use mathlib.Core.Path.{_≡_};
 ghost use Rattle.answers.specs.Settled.{Settled};
 ghost use Rattle.answers.specs.Answers.{tellCount};
-ghost use Rattle.lengths.specs.Lengths.{tellLengths};
+ghost use Rattle.length_rules.specs.Lengths.{tellLengths};
 ghost use Rattle.tag_rules.specs.Long.{trueList, tellTrueList};
 ghost use Rattle.true_rules.specs.True.{trueOps, truePrinted, trueLengths, trueUnclipped, trueStart, trueEnd};
 ghost use Rattle.ends_rules.specs.Ends.{tellUnclipped};

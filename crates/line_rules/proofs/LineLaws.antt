@@ -28,7 +28,7 @@ use Rattle.answers.specs.declared.Count.{Count}
 use Rattle.answers.specs.declared.Count.the-variants as Count
 use Rattle.decimal.specs.Decimal.{decimal}
 use Rattle.print_rules.specs.Text.{textOf, printed}
-use Rattle.lengths.specs.Lengths.{asInt, checkedRefLength}
+use Rattle.length_rules.specs.Lengths.{asInt, checkedRefLength}
 use Rattle.ends_rules.specs.Ends.{unclippedOf, tellUnclipped}
 use Rattle.ends_rules.specs.declared.Unclipped.{Unclipped}
 use Rattle.ends_rules.specs.declared.Unclipped.the-variants as Unclipped

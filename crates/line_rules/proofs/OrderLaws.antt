@@ -28,7 +28,7 @@ use Rattle.answers.specs.declared.Nat.the-variants as Nat
 use Rattle.answers.specs.declared.Count.{Count}
 use Rattle.answers.specs.declared.Count.the-variants as Count
 use Rattle.print_rules.specs.Text.{textOf, anyBad, printed}
-use Rattle.lengths.specs.Lengths.{asInt, checkedRefLength, recordQueryLength}
+use Rattle.length_rules.specs.Lengths.{asInt, checkedRefLength, recordQueryLength}
 use Rattle.ends_rules.specs.Sums.{_⊕_}
 use Rattle.ends_rules.specs.Ends.{plusOne, fivePrime, noOps, asUnclipped, unclippedAt, unclippedOf, tellUnclipped}
 use Rattle.ends_rules.specs.declared.Unclipped.{Unclipped}

@@ -13,7 +13,7 @@ use Rattle.answers.specs.declared.Int.the-variants as Int
 use Rattle.answers.specs.declared.Nat.{Nat}
 use Rattle.answers.specs.declared.Nat.the-variants as Nat
 use Rattle.answers.specs.declared.Count.the-variants as Count
-use Rattle.lengths.specs.Lengths.{checkedRefLength}
+use Rattle.length_rules.specs.Lengths.{checkedRefLength}
 use Rattle.ends_rules.specs.Ends.{unclippedOf}
 use Rattle.ends_rules.specs.declared.Unclipped.{Unclipped}
 use Rattle.ends_rules.specs.declared.Unclipped.the-variants as Unclipped

@@ -14,7 +14,7 @@ use Rattle.oplist.specs.Ops.{recordOps}
 use Rattle.answers.specs.Answers.{Told, tellInt, tellCount, tellNat}
 use Rattle.decimal.specs.Decimal.{decimal}
 use Rattle.print_rules.specs.Text.{textOf, printed}
-use Rattle.lengths.specs.Lengths.{checkedRefLength, recordQueryLength}
+use Rattle.length_rules.specs.Lengths.{checkedRefLength, recordQueryLength}
 use Rattle.ends_rules.specs.Ends.{unclippedOf, tellUnclipped}
 use Rattle.ends_rules.specs.declared.Unclipped.{Unclipped}
 use Rattle.ends_rules.specs.declared.Unclipped.the-variants as Unclipped

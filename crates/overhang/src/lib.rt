@@ -109,7 +109,7 @@ fn extent_at(words: &[u32], rec: &[u8], inside: bool, at: usize, n: u32, start: 
         at: at,
         n: n,
     };
-    let total = lengths::sums(words, rec, list);
+    let total = op_sums::sums(words, rec, list);
     Extent {
         start: start,
         end: overhang_places::alignment_end(start, total.refs),
@@ -174,7 +174,7 @@ fn clamped_past(
     if reverse {
         return bases_up_to(words, rec, list, start, target, 0);
     }
-    let total = lengths::sums(words, rec, list);
+    let total = op_sums::sums(words, rec, list);
     overhang_places::more(total.query, bases_up_to(words, rec, list, start, target, 1))
 }
 

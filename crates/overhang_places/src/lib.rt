@@ -51,14 +51,14 @@ fn later(a: Pos1, b: Pos1) -> Pos1
 fn after(p: Pos1, n: u64) -> Pos1
     ensures { λ r. ⌜ r .0 ≡ clamp32 (p .0 +ℤ clamp32 (pos n)) ⌝ }
 {
-    Pos1(signed::saturating_add(p.0, lengths::saturated(n)))
+    Pos1(signed::saturating_add(p.0, op_sums::saturated(n)))
 }
 
 // n positions before p.
 fn ahead(p: Pos1, n: u64) -> Pos1
     ensures { λ r. ⌜ r .0 ≡ clamp32 (p .0 -ℤ clamp32 (pos n)) ⌝ }
 {
-    Pos1(signed::saturating_sub(p.0, lengths::saturated(n)))
+    Pos1(signed::saturating_sub(p.0, op_sums::saturated(n)))
 }
 
 // The last position of an alignment with n reference bases.

@@ -112,8 +112,8 @@ pub fn num_bases_extending_past_mate_cigar_raw(bam: &[u8], mate_ops: &[u32]) -> 
         return Count::Refused(Refusal::TooManyOps);
     }
     let list = oplist::lent(mate_ops);
-    let total = lengths::sums(mate_ops, &[], list);
-    let fr = pairs::fr_with_mate(bam, lengths::saturated(total.refs));
+    let total = op_sums::sums(mate_ops, &[], list);
+    let fr = pairs::fr_with_mate(bam, op_sums::saturated(total.refs));
     if is_no(fr) {
         return Count::Number(0);
     }

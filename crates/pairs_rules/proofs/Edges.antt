@@ -12,7 +12,7 @@ use Rattle.answers.specs.declared.Refusal.{Refusal}
 use Rattle.answers.specs.declared.Int.the-variants as Int
 use Rattle.answers.specs.declared.Flag.{Flag}
 use Rattle.answers.specs.declared.Flag.the-variants as Flag
-use Rattle.lengths.specs.Lengths.{checkedRefLength}
+use Rattle.length_rules.specs.Lengths.{checkedRefLength}
 use Rattle.pairs_rules.specs.Pairs.{isOpposite, startOf, lastOf, startsBeforeEnd, mateStartsBefore, frBy, areOpposite, isPrimaryFr, frPair, primaryFrPair}
 
 starts-at-end : (s p n : ℤ) → startOf s ≡ lastOf p n → startsBeforeEnd s p (Int.Number n) ≡ Flag.Is true

@@ -3,7 +3,7 @@ use Prim.Native.Nat.{ℕ}
 use mathlib.Core.Path.{_≡_}
 use mathlib.Core.List.{List}
 use Rattle.sam.specs.Record.{refIdOf, posOf, flagsOf, mateRefIdOf, matePosOf, isPaired, isUnmapped, isMateUnmapped, isReverse, isMateReverse}
-use Rattle.lengths.specs.Lengths.{checkedRefLength}
+use Rattle.length_rules.specs.Lengths.{checkedRefLength}
 
 -- "paired, both mapped, same reference, strands differ"
 pub record SamePair (a b : List ℕ) : Type 0 where

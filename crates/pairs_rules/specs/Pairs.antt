@@ -13,7 +13,7 @@ use Rattle.answers.specs.declared.Int.{Int}
 use Rattle.answers.specs.declared.Int.the-variants as Int
 use Rattle.answers.specs.declared.Flag.{Flag}
 use Rattle.answers.specs.declared.Flag.the-variants as Flag
-use Rattle.lengths.specs.Lengths.{checkedRefLength}
+use Rattle.length_rules.specs.Lengths.{checkedRefLength}
 
 -- "both mapped", by a record's flag
 unfoldable pub bothMapped : ℕ → Bool

@@ -17,7 +17,7 @@ use Rattle.answers.specs.declared.Flag.{Flag}
 use Rattle.answers.specs.declared.Flag.the-variants as Flag
 use Rattle.answers.specs.declared.Place1.{Place1}
 use Rattle.answers.specs.declared.Place1.the-variants as Place1
-use Rattle.lengths.specs.Lengths.{checkedRefLength}
+use Rattle.length_rules.specs.Lengths.{checkedRefLength}
 use Rattle.ends_rules.specs.Ends.{endAt, alignmentEnd}
 use Rattle.bin_rules.specs.Bin.{binFrom, recordBin}
 use Rattle.pairs_rules.specs.Pairs.{isOpposite, startsBeforeEnd, mateStartsBefore, frBy}

@@ -17,7 +17,7 @@ use Rattle.answers.specs.declared.Int.the-variants as Int
 use Rattle.answers.specs.declared.Refusal.{Refusal}
 use Rattle.answers.specs.declared.Refusal.the-variants.{ShortRecord}
 use Rattle.sam.specs.Record.{posOf}
-use Rattle.lengths.specs.Lengths.{checkedRefLength}
+use Rattle.length_rules.specs.Lengths.{checkedRefLength}
 use Rattle.ends_rules.specs.Sums.{both, _⊕_}
 use Rattle.ends_rules.specs.Ends.{toPlace1, plusOne, alignmentStart, endAt, alignmentEnd}
 use Rattle.answers.specs.Answers.{Told}

@@ -27,9 +27,9 @@ use Rattle.ops.specs.Ops.{getOps, kindOf, fromOpType, tellKind, newOp, tellOp}
 use Rattle.ops.specs.declared.CigarKind.{CigarKind}
 use Rattle.ops.specs.declared.KindFound.the-variants.{Kind, Nothing}
 use Rattle.ops.specs.declared.NewOp.the-variants as NewOp
-use Rattle.lengths.specs.Lengths.{asInt, refLengthUpTo, queryLengthUpTo, refLength, queryLength, saturatedLength, checkedRefLength, recordQueryLength, lengthsWith, recordLengths, tellLengths}
-use Rattle.lengths.specs.declared.Lengths.{Lengths}
-use Rattle.lengths.specs.declared.Lengths.the-variants as Lengths
+use Rattle.length_rules.specs.Lengths.{asInt, refLengthUpTo, queryLengthUpTo, refLength, queryLength, saturatedLength, checkedRefLength, recordQueryLength, lengthsWith, recordLengths, tellLengths}
+use Rattle.length_rules.specs.declared.Lengths.{Lengths}
+use Rattle.length_rules.specs.declared.Lengths.the-variants as Lengths
 use Rattle.bin_rules.specs.Bin.{binTo, reg2bin, spanOf, binUpTo, recordBin, withBin, setBin, binFrom}
 use Rattle.promises.specs.Table.{Row, _when_, Gives, GivesKept, GivesFilled}
 use Rattle.promises.specs.Rows.{over, anyOutside, refsOf, recordRows, opsRows, newRows, listRows, lengthRows, checkedRows, lengthsRows, regionRows, binRows}

@@ -16,7 +16,7 @@ use Rattle.answers.specs.declared.Int.{Int}
 use Rattle.answers.specs.declared.Int.the-variants as Int
 use Rattle.answers.specs.declared.Flag.{Flag}
 use Rattle.answers.specs.declared.Flag.the-variants as Flag
-use Rattle.lengths.specs.Lengths.{asInt, checkedRefLength}
+use Rattle.length_rules.specs.Lengths.{asInt, checkedRefLength}
 use Rattle.pairs_rules.specs.Pairs.{isOpposite, startsBeforeEnd, mateStartsBefore, frBy, isFr, areOpposite, isPrimaryFr}
 use Rattle.promises.specs.Table.{Row, _when_, first, only, Gives}
 use Rattle.promises.specs.Rows.{refsOf, asked, pairRows, bothPairRows, isYes}

@@ -18,9 +18,9 @@ use Rattle.answers.specs.declared.Count.the-variants as Count
 use Rattle.answers.proofs.Numbers.{not-zero}
 use Rattle.ops.specs.Ops.{copiedOps}
 use Rattle.print_rules.specs.Text.{anyBad, textOf, printedOps}
-use Rattle.lengths.specs.Lengths.{listLengths, lengthsWith, longRefLength, longQueryLength, tellLengths}
-use Rattle.lengths.specs.declared.Lengths.{Lengths}
-use Rattle.lengths.specs.declared.Lengths.the-variants as Lengths
+use Rattle.length_rules.specs.Lengths.{listLengths, lengthsWith, longRefLength, longQueryLength, tellLengths}
+use Rattle.length_rules.specs.declared.Lengths.{Lengths}
+use Rattle.length_rules.specs.declared.Lengths.the-variants as Lengths
 use Rattle.lookup_rules.specs.Lookup.{longLooked, tellFound}
 use Rattle.ends_rules.specs.Ends.{unclippedBy, tellUnclipped}
 use Rattle.ends_rules.specs.declared.Unclipped.the-variants as Unclipped

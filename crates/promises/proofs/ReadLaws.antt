@@ -30,7 +30,7 @@ use Rattle.text_rules.specs.Strict.{strict}
 use Rattle.clip_runs.specs.Clips.{softLen, hardLen, leadingClips, leadingSoft, leadingHard, hasInner, trailingSoft, trailingHard, clipsAfterReference}
 use Rattle.clip_runs.proofs.RunLaws as Clips
 use Rattle.clip_runs.proofs.EndLaws as EndClips
-use Rattle.lengths.specs.Lengths.{checkedRefLength}
+use Rattle.length_rules.specs.Lengths.{checkedRefLength}
 use Rattle.bin_rules.specs.Bin.{recordBin, setBin}
 use Rattle.bin_rules.proofs.Records as Bins
 use Rattle.ends_rules.specs.Ends.{unclippedStart, unclippedEnd, alignmentStart, alignmentEnd}

@@ -21,7 +21,7 @@ use Rattle.answers.specs.declared.Refusal.the-variants.{ShortRecord, AreaOverru
 use Rattle.answers.specs.declared.Nat.{Nat}
 use Rattle.answers.specs.declared.Nat.the-variants as Nat
 use Rattle.answers.specs.declared.Count.the-variants.{Number}
-use Rattle.lengths.specs.Lengths.{asInt}
+use Rattle.length_rules.specs.Lengths.{asInt}
 use Rattle.bin_rules.specs.Bin.{binTo, reg2bin, spanOf, binUpTo, binFrom}
 use Rattle.clip_rules.specs.Answer.{clippable, isBeyond, tellClipped}
 use Rattle.clip_rules.specs.declared.Clipped.{Clipped}

@@ -196,7 +196,7 @@ fn counted(bam: &[u8], p: Plan, start: bool) -> PlannedRecord
     requires { ⌜ sumOf refLen (recordOps (now bam)) ≡ p .lost + sumOf refLen (plannedOps start (recordOps (now bam)) p) ⌝ }
     ensures { λ r. ⌜ FateIs (now (bam .entry)) start (counted (now (bam .entry)) (plannedOps start (recordOps (now (bam .entry))) p) start (cond start (p .lost) 0)) r ⌝ }
 {
-    let total = lengths::sums(&[], bam, oplist::of_record(bam));
+    let total = op_sums::sums(&[], bam, oplist::of_record(bam));
     let len = little_endian::u32_at(bam, 16) as u64;
     if query_differs(len, total.query) {
         return PlannedRecord::Refused(Refusal::QueryDiffers);

@@ -26,7 +26,7 @@ use Rattle.answers.specs.declared.Nat.{Nat}
 use Rattle.answers.specs.declared.Nat.the-variants as Nat
 use Rattle.answers.specs.declared.Int.{Int}
 use Rattle.answers.specs.declared.Int.the-variants as Int
-use Rattle.lengths.specs.Lengths.{asInt, checkedRefLength}
+use Rattle.length_rules.specs.Lengths.{asInt, checkedRefLength}
 use Rattle.bin_rules.specs.Bin.{low16, binOf, binTo, reg2bin, spanOf, binUpTo, binFrom, recordBin}
 use Rattle.clip_rules.specs.Answer.{clippedOps}
 use Rattle.record_rules.specs.Written.{Change, newHeader, newName, newOps, newBases, newQuals, newTags, newRecord}

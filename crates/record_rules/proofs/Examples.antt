@@ -14,7 +14,7 @@ use Rattle.oplist.specs.Ops.{recordOps}
 use Rattle.ops.specs.Ops.{isRead, readLen, isClip}
 use Rattle.answers.specs.Settled.{keeps}
 use Rattle.answers.specs.declared.Refusal.the-variants.{NoRoom}
-use Rattle.lengths.specs.Lengths.{asInt}
+use Rattle.length_rules.specs.Lengths.{asInt}
 use Rattle.bin_rules.specs.Bin.{low16, firstAgreed, binTo, reg2bin, binUpTo, binFrom}
 use Rattle.clip_runs.specs.Clips.{leadingClips, outerHard, nextSoft, inside}
 use Rattle.clip_rules.specs.Clipping.{goes, ends, taking, softOf, upgraded, cutInto, clip}

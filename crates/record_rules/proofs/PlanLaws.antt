@@ -26,7 +26,7 @@ use Rattle.answers.specs.declared.Refusal.the-variants.{ShortRecord, AreaOverru
 use Rattle.answers.specs.declared.Nat.{Nat}
 use Rattle.answers.specs.declared.Nat.the-variants as Nat
 use Rattle.answers.specs.declared.Int.the-variants as Int
-use Rattle.lengths.specs.Lengths.{asInt}
+use Rattle.length_rules.specs.Lengths.{asInt}
 use Rattle.bin_rules.specs.Bin.{binFrom}
 use Rattle.clip_rules.specs.declared.Plan.{Plan}
 use Rattle.clip_rules.specs.declared.Clipped.the-variants.{Done, Refused}

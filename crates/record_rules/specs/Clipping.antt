@@ -19,7 +19,7 @@ use Rattle.answers.specs.declared.Refusal.the-variants.{ShortRecord, AreaOverru
 use Rattle.answers.specs.declared.Nat.{Nat}
 use Rattle.answers.specs.declared.Nat.the-variants as Nat
 use Rattle.answers.specs.declared.Count.{Count}
-use Rattle.lengths.specs.Lengths.{asInt}
+use Rattle.length_rules.specs.Lengths.{asInt}
 use Rattle.bin_rules.specs.Bin.{binFrom}
 use Rattle.clip_rules.specs.Answer.{clippedOps, clippedCount, isBeyond, withoutCount}
 use Rattle.clip_rules.specs.declared.Clipped.{Clipped}

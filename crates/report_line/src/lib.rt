@@ -40,7 +40,7 @@ fn row_of(rec: &[u8]) -> Figures
     if !oplist::inside(rec, list) {
         return Figures::Refused(Refusal::AreaOverrun);
     }
-    let total = lengths::sums(&[], rec, list);
+    let total = op_sums::sums(&[], rec, list);
     if 2147483647 < total.refs {
         return Figures::Refused(Refusal::Overflow);
     }

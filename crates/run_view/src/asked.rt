@@ -7,7 +7,7 @@ use answers::Place1;
 use clip_rules::Clipped;
 use ends_rules::Unclipped;
 use fields::Part;
-use lengths::Lengths;
+use length_rules::Lengths;
 use view::RawRecordView;
 
 pub fn as_bytes(bam: &[u8]) -> &[u8] {

@@ -7,8 +7,8 @@ use answers::Place1;
 use answers::Refusal;
 use clip_rules::Clipped;
 use ends_rules::Unclipped;
-use lengths::Clips;
-use lengths::Lengths;
+use length_rules::Clips;
+use length_rules::Lengths;
 
 pub fn text(words: &[u8]) {
     io::write_all(1, words);

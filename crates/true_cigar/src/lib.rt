@@ -5,7 +5,7 @@ ghost use Rattle.answers.specs.Settled.{Settled};
 ghost use Rattle.true_rules.specs.True.{truePart, truePartRefusal, trueOps, truePrinted, trueLengths};
 use answers::Count;
 use fields::Part;
-use lengths::Lengths;
+use length_rules::Lengths;
 use oplist::Ops;
 use tag_rules::TrueList;
 
@@ -84,7 +84,7 @@ pub fn true_cigar_lengths(bam: &[u8]) -> Lengths
                 at: at,
                 n: n,
             };
-            lengths::list_lengths(bam, list)
+            list_lengths::list_lengths(bam, list)
         }
         TrueList::Refused(why) => Lengths::Refused(why),
     }

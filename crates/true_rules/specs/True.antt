@@ -12,9 +12,9 @@ use Rattle.answers.specs.Settled.{Outcome, keeps}
 use Rattle.tag_rules.specs.Long.{trueList, partOf, refusalOf, readFrom}
 use Rattle.ops.specs.Ops.{copiedOps}
 use Rattle.print_rules.specs.Text.{printedOps}
-use Rattle.lengths.specs.Lengths.{listLengths}
-use Rattle.lengths.specs.declared.Lengths.{Lengths}
-use Rattle.lengths.specs.declared.Lengths.the-variants as Lengths
+use Rattle.length_rules.specs.Lengths.{listLengths}
+use Rattle.length_rules.specs.declared.Lengths.{Lengths}
+use Rattle.length_rules.specs.declared.Lengths.the-variants as Lengths
 use Rattle.tag_rules.specs.declared.TrueList.the-variants.{At}
 use Rattle.ends_rules.specs.Ends.{unclippedBy}
 use Rattle.ends_rules.specs.declared.Unclipped.{Unclipped}

@@ -23,8 +23,8 @@ use Rattle.answers.proofs.Place0 as Place0
 use Rattle.answers.proofs.Place0.Laws as Place0′
 use Rattle.answers.proofs.Place1 as Place1
 use Rattle.answers.proofs.Place1.Laws as Place1′
-use Rattle.lengths.proofs.Lengths as Lengths
-use Rattle.lengths.proofs.Lengths.Laws as Lengths′
+use Rattle.length_rules.proofs.Lengths as Lengths
+use Rattle.length_rules.proofs.Lengths.Laws as Lengths′
 use Rattle.ends_rules.proofs.Unclipped as Unclipped
 use Rattle.ends_rules.proofs.Unclipped.Laws as Unclipped′
 use Rattle.fields.proofs.ref_id as ref-id

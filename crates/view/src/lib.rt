@@ -4,7 +4,7 @@ ghost use Rattle.answers.specs.Settled.{Settled};
 ghost use Rattle.sam.specs.Record.{refIdOf, posOf, nameLenOf, storedBinOf, opCountOf, flagsOf, seqLenOf, mateRefIdOf, matePosOf, templateLenOf};
 ghost use Rattle.fields.specs.Fields.{intField, natField, posField, partRefusal, cigarPart};
 ghost use Rattle.true_rules.specs.True.{truePart, truePartRefusal};
-ghost use Rattle.lengths.specs.Lengths.{checkedRefLength, recordQueryLength, recordLengths};
+ghost use Rattle.length_rules.specs.Lengths.{checkedRefLength, recordQueryLength, recordLengths};
 ghost use Rattle.ends_rules.specs.Ends.{unclippedOf, alignmentStart, alignmentEnd};
 ghost use Rattle.print_rules.specs.Text.{printed};
 ghost use Rattle.clip_rules.specs.Answer.{recordStart, recordEnd};
@@ -16,7 +16,7 @@ use answers::Place1;
 use clip_rules::Clipped;
 use ends_rules::Unclipped;
 use fields::Part;
-use lengths::Lengths;
+use length_rules::Lengths;
 
 pub struct RawRecordView<'a>(&'a [u8]);
 

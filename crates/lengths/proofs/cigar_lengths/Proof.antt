@@ -2,7 +2,7 @@
 use mathlib.Core.Path.{ap, _∙_}
 use borrow.Author.Needs.{needs}
 use borrow.Author.Tests.{lt-ltb, le-ltb}
-use Rattle.lengths.specs.Lengths.{listLengths, recordLengths}
+use Rattle.length_rules.specs.Lengths.{listLengths, recordLengths}
 use Rattle.lengths.proofs.cigar_lengths.Statement.{statement}
 use Rattle.lengths.proofs.cigar_lengths.Tie as tie
 

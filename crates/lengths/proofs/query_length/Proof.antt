@@ -4,7 +4,7 @@ use borrow.Author.Tests.{lt-ltb, le-ltb}
 use Rattle.answers.specs.declared.Count.the-variants.{Number}
 use Rattle.lists.specs.Lists.{sumOf}
 use Rattle.sam.specs.Op.{queryLen}
-use Rattle.lengths.specs.Lengths.{recordQueryLength}
+use Rattle.length_rules.specs.Lengths.{recordQueryLength}
 use borrow.Author.Needs.{needs}
 use Rattle.lengths.proofs.query_length.Statement.{statement}
 use Rattle.lengths.proofs.query_length.Tie as tie

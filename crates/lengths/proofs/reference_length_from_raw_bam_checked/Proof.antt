@@ -1,19 +1,17 @@
 -- The two tests are the definition's; past them the sum over the record's ops.
 use mathlib.Core.Path.{ap, _∙_}
 use borrow.Author.Needs.{needs}
-use borrow.Author.Tests.{lt-ltb, le-ltb, not-true, not-false}
-use lib.ListN.{length}
+use borrow.Author.Tests.{not-true, not-false}
 use Rattle.lists.specs.Lists.{sumOf}
 use Rattle.sam.specs.Op.{refLen}
-use Rattle.sam.specs.Record.{opsEnd}
 use Rattle.oplist.proofs.OpsLaws.{lies, overruns}
-use Rattle.lengths.specs.Lengths.{asInt, checkedRefLength}
+use Rattle.length_rules.specs.Lengths.{asInt}
+use Rattle.length_rules.proofs.LengthCases.{short, overrun, inside}
 use Rattle.lengths.proofs.reference_length_from_raw_bam_checked.Statement.{statement}
 use Rattle.lengths.proofs.reference_length_from_raw_bam_checked.Tie as tie
 
 returns : tie.Need-returns
-unfolding checkedRefLength
-returns c = simp (lt-ltb _ _ (c .if1 .taken))
+returns c = short _ (c .if1 .taken)
 
 of-record-requires : tie.Need-of-record-requires
 of-record-requires c κs = search needs
@@ -22,12 +20,11 @@ inside-requires : tie.Need-inside-requires
 inside-requires c κs = search needs
 
 returns-2 : tie.Need-returns-2
-unfolding checkedRefLength
 returns-2 c =
     let k = c .before in
     let b = k .before .before .before .before .args .bam .now in
     let h = overruns b (k .before .of-record .result) (k .before .of-record .ensures .1) _ (k .inside .ensures) (not-true _ (c .if2 .taken)) in
-    simp (le-ltb _ _ (k .before .before .if1 .left), lt-ltb (length b) (opsEnd b) h)
+    overrun b (k .before .before .if1 .left) h
 
 slice-aggregate-sums : tie.Need-slice-aggregate-sums
 slice-aggregate-sums c = search needs
@@ -39,14 +36,12 @@ as-int-requires : tie.Need-as-int-requires
 as-int-requires c κs = search needs
 
 returns-3 : tie.Need-returns-3
-unfolding checkedRefLength
 returns-3 c =
     let e = c .before .before .before in
     let k = e .before in
     let b = k .before .before .before .before .args .bam .now in
     let h = lies b (k .before .of-record .result) (k .before .of-record .ensures .1) _ (k .inside .ensures) (not-false _ (e .if2 .left)) in
-    simp (le-ltb _ _ (k .before .before .if1 .left), le-ltb (length b) (opsEnd b) h)
-    (c .as-int .ensures ∙ ap asInt (c .before .sums .ensures .0 .0 ∙ ap (sumOf refLen) (k .before .of-record .ensures .0 _)))
+    inside b (k .before .before .if1 .left) h _ (c .as-int .ensures ∙ ap asInt (c .before .sums .ensures .0 .0 ∙ ap (sumOf refLen) (k .before .of-record .ensures .0 _)))
 
 pub reference-length-from-raw-bam-checked-spec : {M : Type 1} → statement M
 reference-length-from-raw-bam-checked-spec =

@@ -7,7 +7,7 @@ use Rattle.answers.specs.declared.Int.the-variants.{Number}
 use Rattle.lists.specs.Lists.{sumOf}
 use Rattle.signed.specs.Whole.{clamp32}
 use Rattle.sam.specs.Op.{refLen}
-use Rattle.lengths.specs.Lengths.{saturatedLength}
+use Rattle.length_rules.specs.Lengths.{saturatedLength}
 use borrow.Author.Needs.{needs}
 use Rattle.lengths.proofs.saturating_reference_length.Statement.{statement}
 use Rattle.lengths.proofs.saturating_reference_length.Tie as tie

@@ -16,7 +16,7 @@ use Rattle.sam.specs.Op.{refLen, queryLen}
 use Rattle.sam.specs.Record.{opsEnd}
 use Rattle.oplist.specs.Ops.{recordOps}
 use Rattle.oplist.proofs.OpsLaws.{lies, overruns}
-use Rattle.lengths.specs.Lengths.{checkedRefLength}
+use Rattle.length_rules.specs.Lengths.{checkedRefLength}
 use Rattle.answers.specs.declared.Refusal.{Refusal}
 use Rattle.answers.specs.declared.Int.the-variants as Int
 use Rattle.ends_rules.specs.declared.Unclipped.the-variants as Unclipped

@@ -1,8 +1,8 @@
 -- The lengths of the list that the reader names, or its refusal.
 use mathlib.Core.Path.{sym, _∙_}
 use borrow.Author.Needs.{needs}
-use Rattle.lengths.specs.Lengths.{listLengths}
-use Rattle.lengths.specs.declared.Lengths.the-variants as Lengths
+use Rattle.length_rules.specs.Lengths.{listLengths}
+use Rattle.length_rules.specs.declared.Lengths.the-variants as Lengths
 use Rattle.tag_rules.proofs.HeldLaws.{reads-list, reads-none}
 use Rattle.true_cigar.proofs.true_cigar_lengths.Statement.{statement}
 use Rattle.true_cigar.proofs.true_cigar_lengths.Tie as tie

@@ -1,6 +1,6 @@
 -- `Borrower`'s law of `RawRecordView::cigar_lengths`.
-use Rattle.lengths.proofs.Lengths as R
-use Rattle.lengths.proofs.Lengths.Laws as R′
+use Rattle.length_rules.proofs.Lengths as R
+use Rattle.length_rules.proofs.Lengths.Laws as R′
 use Rattle.view.proofs.RawRecordView.cigar_lengths as method
 use Rattle.view.proofs.RawRecordView.cigar_lengths.Met as theorem
 use Rattle.view.proofs.RawRecordView.cigar_lengths.Symbol as symbol

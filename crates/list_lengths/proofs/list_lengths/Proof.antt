@@ -9,10 +9,10 @@ use mir.Val.{toZ, ofZ}
 use Rattle.lists.proofs.ListLaws.{length-facing}
 use Rattle.oplist.specs.Ops.{opsOf}
 use Rattle.clip_runs.proofs.EndLaws.{apart}
-use Rattle.lengths.proofs.LengthLaws.{no-ops, only-clips, none-are, six-are}
+use Rattle.list_lengths.proofs.LengthLaws.{no-ops, only-clips, none-are, six-are}
 use borrow.Author.Needs.{needs}
-use Rattle.lengths.proofs.list_lengths.Statement.{statement}
-use Rattle.lengths.proofs.list_lengths.Tie as tie
+use Rattle.list_lengths.proofs.list_lengths.Statement.{statement}
+use Rattle.list_lengths.proofs.list_lengths.Tie as tie
 
 slice-aggregate-count : tie.Need-slice-aggregate-count
 slice-aggregate-count c = search needs

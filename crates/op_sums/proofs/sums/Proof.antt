@@ -4,8 +4,8 @@ use Rattle.lists.proofs.Walks.{sum-done}
 use Rattle.sam.specs.Op.{refLen, queryLen}
 use Rattle.oplist.specs.Ops.{opsOf}
 use borrow.Author.Needs.{needs}
-use Rattle.lengths.proofs.sums.Statement.{statement}
-use Rattle.lengths.proofs.sums.Tie as tie
+use Rattle.op_sums.proofs.sums.Statement.{statement}
+use Rattle.op_sums.proofs.sums.Tie as tie
 
 count-requires : tie.Need-count-requires
 count-requires c κs = search needs

@@ -1,8 +1,8 @@
 -- What a function within the crate answers of a list that has no op but clips: no reference base, the soft ones as query, and all as the leading pair.
 use Prim.Native.Nat.{ℕ}
 use lib.IntN.{pos}
-use Rattle.lengths.specs.declared.Lengths.{Lengths}
-use Rattle.lengths.specs.declared.Lengths.the-variants as Lengths
+use Rattle.length_rules.specs.declared.Lengths.{Lengths}
+use Rattle.length_rules.specs.declared.Lengths.the-variants as Lengths
 
 abbrev pub ofClips : ℕ → ℕ → Lengths
 ofClips soft hard =

@@ -8,8 +8,8 @@ use lib.ListN.{drop}
 use Prim.Native.Nat.{ℕ, _+_, _-_, _*_, _≤_}
 use mathlib.Core.Path.{_≡_, ap}
 use native.Mathlib.Omega.{arith}
-use Rattle.lengths.proofs.sums_between.Statement.{statement}
-use Rattle.lengths.proofs.sums_between.Tie as tie
+use Rattle.op_sums.proofs.sums_between.Statement.{statement}
+use Rattle.op_sums.proofs.sums_between.Tie as tie
 
 abbrev Inv-loop : tie.InvT-loop
 Inv-loop words rec list from end refs₀ query₀ i₀ refs query i =

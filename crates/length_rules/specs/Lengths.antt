@@ -17,8 +17,8 @@ use Rattle.answers.specs.declared.Count.{Count}
 use Rattle.answers.specs.declared.Count.the-variants as Count
 use Rattle.oplist.specs.Ops.{mostOps, mostLongOps, recordOps}
 use Rattle.clip_runs.specs.Clips.{leadingSoft, leadingHard, trailingSoft, trailingHard}
-use Rattle.lengths.specs.declared.Lengths.{Lengths}
-use Rattle.lengths.specs.declared.Lengths.the-variants as Lengths
+use Rattle.length_rules.specs.declared.Lengths.{Lengths}
+use Rattle.length_rules.specs.declared.Lengths.the-variants as Lengths
 
 -- a sum as a signed number; from 2^31 on refusal 4
 unfoldable pub asInt : ℕ → Int

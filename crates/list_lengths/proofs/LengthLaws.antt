@@ -16,10 +16,10 @@ use Rattle.clip_runs.specs.Clips.{leadingSoft, leadingHard, hasInner, trailingS
 use Rattle.clip_runs.specs.Walked.{RunIs}
 use Rattle.clip_runs.proofs.RunLaws.{soft-found, hard-found}
 use Rattle.clip_runs.proofs.EndLaws.{none-soft, none-hard, some-soft, some-hard, run-refs, run-query, clips-refs, clips-query, clips-only, some-inner, parted}
-use Rattle.lengths.specs.declared.Lengths.{Lengths}
-use Rattle.lengths.specs.declared.Lengths.the-variants as Lengths
-use Rattle.lengths.specs.InnerLengths.{ofClips}
-use Rattle.lengths.specs.Lengths.{asInt, listLengths}
+use Rattle.length_rules.specs.declared.Lengths.{Lengths}
+use Rattle.length_rules.specs.declared.Lengths.the-variants as Lengths
+use Rattle.list_lengths.specs.InnerLengths.{ofClips}
+use Rattle.length_rules.specs.Lengths.{asInt, listLengths}
 
 -- the answer of six numbers
 abbrev six : ℤ → ℕ → ℕ → ℕ → ℕ → ℕ → Lengths

@@ -6,8 +6,8 @@ use mir.Syntax.{w32}
 use mir.Facts.{toZ-pos}
 use Rattle.signed.proofs.Ranges.{clamp-in, clamp-above}
 use borrow.Author.Needs.{needs}
-use Rattle.lengths.proofs.saturated.Statement.{statement}
-use Rattle.lengths.proofs.saturated.Tie as tie
+use Rattle.op_sums.proofs.saturated.Statement.{statement}
+use Rattle.op_sums.proofs.saturated.Tie as tie
 
 returns : tie.Need-returns
 returns c = sym (clamp-above (pos (c .before .args .n)) (omega arith))
