@@ -7,8 +7,8 @@ use borrow.Author.Tests.{eq-eqb, ne-eqb}
 use Rattle.sam.specs.Tags.{tagAt, isCg}
 use Rattle.sam.proofs.TagLaws.{byte, whole}
 use borrow.Author.Needs.{needs}
-use Rattle.tags.proofs.is_cg.Statement.{statement}
-use Rattle.tags.proofs.is_cg.Tie as tie
+use Rattle.tag_walk.proofs.is_cg.Statement.{statement}
+use Rattle.tag_walk.proofs.is_cg.Tie as tie
 
 shared-slice-read-if1 : tie.Need-shared-slice-read-if1
 shared-slice-read-if1 c = search needs

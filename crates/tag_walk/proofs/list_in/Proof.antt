@@ -8,8 +8,8 @@ use Rattle.sam.proofs.TagLaws.{byte, number, whole, array-fits}
 use Rattle.tag_rules.proofs.WalkLaws.{kind-other, numbers-other, list-long, list-is}
 use Rattle.tag_rules.proofs.ListLaws.{same-list}
 use borrow.Author.Needs.{needs}
-use Rattle.tags.proofs.list_in.Statement.{statement}
-use Rattle.tags.proofs.list_in.Tie as tie
+use Rattle.tag_walk.proofs.list_in.Statement.{statement}
+use Rattle.tag_walk.proofs.list_in.Tie as tie
 
 add-if1 : tie.Need-add-if1
 add-if1 c = search needs

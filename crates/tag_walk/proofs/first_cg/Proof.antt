@@ -6,8 +6,8 @@ use lib.ListN.{length, drop}
 use Rattle.sam.specs.Tags.{tagsOf}
 use Rattle.tag_rules.specs.Long.{firstCg}
 use Rattle.tag_rules.proofs.WalkLaws.{walk-ends, walk-breaks, walk-found, walk-on}
-use Rattle.tags.proofs.first_cg.Statement.{statement}
-use Rattle.tags.proofs.first_cg.Tie as tie
+use Rattle.tag_walk.proofs.first_cg.Statement.{statement}
+use Rattle.tag_walk.proofs.first_cg.Tie as tie
 
 abbrev Inv-loop : tie.InvT-loop
 Inv-loop b from without at₀ at = (at ≤ length b) × (firstCg without at (tagsOf (drop at b)) ≡ firstCg without from (tagsOf (drop from b)))
