@@ -1,6 +1,4 @@
 // Document 01, module 9: clipping an op list at one end, lent as numbers or in a record. `clip_plan` says what a clip does, and nothing is written before its plan is made.
-mod write;
-
 ghost use mathlib.Core.Path.{_≡_};
 ghost use mathlib.Core.Bool.{true, false};
 ghost use Prim.Native.Nat.{_≤_};
@@ -10,7 +8,6 @@ ghost use Rattle.clip_rules.specs.Answer.{clippedUpTo, uncounted, withoutCount,
 use answers::Count;
 use answers::Refusal;
 use clip_rules::Clipped;
-use clip_rules::Planned;
 use oplist::Ops;
 
 // Clips `amount` bases at the start of a lent list: the ops written, and the reference length taken. Refusals 3, 8, 19, 6.
@@ -100,7 +97,7 @@ pub fn clip_start(
 ) -> Clipped
     ensures { λ r. ⌜ Settled (clippedUpTo limit (opsOf (now (words .entry)) (now (rec .entry)) list) amount true (now (out .entry))) r (now (out .exit)) ⌝ }
 {
-    clip_ops(words, rec, list, limit, amount, true, out)
+    clip_write::clip_ops(words, rec, list, limit, amount, true, out)
 }
 
 // The same at the end, without a count.
@@ -114,7 +111,7 @@ pub fn clip_end(
 ) -> Count
     ensures { λ r. ⌜ Settled (withoutCount (clippedUpTo limit (opsOf (now (words .entry)) (now (rec .entry)) list) amount false (now (out .entry)))) r (now (out .exit)) ⌝ }
 {
-    without_count(clip_ops(words, rec, list, limit, amount, false, out))
+    without_count(clip_write::clip_ops(words, rec, list, limit, amount, false, out))
 }
 
 // An answer without its count.
@@ -124,34 +121,5 @@ pub fn without_count(answer: Clipped) -> Count
     match answer {
         Clipped::Done(n, _) => Count::Number(n),
         Clipped::Refused(why) => Count::Refused(why),
-    }
-}
-
-// Both ends, in one function that all else is inlined into: between two of them, lists and plan would go through memory, which takes as long as a short list.
-fn clip_ops(
-    words: &[u32],
-    rec: &[u8],
-    list: Ops,
-    limit: usize,
-    amount: u64,
-    start: bool,
-    out: &mut [u32],
-) -> Clipped
-    ensures { λ r. ⌜ Settled (clippedUpTo limit (opsOf (now (words .entry)) (now (rec .entry)) list) amount start (now (out .entry))) r (now (out .exit)) ⌝ }
-{
-    match clip_plan::plan_clip(words, rec, list, limit, amount, start) {
-        Planned::Made(p) => {
-            let n = p.heads + (oplist::count(words, rec, list) - p.skip);
-            if out.len() < n {
-                return Clipped::Refused(Refusal::NoRoom);
-            }
-            if start {
-                write::write_start(words, rec, list, p, out);
-                return Clipped::Done(n as u64, p.lost);
-            }
-            write::write_end(words, rec, list, p, out);
-            Clipped::Done(n as u64, p.lost)
-        }
-        Planned::Refused(why) => Clipped::Refused(why),
     }
 }

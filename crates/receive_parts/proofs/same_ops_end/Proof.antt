@@ -5,7 +5,7 @@ use mathlib.Core.Bool.{Bool, _&&_}
 use mathlib.Core.List.{[], _∷_}
 use native.Mathlib.Omega.{arith}
 use lib.ListN.{take, drop}
-use Rattle.clip.proofs.WriteLaws.{few-reverse, two-reverse}
+use Rattle.clip_write.proofs.WriteLaws.{few-reverse, two-reverse}
 use Rattle.receive_rules.specs.Receiving.{same}
 use Rattle.receive_rules.proofs.OpLaws.{ops-end}
 use borrow.Author.Needs.{needs}

@@ -2,7 +2,7 @@
 use mathlib.Core.List.{[], _∷_}
 use native.Mathlib.Omega.{arith}
 use lib.ListN.{take}
-use Rattle.clip.proofs.WriteLaws.{few-reverse, two-reverse}
+use Rattle.clip_write.proofs.WriteLaws.{few-reverse, two-reverse}
 use Rattle.record_ops.proofs.OpLaws.{ops-end}
 use borrow.Author.Needs.{needs}
 use Rattle.record_ops.proofs.put_ops_end.Statement.{statement}

@@ -6,9 +6,9 @@ use native.Mathlib.Omega.{arith}
 use lib.ListN.{take}
 use borrow.Author.Needs.{needs}
 use Rattle.oplist.specs.Ops.{opsOf}
-use Rattle.clip.proofs.WriteLaws.{back-is, few-reverse, two-reverse}
-use Rattle.clip.proofs.write.write_end.Statement.{statement}
-use Rattle.clip.proofs.write.write_end.Tie as tie
+use Rattle.clip_write.proofs.WriteLaws.{back-is, few-reverse, two-reverse}
+use Rattle.clip_write.proofs.write_end.Statement.{statement}
+use Rattle.clip_write.proofs.write_end.Tie as tie
 
 count-requires : tie.Need-count-requires
 count-requires c κs = search needs

@@ -4,8 +4,8 @@ use native.Mathlib.Omega.{arith}
 use lib.ListN.{length-set}
 use borrow.Author.Needs.{needs}
 use Rattle.lists.proofs.ListLaws.{splice-nil, splice-one, splice-two}
-use Rattle.clip.proofs.write.put.Statement.{statement}
-use Rattle.clip.proofs.write.put.Tie as tie
+use Rattle.clip_write.proofs.put.Statement.{statement}
+use Rattle.clip_write.proofs.put.Tie as tie
 
 returns : tie.Need-returns
 returns c = rw (c .if1 .taken) (sym (splice-nil _ _))

@@ -4,9 +4,9 @@ use mathlib.Core.Path.{ap}
 use native.Mathlib.Omega.{arith}
 use borrow.Author.Needs.{needs}
 use Rattle.oplist.specs.Ops.{opsOf}
-use Rattle.clip.proofs.WriteLaws.{front-is}
-use Rattle.clip.proofs.write.write_start.Statement.{statement}
-use Rattle.clip.proofs.write.write_start.Tie as tie
+use Rattle.clip_write.proofs.WriteLaws.{front-is}
+use Rattle.clip_write.proofs.write_start.Statement.{statement}
+use Rattle.clip_write.proofs.write_start.Tie as tie
 
 count-requires : tie.Need-count-requires
 count-requires c κs = search needs

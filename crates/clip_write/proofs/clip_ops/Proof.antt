@@ -11,8 +11,8 @@ use Rattle.clip_rules.specs.declared.Planned.the-variants as Planned
 use Rattle.clip_rules.specs.InnerPlan.{PlannedIs}
 use Rattle.clip_rules.proofs.AnswerLaws.{within, no-room, plan-length, plan-skip, done-start, done-end, unplanned}
 use borrow.Author.Needs.{needs}
-use Rattle.clip.proofs.clip_ops.Statement.{statement}
-use Rattle.clip.proofs.clip_ops.Tie as tie
+use Rattle.clip_write.proofs.clip_ops.Statement.{statement}
+use Rattle.clip_write.proofs.clip_ops.Tie as tie
 
 abbrev Xs : tie.Start → List ℕ
 Xs s = opsOf (s .args .words .now) (s .args .rec .now) (s .args .list)
