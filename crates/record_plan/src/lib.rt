@@ -1,23 +1,21 @@
 // Document 02, item 8, planning: what becomes of a record that is clipped. Nothing is written; whoever writes or compares a clipped record goes by the plan.
 ghost use mathlib.Core.Path.{_≡_};
 ghost use mathlib.Core.Bool.{cond};
-ghost use mathlib.Core.List.{[], _∷_};
-ghost use Prim.Native.Nat.{_+_, _-_, _≤_, _<_};
+ghost use Prim.Native.Nat.{_+_, _≤_, _<_};
 ghost use lib.IntN.{pos, _+ℤ_};
-ghost use lib.ListN.{length, take};
-ghost use Rattle.lists.specs.Lists.{facing, sumOf};
+ghost use lib.ListN.{length};
+ghost use Rattle.lists.specs.Lists.{sumOf};
 ghost use Rattle.signed.specs.Whole.{checked};
-ghost use Rattle.sam.specs.Op.{refLen, queryLen};
-ghost use Rattle.sam.specs.Record.{seqLenOf, posOf, opCountOf, tagsStart};
-ghost use Rattle.oplist.specs.Ops.{opsOf, recordOps};
-ghost use Rattle.record_rules.specs.Clipping.{differs, newLen, firstKept, binAt, binned, placed, counted, clippedFate};
+ghost use Rattle.sam.specs.Op.{refLen};
+ghost use Rattle.sam.specs.Record.{posOf, opCountOf, tagsStart};
+ghost use Rattle.oplist.specs.Ops.{recordOps};
+ghost use Rattle.record_rules.specs.Clipping.{differs, binAt, binned, placed, counted, clippedFate};
 ghost use Rattle.record_rules.specs.InnerPlan.{FateIs, plannedOps};
 use answers::Nat;
 use answers::Pos0;
 use answers::Refusal;
 use clip_rules::Plan;
 use clip_rules::Planned;
-use oplist::Ops;
 use record_rules::PlannedRecord;
 use record_rules::RecordPlan;
 use signed::Sum;
@@ -56,84 +54,6 @@ fn query_differs(len: u64, query: u64) -> bool
     true
 }
 
-// How many ops a plan leaves of a record's.
-fn count_of(bam: &[u8], p: Plan) -> u32
-    requires { ⌜ 32 ≤ length (now bam) ⌝ }
-    requires { ⌜ p .heads ≤ 2 ⌝ }
-    requires { ⌜ p .skip ≤ opCountOf (now bam) ⌝ }
-    ensures { λ r. ⌜ r ≡ p .heads + (opCountOf (now (bam .entry)) - p .skip) ⌝ }
-{
-    (p.heads + (little_endian::u16_at(bam, 12) as usize - p.skip)) as u32
-}
-
-// The query bases of the first n ops, as seen from the chosen end.
-fn first_query(words: &[u32], rec: &[u8], list: Ops, start: bool, n: usize) -> u64
-    requires { ⌜ n ≤ length (opsOf (now words) (now rec) list) ⌝ }
-    ensures { λ r. ⌜ (r ≡ sumOf queryLen (take n (facing start (opsOf (now (words .entry)) (now (rec .entry)) list)))) × (r ≤ 1152921504606846976) ⌝ }
-{
-    let count = oplist::count(words, rec, list);
-    let mut query: u64 = 0;
-    let mut i: usize = 0;
-    while i < n {
-        query += ops::query_len(oplist::op_from(words, rec, list, count, start, i));
-        i += 1;
-    }
-    query
-}
-
-// The query bases of the first `heads` of two ops.
-fn heads_query(heads: usize, a: u32, b: u32) -> u64
-    requires { ⌜ heads ≤ 2 ⌝ }
-    ensures { λ r. ⌜ (r ≡ sumOf queryLen (take heads (a ∷ (b ∷ [])))) × (r < 536870912) ⌝ }
-{
-    if heads == 0 {
-        return 0;
-    }
-    if heads == 1 {
-        return ops::query_len(a);
-    }
-    ops::query_len(a) + ops::query_len(b)
-}
-
-// a - b, or 0 where that is below 0.
-fn saturating_sub(a: u64, b: u64) -> u64
-    ensures { λ r. ⌜ (r ≡ a - b) × (r ≤ a) ⌝ }
-{
-    if b < a { a - b } else { 0 }
-}
-
-// The l_seq that a plan leaves. Only the ops that it takes are walked.
-fn new_len(bam: &[u8], p: Plan, start: bool) -> u32
-    requires { ⌜ tagsStart (now bam) ≤ length (now bam) ⌝ }
-    requires { ⌜ p .heads ≤ 2 ⌝ }
-    requires { ⌜ p .skip ≤ opCountOf (now bam) ⌝ }
-    ensures { λ r. ⌜ (r ≡ newLen (now (bam .entry)) (plannedOps start (recordOps (now (bam .entry))) p)) × (r ≤ seqLenOf (now (bam .entry))) ⌝ }
-{
-    let gone = first_query(&[], bam, oplist::of_record(bam), start, p.skip);
-    let put = heads_query(p.heads, p.first, p.second);
-    let len = little_endian::u32_at(bam, 16) as u64;
-    saturating_sub(len, saturating_sub(gone, put)) as u32
-}
-
-// The first base that stays: the lost ones are at the chosen end.
-fn first_kept(bam: &[u8], start: bool, len: u32) -> u32
-    requires { ⌜ 32 ≤ length (now bam) ⌝ }
-    requires { ⌜ len ≤ seqLenOf (now bam) ⌝ }
-    ensures { λ r. ⌜ (r ≡ firstKept (now (bam .entry)) start len) × (r + len ≤ seqLenOf (now (bam .entry))) ⌝ }
-{
-    if start {
-        return little_endian::u32_at(bam, 16) - len;
-    }
-    0
-}
-
-// The count: the reference length taken at the start.
-fn start_count(start: bool, lost: u64) -> u64
-    ensures { λ r. ⌜ (r ≡ cond start lost 0) × (r ≤ lost) ⌝ }
-{
-    if start { lost } else { 0 }
-}
-
 // The bin of a record at z with so many reference bases. Refusal 4.
 fn bin_at(z: i32, refs: u64) -> Nat
     requires { ⌜ refs < 268435456 ⌝ }
@@ -155,9 +75,9 @@ fn binned(bam: &[u8], p: Plan, start: bool, refs: u64, count: u64, z: i32) -> Pl
 {
     match bin_at(z, refs) {
         Nat::Number(bin) => {
-            let n = count_of(bam, p);
-            let len = new_len(bam, p, start);
-            let from = first_kept(bam, start, len);
+            let n = record_left::count_of(bam, p);
+            let len = record_left::new_len(bam, p, start);
+            let from = record_left::first_kept(bam, start, len);
             PlannedRecord::Made(RecordPlan {
                 ops: p,
                 n: n,
@@ -201,7 +121,7 @@ fn counted(bam: &[u8], p: Plan, start: bool) -> PlannedRecord
     if query_differs(len, total.query) {
         return PlannedRecord::Refused(Refusal::QueryDiffers);
     }
-    if MOST_RECORD_OPS < count_of(bam, p) {
+    if MOST_RECORD_OPS < record_left::count_of(bam, p) {
         return PlannedRecord::Refused(Refusal::CountOver);
     }
     placed(
@@ -209,6 +129,6 @@ fn counted(bam: &[u8], p: Plan, start: bool) -> PlannedRecord
         p,
         start,
         total.refs - p.lost,
-        start_count(start, p.lost),
+        record_left::start_count(start, p.lost),
     )
 }

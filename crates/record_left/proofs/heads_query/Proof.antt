@@ -7,8 +7,8 @@ use lib.ListN.{take}
 use Rattle.lists.specs.Lists.{sumOf}
 use Rattle.sam.specs.Op.{queryLen}
 use borrow.Author.Needs.{needs}
-use Rattle.record_plan.proofs.heads_query.Statement.{statement}
-use Rattle.record_plan.proofs.heads_query.Tie as tie
+use Rattle.record_left.proofs.heads_query.Statement.{statement}
+use Rattle.record_left.proofs.heads_query.Tie as tie
 
 returns : tie.Need-returns
 unfolding sumOf

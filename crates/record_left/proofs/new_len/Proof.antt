@@ -9,8 +9,8 @@ use Rattle.sam.specs.Op.{queryLen}
 use Rattle.oplist.specs.Ops.{recordOps}
 use Rattle.record_rules.proofs.PlanLaws.{lost-is, ops-count}
 use borrow.Author.Needs.{needs}
-use Rattle.record_plan.proofs.new_len.Statement.{statement}
-use Rattle.record_plan.proofs.new_len.Tie as tie
+use Rattle.record_left.proofs.new_len.Statement.{statement}
+use Rattle.record_left.proofs.new_len.Tie as tie
 
 slice-aggregate-first-query : tie.Need-slice-aggregate-first-query
 slice-aggregate-first-query c = search needs

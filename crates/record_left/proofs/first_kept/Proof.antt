@@ -2,8 +2,8 @@
 use native.Mathlib.Omega.{arith}
 use Rattle.record_rules.proofs.PlanLaws.{kept-start}
 use borrow.Author.Needs.{needs}
-use Rattle.record_plan.proofs.first_kept.Statement.{statement}
-use Rattle.record_plan.proofs.first_kept.Tie as tie
+use Rattle.record_left.proofs.first_kept.Statement.{statement}
+use Rattle.record_left.proofs.first_kept.Tie as tie
 
 u32-at-requires : tie.Need-u32-at-requires
 u32-at-requires c κs = search needs

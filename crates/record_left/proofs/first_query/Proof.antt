@@ -10,8 +10,8 @@ use Rattle.lists.proofs.Walks.{sum-step}
 use Rattle.oplist.specs.Ops.{opsOf}
 use Rattle.sam.specs.Op.{queryLen}
 use borrow.Author.Needs.{needs}
-use Rattle.record_plan.proofs.first_query.Statement.{statement}
-use Rattle.record_plan.proofs.first_query.Tie as tie
+use Rattle.record_left.proofs.first_query.Statement.{statement}
+use Rattle.record_left.proofs.first_query.Tie as tie
 
 abbrev Inv-loop : tie.InvT-loop
 Inv-loop words rec list start n count query₀ i₀ query i =
