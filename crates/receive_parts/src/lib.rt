@@ -64,7 +64,7 @@ fn same_shifted(got: &[u8], at: usize, rec: &[u8], area: usize, from: usize, k: 
     let mut ok = true;
     let mut j: usize = 0;
     while j < k {
-        ok = still(ok, got[at + j], record_parts::straddled(rec, first + j));
+        ok = still(ok, got[at + j], record_bases::straddled(rec, first + j));
         j += 1;
     }
     ok
@@ -95,7 +95,7 @@ pub fn same_bases(got: &[u8], at: usize, rec: &[u8], area: usize, from: usize, n
     still(
         pairs,
         got[at + n / 2],
-        record_parts::alone(rec, area, from + n - 1),
+        record_bases::alone(rec, area, from + n - 1),
     )
 }
 

@@ -36,7 +36,7 @@ pub fn put_tail(rec: &[u8], from: usize, n: usize, out: &mut [u8], at: usize)
     let quals = record_parts::quals_start(rec);
     let tags = record_parts::tags_start(rec);
     let second = at + (n + 1) / 2;
-    record_parts::put_bases(rec, bases, from, n, out, at);
+    record_bases::put_bases(rec, bases, from, n, out, at);
     record_parts::copy_bytes(rec, quals + from, n, out, second);
     record_parts::copy_bytes(rec, tags, rec.len() - tags, out, second + n);
 }

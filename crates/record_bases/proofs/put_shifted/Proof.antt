@@ -10,8 +10,8 @@ use Rattle.lists.proofs.ListLaws.{splice-nil}
 use Rattle.sam.specs.Bases.{basesOf, packed}
 use Rattle.lists.proofs.Splices.{put-turn}
 use Rattle.sam.proofs.BaseLaws.{length-behind, packed-size, shifted-byte}
-use Rattle.record_parts.proofs.put_shifted.Statement.{statement}
-use Rattle.record_parts.proofs.put_shifted.Tie as tie
+use Rattle.record_bases.proofs.put_shifted.Statement.{statement}
+use Rattle.record_bases.proofs.put_shifted.Tie as tie
 
 abbrev Inv-loop : tie.InvT-loop
 Inv-loop rec area from k out₀ at first j₀ out j =

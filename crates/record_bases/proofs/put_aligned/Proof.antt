@@ -4,8 +4,8 @@ use native.Mathlib.Omega.{arith}
 use Rattle.lists.specs.Lists.{splice}
 use Rattle.sam.proofs.BaseLaws.{aligned}
 use borrow.Author.Needs.{needs}
-use Rattle.record_parts.proofs.put_aligned.Statement.{statement}
-use Rattle.record_parts.proofs.put_aligned.Tie as tie
+use Rattle.record_bases.proofs.put_aligned.Statement.{statement}
+use Rattle.record_bases.proofs.put_aligned.Tie as tie
 
 -- src/lib.rt:76:21
 add-copy-bytes : tie.Need-add-copy-bytes

@@ -6,10 +6,10 @@ use lib.ListN.{take, drop}
 use Rattle.lists.specs.Lists.{splice}
 use Rattle.sam.specs.Bases.{basesOf, packed}
 use Rattle.sam.proofs.BaseLaws.{length-behind}
-use Rattle.record_parts.proofs.PutLaws.{put-last}
+use Rattle.record_bases.proofs.PackLaws.{put-last}
 use borrow.Author.Needs.{needs}
-use Rattle.record_parts.proofs.put_bases.Statement.{statement}
-use Rattle.record_parts.proofs.put_bases.Tie as tie
+use Rattle.record_bases.proofs.put_bases.Statement.{statement}
+use Rattle.record_bases.proofs.put_bases.Tie as tie
 
 -- src/lib.rt:114:5
 put-pairs-requires : tie.Need-put-pairs-requires

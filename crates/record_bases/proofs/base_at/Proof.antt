@@ -4,8 +4,8 @@ use mathlib.Core.Path.{_∙_}
 use native.Mathlib.Omega.{arith}
 use Rattle.sam.proofs.BaseLaws.{first-at, second-at}
 use borrow.Author.Needs.{needs}
-use Rattle.record_parts.proofs.base_at.Statement.{statement}
-use Rattle.record_parts.proofs.base_at.Tie as tie
+use Rattle.record_bases.proofs.base_at.Statement.{statement}
+use Rattle.record_bases.proofs.base_at.Tie as tie
 
 -- src/lib.rt:49:25
 add-high : tie.Need-add-high
