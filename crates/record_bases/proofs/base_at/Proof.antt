@@ -7,37 +7,29 @@ use borrow.Author.Needs.{needs}
 use Rattle.record_bases.proofs.base_at.Statement.{statement}
 use Rattle.record_bases.proofs.base_at.Tie as tie
 
--- src/lib.rt:49:25
 add-high : tie.Need-add-high
 add-high c = search needs
 
--- src/lib.rt:49:21
 shared-slice-read-high : tie.Need-shared-slice-read-high
 shared-slice-read-high c = search needs
 
--- src/lib.rt:49:9
 high-requires : tie.Need-high-requires
 high-requires c κs = search needs
 
--- src/lib.rt:49:9
 returns : tie.Need-returns
 returns c =
     let a = c .before .before .before .before .args in
     (c .high .ensures .0 ∙ first-at (a .rec .now) (a .area) (a .i) (a .i / 2) (omega arith), c .high .ensures .1)
 
--- src/lib.rt:51:13
 add-low : tie.Need-add-low
 add-low c = search needs
 
--- src/lib.rt:51:9
 shared-slice-read-low : tie.Need-shared-slice-read-low
 shared-slice-read-low c = search needs
 
--- src/lib.rt:51:5
 low-requires : tie.Need-low-requires
 low-requires c κs = search needs
 
--- src/lib.rt:44:1
 returns-2 : tie.Need-returns-2
 returns-2 c =
     let a = c .before .before .before .before .args in

@@ -7,19 +7,15 @@ use borrow.Author.Needs.{needs}
 use Rattle.record_bases.proofs.put_aligned.Statement.{statement}
 use Rattle.record_bases.proofs.put_aligned.Tie as tie
 
--- src/lib.rt:76:21
 add-copy-bytes : tie.Need-add-copy-bytes
 add-copy-bytes c = search needs
 
--- src/lib.rt:76:5
 copy-bytes-requires : tie.Need-copy-bytes-requires
 copy-bytes-requires c κs = search needs
 
--- src/lib.rt:70:1
 same-length : tie.Need-same-length
 same-length c = search needs
 
--- src/lib.rt:70:1
 returns : tie.Need-returns
 returns c =
     let k = c .before .before in

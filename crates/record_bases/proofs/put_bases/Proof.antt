@@ -11,15 +11,12 @@ use borrow.Author.Needs.{needs}
 use Rattle.record_bases.proofs.put_bases.Statement.{statement}
 use Rattle.record_bases.proofs.put_bases.Tie as tie
 
--- src/lib.rt:114:5
 put-pairs-requires : tie.Need-put-pairs-requires
 put-pairs-requires c κs = search needs
 
--- src/lib.rt:116:9
 same-length : tie.Need-same-length
 same-length c = search needs
 
--- src/lib.rt:116:9
 returns : tie.Need-returns
 returns c =
     let k = c .before .before .before in
@@ -28,31 +25,24 @@ returns c =
     let e : 2 * (a .n / 2) ≡ a .n = omega arith in
     k .put-pairs .ensures ∙ ap (λ (n : ℕ). splice (a .out .now) (a .at) (packed (take n (drop (a .from) bs)))) e
 
--- src/lib.rt:118:40
 add-alone : tie.Need-add-alone
 add-alone c = search needs
 
--- src/lib.rt:118:40
 sub-alone : tie.Need-sub-alone
 sub-alone c = search needs
 
--- src/lib.rt:118:23
 alone-requires : tie.Need-alone-requires
 alone-requires c κs = search needs
 
--- src/lib.rt:118:9
 add-out : tie.Need-add-out
 add-out c = search needs
 
--- src/lib.rt:118:5
 slice-write-out : tie.Need-slice-write-out
 slice-write-out c = search needs
 
--- src/lib.rt:109:1
 same-length-2 : tie.Need-same-length-2
 same-length-2 c = search needs
 
--- src/lib.rt:109:1
 returns-2 : tie.Need-returns-2
 returns-2 c =
     let k = c .before .before .before .before in

@@ -20,39 +20,30 @@ Inv-loop rec area from k out₀ at first j₀ out j =
 abbrev μ-loop : tie.MeasureT-loop
 μ-loop rec area from k out₀ at first j₀ out j = k - j
 
--- src/lib.rt:77:17
 add-first : tie.Need-add-first Inv-loop μ-loop
 add-first c = omega arith
 
--- src/lib.rt:79:5
 loop-holds : tie.Need-loop-holds Inv-loop μ-loop
 loop-holds c = (omega arith, sym (splice-nil _ _), refl)
 
--- src/lib.rt:80:38
 add-straddled : tie.Need-add-straddled Inv-loop μ-loop
 add-straddled c = omega arith
 
--- src/lib.rt:80:23
 straddled-requires : tie.Need-straddled-requires Inv-loop μ-loop
 straddled-requires c κs = omega arith
 
--- src/lib.rt:80:13
 add-out : tie.Need-add-out Inv-loop μ-loop
 add-out c = omega arith
 
--- src/lib.rt:80:9
 slice-write-out : tie.Need-slice-write-out Inv-loop μ-loop
 slice-write-out c = omega arith
 
--- src/lib.rt:81:9
 add-j : tie.Need-add-j Inv-loop μ-loop
 add-j c = omega arith
 
--- src/lib.rt:79:5
 loop-less : tie.Need-loop-less Inv-loop μ-loop
 loop-less c = omega arith
 
--- src/lib.rt:79:5
 loop-again : tie.Need-loop-again Inv-loop μ-loop
 loop-again c =
     let k = c .before .before in
@@ -69,11 +60,9 @@ loop-again c =
       simp length-set (k .loop .inv .2),
     )
 
--- src/lib.rt:71:1
 same-length : tie.Need-same-length Inv-loop μ-loop
 same-length c = omega arith
 
--- src/lib.rt:71:1
 returns : tie.Need-returns Inv-loop μ-loop
 returns c =
     let k = c .before in

@@ -6,31 +6,24 @@ use borrow.Author.Needs.{needs}
 use Rattle.record_parts.proofs.put_u16.Statement.{statement}
 use Rattle.record_parts.proofs.put_u16.Tie as tie
 
--- src/lib.rt:127:15
 cast-out : tie.Need-cast-out
 cast-out c = search needs
 
--- src/lib.rt:127:5
 slice-write-out : tie.Need-slice-write-out
 slice-write-out c = search needs
 
--- src/lib.rt:128:19
 cast-out-2 : tie.Need-cast-out-2
 cast-out-2 c = search needs
 
--- src/lib.rt:128:9
 add-out : tie.Need-add-out
 add-out c = search needs
 
--- src/lib.rt:128:5
 slice-write-out-2 : tie.Need-slice-write-out-2
 slice-write-out-2 c = simp length-set (omega arith)
 
--- src/lib.rt:123:1
 same-length : tie.Need-same-length
 same-length c = search needs
 
--- src/lib.rt:123:1
 returns : tie.Need-returns
 returns c = splice-two (c .args .out .now) (c .args .at) _ _ (c .pre)
 
