@@ -1,10 +1,9 @@
 // Document 01, section Program: the line that stands for a record, written into lent memory. An inner crate of the program.
 ghost use mathlib.Core.Path.{_≡_};
-ghost use mathlib.Core.List.{[], _∷_};
 ghost use Prim.Native.Nat.{_+_, _≤_};
 ghost use lib.ListN.{length};
 ghost use Rattle.answers.specs.Answers.{numberOf};
-ghost use Rattle.line_rules.specs.Line.{orDot, tabbed, refusedFields, lineOf, lengthMark};
+ghost use Rattle.line_rules.specs.Line.{tabbed, refusedFields, lineOf};
 ghost use Rattle.line_rules.specs.Inner.{TextPut, rowFields, figuresOf};
 ghost use Rattle.put_text.specs.Puts.{Put};
 use answers::Count;
@@ -17,19 +16,6 @@ use line_rules::Text;
 
 // The most bytes of a record's text.
 pub const TEXT_ROOM: usize = 65536;
-
-// Whether the query length is that of the stored sequence, or `-` where none is stored.
-fn length_mark(query: u64, seq: u32) -> u8
-    ensures { λ r. ⌜ r ≡ lengthMark query seq ⌝ }
-{
-    if seq == 0 {
-        return b'-';
-    }
-    if query == seq as u64 {
-        return b'1';
-    }
-    b'0'
-}
 
 // The figures of a record that has 32 bytes. Refusals 2 and 4.
 fn row_of(rec: &[u8]) -> Figures
@@ -45,7 +31,7 @@ fn row_of(rec: &[u8]) -> Figures
         return Figures::Refused(Refusal::Overflow);
     }
     let query = total.query;
-    let mark = length_mark(query, little_endian::u32_at(rec, 16));
+    let mark = report_fields::length_mark(query, little_endian::u32_at(rec, 16));
     let five = unclipped::unclipped_5prime_from_raw_bam(rec);
     if let Unclipped::Refused(why) = five {
         return Figures::Refused(why);
@@ -80,29 +66,6 @@ fn put_text(rec: &[u8], out: &mut [u8], at: usize) -> Text
     }
 }
 
-// A tab, and the position, or `.` where there is none.
-fn put_five(five: Unclipped, out: &mut [u8], at: usize) -> usize
-    requires { ⌜ at + 22 ≤ length (now out) ⌝ }
-    ensures { λ r. ⌜ Put (now (out .entry)) at (9 ∷ orDot five) r (now (out .exit)) ⌝ }
-    ensures { λ r. ⌜ r ≤ at + 22 ⌝ }
-{
-    if let Unclipped::At(p) = five {
-        return put_text::put_signed(p.0, out, at);
-    }
-    put_text::put_bytes(b"\t.", out, at)
-}
-
-// The last field, of one byte, and the end of the line.
-fn put_last(mark: u8, out: &mut [u8], at: usize) -> usize
-    requires { ⌜ at + 3 ≤ length (now out) ⌝ }
-    ensures { λ r. ⌜ Put (now (out .entry)) at (tabbed ((mark ∷ []) ∷ [])) r (now (out .exit)) ⌝ }
-    ensures { λ r. ⌜ r ≤ at + 3 ⌝ }
-{
-    let from = put_text::put_byte(b'\t', out, at);
-    let end = put_text::put_byte(mark, out, from);
-    put_text::put_byte(b'\n', out, end)
-}
-
 fn put_row(row: LineRow, out: &mut [u8], at: usize) -> usize
     requires { ⌜ at + 108 ≤ length (now out) ⌝ }
     ensures { λ r. ⌜ Put (now (out .entry)) at (tabbed (rowFields row)) r (now (out .exit)) ⌝ }
@@ -111,9 +74,9 @@ fn put_row(row: LineRow, out: &mut [u8], at: usize) -> usize
     let place = row.five;
     let query = put_text::put_signed(row.refs, out, at);
     let five = put_text::put_field(row.query, out, query);
-    let bin = put_five(place, out, five);
+    let bin = report_fields::put_five(place, out, five);
     let mark = put_text::put_field(row.bin as u64, out, bin);
-    put_last(row.mark, out, mark)
+    report_fields::put_last(row.mark, out, mark)
 }
 
 fn put_refusal(why: Refusal, out: &mut [u8], at: usize) -> usize

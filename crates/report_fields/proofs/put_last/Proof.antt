@@ -4,8 +4,8 @@ use native.Mathlib.Omega.{arith}
 use Rattle.line_rules.specs.Line.{tabbed}
 use Rattle.put_text.proofs.PutLaws.{put-then}
 use borrow.Author.Needs.{needs}
-use Rattle.report_line.proofs.put_last.Statement.{statement}
-use Rattle.report_line.proofs.put_last.Tie as tie
+use Rattle.report_fields.proofs.put_last.Statement.{statement}
+use Rattle.report_fields.proofs.put_last.Tie as tie
 
 put-byte-requires : tie.Need-put-byte-requires
 put-byte-requires c κs = search needs

@@ -1,6 +1,6 @@
 use borrow.Author.Tests.{eq-eqb, ne-eqb}
-use Rattle.report_line.proofs.length_mark.Statement.{statement}
-use Rattle.report_line.proofs.length_mark.Tie as tie
+use Rattle.report_fields.proofs.length_mark.Statement.{statement}
+use Rattle.report_fields.proofs.length_mark.Tie as tie
 
 returns : tie.Need-returns
 returns c = simp (eq-eqb _ _ (c .if1 .taken))

@@ -14,8 +14,8 @@ use Rattle.ends_rules.specs.declared.Unclipped.{Unclipped}
 use Rattle.line_rules.specs.Line.{orDot}
 use Rattle.line_rules.proofs.LineLaws.{no-place}
 use borrow.Author.Needs.{needs}
-use Rattle.report_line.proofs.put_five.Statement.{statement}
-use Rattle.report_line.proofs.put_five.Tie as tie
+use Rattle.report_fields.proofs.put_five.Statement.{statement}
+use Rattle.report_fields.proofs.put_five.Tie as tie
 
 -- a position is none of the other variants
 another : OneOf (1 ∷ 2 ∷ 3 ∷ []) 0 → ⊥
