@@ -1,14 +1,14 @@
-// Document 01's program: standard input is a stream of records, and a line is written for each. What is written is said by the crates `report_stream` and `report_line`, and `report_turns` says what
+// Document 01's program: standard input is a stream of records, and a line is written for each. What is written is said by the crates `report_stream` and `report_line`, and `report_rules` says what
 // the turns of reads and writes come to: this takes turn after turn. A write that fails ends the program, and a read that fails leaves the stream cut short; both are said on standard error.
 ghost use mathlib.Core.Path.{_≡_};
 ghost use mathlib.Core.Bool.{true, false};
 ghost use lib.ListN.{length, take};
 ghost use Rattle.blocks.specs.Fill.{First};
 ghost use Rattle.stream_rules.specs.Stream.{isMarked, badInput};
-ghost use Rattle.report_turns.specs.Run.{begun, Came};
+ghost use Rattle.report_rules.specs.Run.{begun, Came};
 use blocks::Read;
-use report_turns::Behind;
-use report_turns::State;
+use report_rules::State;
+use report_writes::Behind;
 
 // No stream takes so many turns; each reads a block or writes one.
 const MOST_TURNS: u64 = 140737488355328;
@@ -54,7 +54,7 @@ fn report(first: Read, block: &mut [u8], out: &mut [u8]) -> Behind
     while turns < MOST_TURNS {
         s = report_turns::refill(s, block);
         s = report_turns::turn(s, block, out);
-        let behind = report_turns::write_due(s, out);
+        let behind = report_writes::write_due(s, out);
         if !behind.ok {
             return behind;
         }

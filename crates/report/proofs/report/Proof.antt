@@ -7,9 +7,9 @@ use lib.Seq.{length-take-le}
 use borrow.Author.Tests.{not-true, not-false}
 use Rattle.lists.proofs.Absurd.{never}
 use Rattle.stream_rules.proofs.MarkLaws.{long}
-use Rattle.report_turns.specs.declared.State.{State}
-use Rattle.report_turns.proofs.TurnLaws.{grown}
-use Rattle.report_turns.proofs.RunLaws.{Along, along-start, along-on, along-off, along-last}
+use Rattle.report_rules.specs.declared.State.{State}
+use Rattle.report_rules.proofs.TurnLaws.{grown}
+use Rattle.report_rules.proofs.RunLaws.{Along, along-start, along-on, along-off, along-last}
 use Rattle.report.proofs.report.Statement.{statement}
 use Rattle.report.proofs.report.Tie as tie
 

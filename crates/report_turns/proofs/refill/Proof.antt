@@ -2,7 +2,7 @@
 use mathlib.Core.Logic.{inl, inr}
 use native.Mathlib.Omega.{arith}
 use borrow.Author.Needs.{needs}
-use Rattle.report_turns.specs.Run.{Refilled.enough, Refilled.reads}
+use Rattle.report_rules.specs.Run.{Refilled.enough, Refilled.reads}
 use Rattle.report_turns.proofs.refill.Statement.{statement}
 use Rattle.report_turns.proofs.refill.Tie as tie
 

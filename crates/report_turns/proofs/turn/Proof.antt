@@ -7,7 +7,7 @@ use borrow.Author.Tests.{not-true, not-false}
 use Rattle.put_text.proofs.PutLaws.{put-as}
 use Rattle.stream_rules.specs.Stream.{closing}
 use Rattle.stream_rules.specs.declared.NextFrame.{NextFrame}
-use Rattle.report_turns.proofs.TurnLaws.{within, turned-on, turned-off}
+use Rattle.report_rules.proofs.TurnLaws.{within, turned-on, turned-off}
 use borrow.Author.Needs.{needs}
 use Rattle.report_turns.proofs.turn.Statement.{statement}
 use Rattle.report_turns.proofs.turn.Tie as tie

@@ -15,9 +15,9 @@ use Rattle.blocks.specs.declared.Read.{Read}
 use Rattle.blocks.proofs.BlockLaws.{drop-take, gathered}
 use Rattle.stream_rules.proofs.MarkLaws.{same-mark, long}
 use Rattle.stream_rules.specs.Stream.{isMarked, Reports, badInput, Prints}
-use Rattle.report_turns.specs.Run.{atHand, waiting, begun, Refilled, readBehind, Turned, added, dueOf, relievedOf, Ran, Ran.starts, Ran.turns, Came}
-use Rattle.report_turns.specs.declared.State.{State}
-use Rattle.report_turns.proofs.TurnLaws.{grown}
+use Rattle.report_rules.specs.Run.{atHand, waiting, begun, Refilled, readBehind, Turned, added, dueOf, relievedOf, Ran, Ran.starts, Ran.turns, Came}
+use Rattle.report_rules.specs.declared.State.{State}
+use Rattle.report_rules.proofs.TurnLaws.{grown}
 
 -- ---- one turn
 

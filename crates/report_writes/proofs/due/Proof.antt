@@ -2,9 +2,9 @@
 use native.Mathlib.Omega.{arith}
 use mathlib.Core.Path.{sym}
 use borrow.Author.Tests.{not-true, not-false, le-leb, lt-leb}
-use Rattle.report_turns.proofs.RunLaws.{due-last}
-use Rattle.report_turns.proofs.due.Statement.{statement}
-use Rattle.report_turns.proofs.due.Tie as tie
+use Rattle.report_rules.proofs.RunLaws.{due-last}
+use Rattle.report_writes.proofs.due.Statement.{statement}
+use Rattle.report_writes.proofs.due.Tie as tie
 
 returns : tie.Need-returns
 returns c = (sym (due-last (c .before .before .args .s) (not-true _ (c .if1 .taken))), omega arith)

@@ -3,10 +3,10 @@ use Prim.Native.Nat.{ℕ, _-_}
 use mathlib.Core.Path.{ap}
 use native.Mathlib.Omega.{arith}
 use borrow.Author.Needs.{needs}
-use Rattle.report_turns.specs.declared.State.{State}
-use Rattle.report_turns.proofs.RunLaws.{due-low}
-use Rattle.report_turns.proofs.relieved.Statement.{statement}
-use Rattle.report_turns.proofs.relieved.Tie as tie
+use Rattle.report_rules.specs.declared.State.{State}
+use Rattle.report_rules.proofs.RunLaws.{due-low}
+use Rattle.report_writes.proofs.relieved.Statement.{statement}
+use Rattle.report_writes.proofs.relieved.Tie as tie
 
 due-requires : tie.Need-due-requires
 due-requires c κs = search needs

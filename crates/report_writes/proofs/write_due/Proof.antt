@@ -4,8 +4,8 @@ use mathlib.Core.Path.{ap}
 use native.Mathlib.Omega.{arith}
 use lib.ListN.{take, length-take}
 use borrow.Author.Needs.{needs}
-use Rattle.report_turns.proofs.write_due.Statement.{statement}
-use Rattle.report_turns.proofs.write_due.Tie as tie
+use Rattle.report_writes.proofs.write_due.Statement.{statement}
+use Rattle.report_writes.proofs.write_due.Tie as tie
 
 due-requires : tie.Need-due-requires
 due-requires c κs = search needs

@@ -10,7 +10,7 @@ use lib.ListN.{length, take, drop}
 use Rattle.blocks.specs.Fill.{Filled, Gathers}
 use Rattle.blocks.specs.declared.Read.{Read}
 use Rattle.stream_rules.specs.Stream.{isMarked, Reports}
-use Rattle.report_turns.specs.declared.State.{State}
+use Rattle.report_rules.specs.declared.State.{State}
 
 -- the bytes at hand stand in front of the block, and those that wait to be written in front of the output
 abbrev pub atHand : State → List ℕ → List ℕ

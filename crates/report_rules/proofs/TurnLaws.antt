@@ -15,8 +15,8 @@ use Rattle.stream_rules.specs.Inner.{Went, goesOn}
 use Rattle.stream_rules.specs.declared.NextFrame.{NextFrame}
 use Rattle.stream_rules.specs.declared.Block.{Block}
 use Rattle.stream_rules.proofs.FrameLaws.{ends-there, went-on}
-use Rattle.report_turns.specs.Run.{atHand, Enough, Refilled, Refilled.enough, Refilled.reads, Turned}
-use Rattle.report_turns.specs.declared.State.{State}
+use Rattle.report_rules.specs.Run.{atHand, Enough, Refilled, Refilled.enough, Refilled.reads, Turned}
+use Rattle.report_rules.specs.declared.State.{State}
 
 -- ---- a read
 
