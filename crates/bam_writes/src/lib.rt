@@ -6,7 +6,7 @@ ghost use lib.ListN.{length};
 ghost use Rattle.bam_header.specs.Inner.{isBegun};
 ghost use Rattle.bam_header.specs.Converted.{cgrMark};
 ghost use Rattle.bam_rules.specs.Run.{usedBehind, behindOf};
-ghost use Rattle.bam_writes.specs.Part.{partOf};
+ghost use Rattle.bam_writes.specs.InnerPart.{partOf};
 use bam_rules::BamState;
 
 // The state behind a write, and whether it went well.

@@ -11,7 +11,7 @@ use Rattle.lists.specs.Lists.{sumOf}
 use Rattle.lists.proofs.Sums.{sum-cons, sum-append}
 use Rattle.sam.specs.Op.{lenOf, codeOf}
 use Rattle.ops.specs.Ops.{readLen, isClip}
-use Rattle.clip_runs.specs.Clips.{outerHard}
+use Rattle.clip_run_rules.specs.Clips.{outerHard}
 use Rattle.clip_rules.specs.Clipping.{Taken, more, taking, Cut, hardOf, softOf, upgraded, cutInto, clip}
 use Rattle.clip_rules.specs.Answer.{clippable}
 use Rattle.clip_rules.proofs.RuleLaws.{cut-eq, take-nil, goes-enough, taking-reads, taking-enough, clip-none}

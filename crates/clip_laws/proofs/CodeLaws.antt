@@ -9,7 +9,7 @@ use Rattle.lists.proofs.Absurd.{false-true}
 use Rattle.lists.proofs.Tables.{below, below-at, same-true}
 use Rattle.sam.specs.Op.{lenOf, codeOf, opOf, isRef, isQuery, refLen, queryLen}
 use Rattle.ops.specs.Ops.{isRead, readLen}
-use Rattle.clip_runs.specs.Clips.{isHard, lenIf}
+use Rattle.clip_run_rules.specs.Clips.{isHard, lenIf}
 use Rattle.clip_rules.specs.Clipping.{hardOf}
 use Rattle.clip_rules.proofs.CodeLaws.{read-is, op-len, op-code}
 use Rattle.clip_laws.specs.Demand3.{isInner, keptLen}

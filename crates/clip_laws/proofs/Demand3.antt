@@ -14,7 +14,7 @@ use Rattle.lists.proofs.ListLaws.{length-facing}
 use Rattle.lists.proofs.Sums.{sum-cons, sum-append, sum-facing, facing-facing}
 use Rattle.sam.specs.Op.{lenOf, codeOf, refLen}
 use Rattle.ops.specs.Ops.{readLen}
-use Rattle.clip_runs.specs.Clips.{outerHard, leadingClips}
+use Rattle.clip_run_rules.specs.Clips.{outerHard, leadingClips}
 use Rattle.clip_rules.specs.Clipping.{taking, Cut, hardOf, softOf, clip}
 use Rattle.answers.specs.Settled.{Outcome}
 use Rattle.answers.specs.declared.Count.{Count}

@@ -15,7 +15,7 @@ use Rattle.sam.specs.Columns.{Column, spell, columns, refs}
 use Rattle.sam.proofs.ColumnLaws.{columns-cons, spell-add, spell-none, refs-append, refs-spell}
 use Rattle.sam.proofs.LengthLaws.{reference-length}
 use Rattle.ops.specs.Ops.{readLen}
-use Rattle.clip_runs.specs.Clips.{isHard, run, runLen, afterRun, outerHard, nextSoft, inside, leadingClips}
+use Rattle.clip_run_rules.specs.Clips.{isHard, run, runLen, afterRun, outerHard, nextSoft, inside, leadingClips}
 use Rattle.clip_rules.specs.Clipping.{taking, Cut, hardOf, softOf, upgraded, cutInto, clip}
 use Rattle.clip_rules.specs.Answer.{clippedOps}
 use Rattle.clip_rules.proofs.CodeLaws.{read-le, read-all, op-len, op-code}

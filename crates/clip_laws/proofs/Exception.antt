@@ -11,7 +11,7 @@ use Rattle.lists.specs.Runs.{leading, afterLeading}
 use Rattle.lists.proofs.Absurd.{nil-cons}
 use Rattle.sam.specs.Op.{lenOf, codeOf, opOf, isRef, refLen}
 use Rattle.ops.specs.Ops.{isRead, readLen, isClip}
-use Rattle.clip_runs.specs.Clips.{outerHard, nextSoft, inside, leadingClips}
+use Rattle.clip_run_rules.specs.Clips.{outerHard, nextSoft, inside, leadingClips}
 use Rattle.oplist.specs.Ops.{mostOps}
 use Rattle.clip_rules.specs.Clipping.{goes, ends, taking, softOf, upgraded, cutInto, clip}
 use Rattle.clip_rules.specs.Answer.{clippedOps}

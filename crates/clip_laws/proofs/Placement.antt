@@ -15,7 +15,7 @@ use Rattle.lists.proofs.EachLaws.{each-reverse}
 use Rattle.sam.specs.Op.{lenOf, codeOf, opOf}
 use Rattle.sam.specs.Placement.{AllHard, WellPlaced}
 use Rattle.ops.specs.Ops.{readLen}
-use Rattle.clip_runs.specs.Clips.{isHard, isSoft, afterRun, outerHard, nextSoft, inside, leadingClips}
+use Rattle.clip_run_rules.specs.Clips.{isHard, isSoft, afterRun, outerHard, nextSoft, inside, leadingClips}
 use Rattle.clip_rules.specs.Clipping.{taking, Cut, hardOf, softOf, upgraded, cutInto, clip}
 use Rattle.clip_rules.specs.Answer.{clippedOps}
 use Rattle.clip_rules.proofs.RuleLaws.{take-nil}

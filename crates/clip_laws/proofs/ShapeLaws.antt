@@ -13,10 +13,10 @@ use Rattle.lists.proofs.EachLaws.{each-append, each-reverse, each-map}
 use Rattle.lists.proofs.Sums.{sum-cons, sum-append, sum-facing}
 use Rattle.sam.specs.Op.{lenOf, codeOf, opOf}
 use Rattle.ops.specs.Ops.{isRead, readLen, isClip}
-use Rattle.clip_runs.specs.Clips.{isHard, isSoft, runLen, afterRun, outerHard, nextSoft, inside, leadingClips}
+use Rattle.clip_run_rules.specs.Clips.{isHard, isSoft, runLen, afterRun, outerHard, nextSoft, inside, leadingClips}
 use Rattle.clip_rules.specs.Clipping.{Taken, goes, taking, hardOf, softOf}
 use Rattle.clip_rules.proofs.CodeLaws.{read-le, read-H, read-all, read-is, cut-read, op-len, op-code}
-use Rattle.clip_runs.proofs.RunLaws.{run-in, run-out, rest-in, rest-out, run-sum, run-same}
+use Rattle.clip_run_rules.proofs.RunLaws.{run-in, run-out, rest-in, rest-out, run-sum, run-same}
 use Rattle.clip_rules.proofs.RuleLaws.{take-nil}
 use Rattle.clip_laws.specs.Demand3.{isInner, keptLen, All, Shaped, survives}
 use Rattle.clip_laws.proofs.CodeLaws.{by-codes, never, read-I, hard-len, hard-code, soft-len, soft-code, kept-H, kept-S, kept-read}

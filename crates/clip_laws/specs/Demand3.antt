@@ -9,7 +9,7 @@ use Rattle.lists.specs.Lists.{Each, facing, splice, sumOf}
 use Rattle.sam.specs.Op.{lenOf, codeOf, refLen, queryLen}
 use Rattle.oplist.specs.Ops.{recordOps}
 use Rattle.ops.specs.Ops.{readLen}
-use Rattle.clip_runs.specs.Clips.{isHard, isSoft, hardLen, outerHard, inside, leadingClips}
+use Rattle.clip_run_rules.specs.Clips.{isHard, isSoft, hardLen, outerHard, inside, leadingClips}
 use Rattle.answers.specs.Settled.{Outcome}
 use Rattle.answers.specs.declared.Count.{Count}
 use Rattle.answers.specs.declared.Count.the-variants.{Number}

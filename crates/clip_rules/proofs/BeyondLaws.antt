@@ -11,9 +11,9 @@ use Rattle.lists.specs.Lists.{facing, sumOf}
 use Rattle.lists.proofs.Sums.{sum-facing}
 use Rattle.sam.specs.Op.{codeOf}
 use Rattle.ops.specs.Ops.{readLen}
-use Rattle.clip_runs.specs.Clips.{isSoft, isHard, afterRun, leadingClips, inside}
-use Rattle.clip_runs.specs.Walked.{OuterIs}
-use Rattle.clip_runs.proofs.RunLaws.{run-sum, run-none}
+use Rattle.clip_run_rules.specs.Clips.{isSoft, isHard, afterRun, leadingClips, inside}
+use Rattle.clip_run_rules.specs.InnerWalked.{OuterIs}
+use Rattle.clip_run_rules.proofs.RunLaws.{run-sum, run-none}
 use Rattle.clip_rules.specs.Clipping.{Taken, taking}
 use Rattle.clip_rules.specs.InnerPlan.{TakingIs}
 use Rattle.clip_rules.specs.Answer.{clippable, isBeyond}

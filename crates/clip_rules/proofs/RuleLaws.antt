@@ -13,9 +13,9 @@ use Rattle.lists.specs.Lists.{sumOf}
 use Rattle.lists.proofs.Sums.{sum-le}
 use Rattle.sam.specs.Op.{lenOf, codeOf, opOf, refLen}
 use Rattle.ops.specs.Ops.{readLen}
-use Rattle.clip_runs.specs.Clips.{leadingClips}
-use Rattle.clip_runs.specs.Walked.{OuterIs}
-use Rattle.clip_runs.proofs.RunLaws.{outer-total}
+use Rattle.clip_run_rules.specs.Clips.{leadingClips}
+use Rattle.clip_run_rules.specs.InnerWalked.{OuterIs}
+use Rattle.clip_run_rules.proofs.RunLaws.{outer-total}
 use Rattle.clip_rules.specs.Clipping.{Taken, more, goes, ends, taking, Cut, softOf, upgraded, cutInto, clip}
 use Rattle.clip_rules.specs.InnerPlan.{takenOf, cutOf, TakingIs}
 use Rattle.clip_rules.proofs.CodeLaws.{read-le, read-D, read-all, read-is, cut-read}

@@ -11,7 +11,7 @@ use Rattle.sam.specs.Op.{lenOf}
 use Rattle.sam.specs.Record.{isShort}
 use Rattle.oplist.specs.Ops.{mostOps, mostLongOps, recordOps}
 use Rattle.ops.specs.Ops.{readLen}
-use Rattle.clip_runs.specs.Clips.{leadingClips}
+use Rattle.clip_run_rules.specs.Clips.{leadingClips}
 use Rattle.answers.specs.Answers.{Told, answered, refused}
 use Rattle.answers.specs.Settled.{Outcome, keeps}
 use Rattle.answers.specs.declared.Refusal.the-variants.{ShortRecord, TooManyOps, TooLong, NoRoom, AmountBeyond}

@@ -6,7 +6,7 @@ use lib.ListN.{length}
 use lib.Dec.{eqb, leb}
 use Rattle.sam.specs.Op.{lenOf, codeOf, opOf, refLen}
 use Rattle.ops.specs.Ops.{readLen}
-use Rattle.clip_runs.specs.Clips.{leadingClips, outerHard, nextSoft, inside}
+use Rattle.clip_run_rules.specs.Clips.{leadingClips, outerHard, nextSoft, inside}
 
 -- what a taking leaves of a list, the read bases taken, and the reference length taken
 pub record Taken : Type 0 where

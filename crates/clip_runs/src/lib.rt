@@ -6,8 +6,8 @@ ghost use Rattle.lists.specs.Lists.{facing};
 ghost use Rattle.sam.specs.Op.{codeOf};
 ghost use Rattle.ops.specs.Ops.{isClip};
 ghost use Rattle.oplist.specs.Ops.{opsOf};
-ghost use Rattle.clip_runs.specs.Clips.{lenIf, leadingClips, leadingSoft};
-ghost use Rattle.clip_runs.specs.Walked.{inMask, RunIs, OuterIs};
+ghost use Rattle.clip_run_rules.specs.Clips.{lenIf, leadingClips, leadingSoft};
+ghost use Rattle.clip_run_rules.specs.InnerWalked.{inMask, RunIs, OuterIs};
 use oplist::Ops;
 
 // The codes of clips, as masks: bit c is code c's.

@@ -7,7 +7,7 @@ ghost use Rattle.lists.specs.Lists.{sumOf};
 ghost use Rattle.signed.specs.declared.Sum.the-variants.{Number};
 ghost use Rattle.sam.specs.Op.{refLen};
 ghost use Rattle.oplist.specs.Ops.{opsOf};
-ghost use Rattle.clip_runs.specs.Clips.{clipsAfterReference};
+ghost use Rattle.clip_run_rules.specs.Clips.{clipsAfterReference};
 ghost use Rattle.ends_rules.specs.Sums.{_⊕_, _⊖_, summed};
 ghost use Rattle.ends_rules.specs.Ends.{provided};
 ghost use Rattle.ends_rules.specs.Tails.{greatestRun};

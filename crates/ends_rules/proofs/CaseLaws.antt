@@ -14,7 +14,7 @@ use Rattle.sam.specs.Op.{refLen}
 use Rattle.sam.specs.Record.{posOf, flagsOf, isUnmapped, isReverse}
 use Rattle.oplist.specs.Ops.{recordOps}
 use Rattle.length_rules.specs.Lengths.{checkedRefLength}
-use Rattle.clip_runs.specs.Clips.{leadingClips, clipsAfterReference}
+use Rattle.clip_run_rules.specs.Clips.{leadingClips, clipsAfterReference}
 use Rattle.answers.specs.declared.Pos0.{Pos0}
 use Rattle.answers.specs.declared.Place0.the-variants as Place0
 use Rattle.answers.specs.declared.Place1.the-variants.{Nothing, Refused}

@@ -25,7 +25,7 @@ use Rattle.answers.specs.declared.Place1.{Place1}
 use Rattle.answers.specs.declared.Place1.the-variants as Place1
 use Rattle.answers.specs.declared.Refusal.the-variants.{ShortRecord}
 use Rattle.length_rules.specs.Lengths.{checkedRefLength}
-use Rattle.clip_runs.specs.Clips.{leadingClips, clipsAfterReference}
+use Rattle.clip_run_rules.specs.Clips.{leadingClips, clipsAfterReference}
 use Rattle.ends_rules.specs.declared.Unclipped.{Unclipped}
 use Rattle.ends_rules.specs.declared.Unclipped.the-variants as Unclipped
 use Rattle.ends_rules.specs.Sums.{both, summed}

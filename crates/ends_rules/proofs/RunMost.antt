@@ -11,7 +11,7 @@ use Rattle.lists.specs.Lists.{sumOf}
 use Rattle.lists.specs.Runs.{leading, holds, afterLast}
 use Rattle.lists.proofs.Absurd.{false-true}
 use Rattle.lists.proofs.RunLaws.{after-none}
-use Rattle.clip_runs.specs.Clips.{clipLen, clipsAfterReference}
+use Rattle.clip_run_rules.specs.Clips.{clipLen, clipsAfterReference}
 use Rattle.ends_rules.specs.Tails.{refOp, clipsToNext, greatestRun, Reached}
 use Rattle.ends_rules.proofs.TailLaws.{sum-pick, no-clips, next-ref, run-ref, next-other, run-other}
 

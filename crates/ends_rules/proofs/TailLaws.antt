@@ -9,7 +9,7 @@ use Rattle.lists.specs.Lists.{sumOf}
 use Rattle.lists.specs.Runs.{leading, holds, afterLast}
 use Rattle.sam.specs.Op.{lenOf, codeOf, refLen}
 use Rattle.ops.specs.Ops.{isClip}
-use Rattle.clip_runs.specs.Clips.{clipLen, clipsAfterReference}
+use Rattle.clip_run_rules.specs.Clips.{clipLen, clipsAfterReference}
 use Rattle.ends_rules.specs.declared.Tail.{Tail}
 use Rattle.ends_rules.specs.Tails.{refOp, clipsToNext, greatestRun}
 use Rattle.ends_rules.specs.InnerTails.{Met, met}

@@ -15,7 +15,7 @@ use Rattle.signed.specs.declared.Sum.the-variants as Sum
 use Rattle.sam.specs.Op.{refLen}
 use Rattle.sam.specs.Record.{isShort, posOf, flagsOf, isUnmapped, isReverse}
 use Rattle.oplist.specs.Ops.{recordOps}
-use Rattle.clip_runs.specs.Clips.{leadingClips, clipsAfterReference}
+use Rattle.clip_run_rules.specs.Clips.{leadingClips, clipsAfterReference}
 use Rattle.length_rules.specs.Lengths.{checkedRefLength}
 use Rattle.answers.specs.Answers.{Told, answered, refused}
 use Rattle.answers.specs.declared.Pos0.{Pos0}

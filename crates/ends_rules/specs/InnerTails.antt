@@ -5,7 +5,7 @@ use mathlib.Core.List.{List}
 use Rattle.lists.specs.Lists.{sumOf}
 use Rattle.lists.specs.Runs.{holds}
 use Rattle.sam.specs.Op.{refLen}
-use Rattle.clip_runs.specs.Clips.{clipLen, clipsAfterReference}
+use Rattle.clip_run_rules.specs.Clips.{clipLen, clipsAfterReference}
 use Rattle.ends_rules.specs.Tails.{refOp, clipsToNext, greatestRun}
 use Rattle.ends_rules.specs.declared.Tail.{Tail}
 

@@ -9,7 +9,7 @@ use lib.ListN.{take}
 use Rattle.lists.specs.Lists.{sumOf}
 use Rattle.lists.specs.Runs.{leading}
 use Rattle.sam.specs.Op.{codeOf, isRef}
-use Rattle.clip_runs.specs.Clips.{clipLen, clipsAfterReference}
+use Rattle.clip_run_rules.specs.Clips.{clipLen, clipsAfterReference}
 
 abbrev pub refOp : ℕ → Bool
 refOp o = isRef (codeOf o)

@@ -2,11 +2,11 @@
 use Prim.Native.Nat.{ℕ}
 use lib.IntN.{pos}
 use Rattle.answers.specs.Answers.{Told, answered, refused, some, none}
-use Rattle.ops.specs.Ops.{letterOfKind, newOp}
-use Rattle.ops.specs.declared.NewOp.{NewOp}
-use Rattle.ops.specs.declared.NewOp.the-variants as NewOp
-use Rattle.ops.specs.declared.KindFound.{KindFound}
-use Rattle.ops.specs.declared.KindFound.the-variants.{Kind, Nothing}
+use Rattle.kinds.specs.Kinds.{letterOfKind, newOp}
+use Rattle.kinds.specs.declared.NewOp.{NewOp}
+use Rattle.kinds.specs.declared.NewOp.the-variants as NewOp
+use Rattle.kinds.specs.declared.KindFound.{KindFound}
+use Rattle.kinds.specs.declared.KindFound.the-variants.{Kind, Nothing}
 
 -- a kind's letter
 abbrev pub charOf : KindFound → Told

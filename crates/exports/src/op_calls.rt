@@ -3,22 +3,24 @@ ghost use mathlib.Core.Path.{_≡_};
 ghost use Rattle.answers.specs.Settled.{Settled};
 ghost use Rattle.answers.specs.Answers.{tellCount};
 ghost use Rattle.sam.specs.Op.{lenOf, codeOf, isRef, isQuery};
-ghost use Rattle.ops.specs.Ops.{isRead, codeOfKind, kindOf, fromOpType, tellKind, getOps};
+ghost use Rattle.ops.specs.Ops.{isRead};
+ghost use Rattle.kinds.specs.Kinds.{codeOfKind, kindOf, fromOpType, tellKind};
+ghost use Rattle.copied_ops.specs.Copied.{getOps};
 ghost use Rattle.border.specs.Border.{countOf, foundOf, across};
 ghost use Rattle.exports.specs.Ops.{charOf, opAnswer, opOrNone};
 ghost use Prim.Native.Nat.{_%_};
 use border::ToldCount;
 use border::ToldFound;
-use ops::CigarKind;
-use ops::CigarOp;
-use ops::KindFound;
-use ops::NewOp;
+use kinds::CigarKind;
+use kinds::CigarOp;
+use kinds::KindFound;
+use kinds::NewOp;
 
 #[no_mangle]
 pub extern "C" fn cigar_get_cigar_ops(rec: &[u8], out: &mut [u32]) -> ToldCount
     ensures { λ r. ⌜ Settled (across countOf tellCount (getOps (now (rec .entry)) (now (out .entry)))) r (now (out .exit)) ⌝ }
 {
-    border::told_count(ops::get_cigar_ops(rec, out))
+    border::told_count(copied_ops::get_cigar_ops(rec, out))
 }
 
 #[no_mangle]

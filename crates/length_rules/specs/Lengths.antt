@@ -16,7 +16,7 @@ use Rattle.answers.specs.declared.Int.the-variants as Int
 use Rattle.answers.specs.declared.Count.{Count}
 use Rattle.answers.specs.declared.Count.the-variants as Count
 use Rattle.oplist.specs.Ops.{mostOps, mostLongOps, recordOps}
-use Rattle.clip_runs.specs.Clips.{leadingSoft, leadingHard, trailingSoft, trailingHard}
+use Rattle.clip_run_rules.specs.Clips.{leadingSoft, leadingHard, trailingSoft, trailingHard}
 use Rattle.length_rules.specs.declared.Lengths.{Lengths}
 use Rattle.length_rules.specs.declared.Lengths.the-variants as Lengths
 

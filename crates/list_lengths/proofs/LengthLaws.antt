@@ -12,10 +12,10 @@ use Rattle.ops.specs.Ops.{isClip}
 use Rattle.answers.specs.declared.Refusal.{Refusal}
 use Rattle.answers.specs.declared.Int.the-variants as Int
 use Rattle.lists.specs.Runs.{leading, holds}
-use Rattle.clip_runs.specs.Clips.{leadingSoft, leadingHard, hasInner, trailingSoft, trailingHard}
-use Rattle.clip_runs.specs.Walked.{RunIs}
-use Rattle.clip_runs.proofs.RunLaws.{soft-found, hard-found}
-use Rattle.clip_runs.proofs.EndLaws.{none-soft, none-hard, some-soft, some-hard, run-refs, run-query, clips-refs, clips-query, clips-only, some-inner, parted}
+use Rattle.clip_run_rules.specs.Clips.{leadingSoft, leadingHard, hasInner, trailingSoft, trailingHard}
+use Rattle.clip_run_rules.specs.InnerWalked.{RunIs}
+use Rattle.clip_run_rules.proofs.RunLaws.{soft-found, hard-found}
+use Rattle.clip_run_rules.proofs.EndLaws.{none-soft, none-hard, some-soft, some-hard, run-refs, run-query, clips-refs, clips-query, clips-only, some-inner, parted}
 use Rattle.length_rules.specs.declared.Lengths.{Lengths}
 use Rattle.length_rules.specs.declared.Lengths.the-variants as Lengths
 use Rattle.list_lengths.specs.InnerLengths.{ofClips}

@@ -11,7 +11,7 @@ use Rattle.sam.specs.Op.{lenOf, codeOf, opOf, letters, isRef, refLen}
 use Rattle.sam.specs.Text.{value, Spells, end, op}
 use Rattle.sam.proofs.LetterLaws.{letter-code, letter-digit}
 use Rattle.ops.specs.Ops.{isClip}
-use Rattle.clip_runs.specs.Clips.{clipLen, leadingClips, clipsAfterReference}
+use Rattle.clip_run_rules.specs.Clips.{clipLen, leadingClips, clipsAfterReference}
 use Rattle.mate_rules.specs.Pieces.{isRefLetter, isClipLetter, Piece, pieces, counts, total, isRefPiece, isClipPiece, refCount, clipCount, mateLeading, mateReference, mateTrailing}
 use Rattle.mate_rules.specs.Readers.{Short, Agree}
 use Rattle.mate_rules.proofs.Digits.{count-small}

@@ -5,7 +5,7 @@ use mathlib.Core.Path.{_≡_}
 use mathlib.Core.List.{List}
 use Rattle.lists.specs.Lists.{Each, sumOf}
 use Rattle.sam.specs.Op.{lenOf, refLen}
-use Rattle.clip_runs.specs.Clips.{leadingClips, clipsAfterReference}
+use Rattle.clip_run_rules.specs.Clips.{leadingClips, clipsAfterReference}
 use Rattle.mate_rules.specs.Pieces.{mateLeading, mateReference, mateTrailing}
 
 abbrev pub Short : List ℕ → Type 0

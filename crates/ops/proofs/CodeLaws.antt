@@ -7,9 +7,7 @@ use lib.Dec.{eqb}
 use lib.ListN.{List·getD-eq-default}
 use Rattle.lists.proofs.Tables.{below, below-same}
 use Rattle.sam.specs.Op.{isRef, isQuery}
-use Rattle.sam.specs.Op.{letters}
-use Rattle.ops.specs.declared.CigarKind.the-variants.{Pad}
-use Rattle.ops.specs.Ops.{reads, isRead, isClip, kinds, kindOf, letterOf}
+use Rattle.ops.specs.Ops.{reads, isRead, isClip}
 
 -- a mask of 32 bits that has the 16 codes twice is tested without taking an op modulo 16 first
 twice : (m : ℕ) (p : ℕ → Bool) (o : ℕ) → below (λ d. Bool·beq (eqb (m / 2 ^ d % 2) 1) (p (d % 16))) 32 ≡ true → eqb (m / 2 ^ (o % 32) % 2) 1 ≡ p (o % 16)
@@ -36,18 +34,3 @@ read-bit c h = below-same (λ d. eqb (387 / 2 ^ d % 2) 1) isRead 9 c refl h
 pub read-none : (c : ℕ) → 9 ≤ c → isRead c ≡ false
 unfolding isRead
 read-none c h = List·getD-eq-default reads false {n = c} h
-
-pub no-kind : (c : ℕ) → 9 ≤ c → kindOf c ≡ Pad
-unfolding kindOf
-no-kind c h = List·getD-eq-default kinds Pad {n = c} h
-
-pub no-letter : (c : ℕ) → 9 ≤ c → letterOf c ≡ 0
-unfolding letterOf
-no-letter c h = List·getD-eq-default letters 0 {n = c} h
-
--- a number that is none of 0 to 8, in two parts: `omega` takes at most six `≢` at once
-pub past5 : (k : ℕ) → (k ≡ 0 → ⊥) → (k ≡ 1 → ⊥) → (k ≡ 2 → ⊥) → (k ≡ 3 → ⊥) → (k ≡ 4 → ⊥) → 5 ≤ k
-past5 k a b c d e = omega arith
-
-pub past9 : (k : ℕ) → 5 ≤ k → (k ≡ 5 → ⊥) → (k ≡ 6 → ⊥) → (k ≡ 7 → ⊥) → (k ≡ 8 → ⊥) → 9 ≤ k
-past9 k h a b c d = omega arith

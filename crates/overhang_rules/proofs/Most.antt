@@ -14,7 +14,7 @@ use Rattle.lists.proofs.Sums.{sum-facing}
 use Rattle.signed.specs.Whole.{clamp32}
 use Rattle.sam.specs.Op.{lenOf, codeOf, isQuery, isRef, queryLen, refLen}
 use Rattle.ops.specs.Ops.{isClip}
-use Rattle.clip_runs.specs.Clips.{isSoft, lenIf, softLen, run, leadingSoft}
+use Rattle.clip_run_rules.specs.Clips.{isSoft, lenIf, softLen, run, leadingSoft}
 use Rattle.overhang_rules.specs.Reach.{spanTo, basesUpTo, softClip}
 use Rattle.overhang_rules.specs.Overhang.{endOf, softStart, softEnd, gapTo, earlierOf, laterOf, basesPast, forwardOverhang, reverseOverhang, overhangOf}
 

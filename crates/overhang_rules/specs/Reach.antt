@@ -11,7 +11,7 @@ use Rattle.lists.specs.Lists.{facing, sumOf}
 use Rattle.signed.specs.Whole.{natural, clamp32}
 use Rattle.sam.specs.Columns.{Over, Base, Gap, Off}
 use Rattle.sam.specs.Op.{codeOf, isQuery, queryLen, refLen}
-use Rattle.clip_runs.specs.Clips.{leadingSoft}
+use Rattle.clip_run_rules.specs.Clips.{leadingSoft}
 
 -- the positions from p to before t, and t itself where on is 1
 abbrev pub spanTo : ℕ → ℤ → ℤ → ℕ

@@ -9,7 +9,7 @@ use Rattle.sam.specs.Op.{opOf, isRef, isQuery, refLen, queryLen}
 use Rattle.ops.specs.Ops.{isRead, readLen, isClip}
 use Rattle.answers.specs.declared.Refusal.the-variants.{TooManyOps}
 use Rattle.oplist.specs.Ops.{mostOps}
-use Rattle.clip_runs.specs.Clips.{outerHard, nextSoft, inside, leadingClips}
+use Rattle.clip_run_rules.specs.Clips.{outerHard, nextSoft, inside, leadingClips}
 use Rattle.clip_rules.specs.Clipping.{goes, ends, taking, softOf, upgraded, cutInto, clip}
 use Rattle.clip_rules.specs.Answer.{clippedOps, clippedCount}
 use Rattle.lookup_rules.specs.Lookup.{Answer, At, Nothing, Refused, look, lookupUpTo, lookedUpTo}

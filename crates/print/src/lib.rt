@@ -23,7 +23,7 @@ fn put_op(op: u32, out: &mut [u8], at: usize) -> usize
     let k = decimal::width(n);
     decimal::put_digits(n, k, out, at);
     let e = at + k;
-    let named = ops::named(op % 16);
+    let named = kinds::named(op % 16);
     out[e] = named.letter;
     e + 1
 }

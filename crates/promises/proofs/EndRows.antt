@@ -13,7 +13,7 @@ use Rattle.signed.specs.declared.Sum.the-variants as Sum
 use Rattle.sam.specs.Columns.{Over, Base, Gap, Off}
 use Rattle.sam.specs.Op.{refLen}
 use Rattle.sam.specs.Record.{posOf, flagsOf, isUnmapped, isReverse, isShort}
-use Rattle.clip_runs.specs.Clips.{leadingClips, clipsAfterReference}
+use Rattle.clip_run_rules.specs.Clips.{leadingClips, clipsAfterReference}
 use Rattle.oplist.specs.Ops.{mostOps, recordOps}
 use Rattle.answers.specs.Answers.{Told, tellPlace0, tellPlace1}
 use Rattle.answers.specs.declared.Pos0.{Pos0}

@@ -23,10 +23,11 @@ use Rattle.answers.specs.declared.Count.the-variants as Count
 use Rattle.fields.specs.Fields.{intField, natField, posField, cigarArea, cigarPart, tellArea}
 use Rattle.fields.specs.declared.Area.{Area}
 use Rattle.fields.specs.declared.Area.the-variants as Area
-use Rattle.ops.specs.Ops.{getOps, kindOf, fromOpType, tellKind, newOp, tellOp}
-use Rattle.ops.specs.declared.CigarKind.{CigarKind}
-use Rattle.ops.specs.declared.KindFound.the-variants.{Kind, Nothing}
-use Rattle.ops.specs.declared.NewOp.the-variants as NewOp
+use Rattle.kinds.specs.Kinds.{kindOf, fromOpType, tellKind, newOp, tellOp}
+use Rattle.copied_ops.specs.Copied.{getOps}
+use Rattle.kinds.specs.declared.CigarKind.{CigarKind}
+use Rattle.kinds.specs.declared.KindFound.the-variants.{Kind, Nothing}
+use Rattle.kinds.specs.declared.NewOp.the-variants as NewOp
 use Rattle.length_rules.specs.Lengths.{asInt, refLengthUpTo, queryLengthUpTo, refLength, queryLength, saturatedLength, checkedRefLength, recordQueryLength, lengthsWith, recordLengths, tellLengths}
 use Rattle.length_rules.specs.declared.Lengths.{Lengths}
 use Rattle.length_rules.specs.declared.Lengths.the-variants as Lengths

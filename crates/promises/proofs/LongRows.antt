@@ -16,7 +16,7 @@ use Rattle.answers.specs.declared.Refusal.{Refusal}
 use Rattle.answers.specs.declared.Refusal.the-variants.{ShortRecord, AreaOverrun, TooManyOps, BadTags, OtherCg, NoRoom, BadCode}
 use Rattle.answers.specs.declared.Count.the-variants as Count
 use Rattle.answers.proofs.Numbers.{not-zero}
-use Rattle.ops.specs.Ops.{copiedOps}
+use Rattle.copied_ops.specs.Copied.{copiedOps}
 use Rattle.print_rules.specs.Text.{anyBad, textOf, printedOps}
 use Rattle.length_rules.specs.Lengths.{listLengths, lengthsWith, longRefLength, longQueryLength, tellLengths}
 use Rattle.length_rules.specs.declared.Lengths.{Lengths}

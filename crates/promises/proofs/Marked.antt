@@ -5,7 +5,7 @@ use Rattle.lists.specs.Runs.{leading, afterLeading}
 use Rattle.signed.specs.Whole.{checked, sideOf}
 use Rattle.sam.specs.Op.{indexOf, letterCode, isRef, isQuery, refLen, queryLen}
 use Rattle.ops.specs.Ops.{isRead, readLen, isClip}
-use Rattle.clip_runs.specs.Clips.{outerHard, nextSoft, inside, leadingClips}
+use Rattle.clip_run_rules.specs.Clips.{outerHard, nextSoft, inside, leadingClips}
 use Rattle.clip_rules.specs.Clipping.{goes, ends, taking, softOf, upgraded, cutInto, clip}
 use Rattle.clip_rules.specs.Answer.{clippedOps, clippedCount, clippable, isBeyond, clippedInto, clippedUpTo}
 use Rattle.text_rules.specs.Text.{effectOf, rowFrom, opsFrom}

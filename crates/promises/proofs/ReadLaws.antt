@@ -27,9 +27,9 @@ use Rattle.oplist.specs.Ops.{mostOps, recordOps}
 use Rattle.text_rules.specs.Text.{textOps}
 use Rattle.text_rules.specs.Valid.{validMapped}
 use Rattle.text_rules.specs.Strict.{strict}
-use Rattle.clip_runs.specs.Clips.{softLen, hardLen, leadingClips, leadingSoft, leadingHard, hasInner, trailingSoft, trailingHard, clipsAfterReference}
-use Rattle.clip_runs.proofs.RunLaws as Clips
-use Rattle.clip_runs.proofs.EndLaws as EndClips
+use Rattle.clip_run_rules.specs.Clips.{softLen, hardLen, leadingClips, leadingSoft, leadingHard, hasInner, trailingSoft, trailingHard, clipsAfterReference}
+use Rattle.clip_run_rules.proofs.RunLaws as Clips
+use Rattle.clip_run_rules.proofs.EndLaws as EndClips
 use Rattle.length_rules.specs.Lengths.{checkedRefLength}
 use Rattle.bin_rules.specs.Bin.{recordBin, setBin}
 use Rattle.bin_rules.proofs.Records as Bins

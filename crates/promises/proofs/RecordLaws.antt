@@ -10,7 +10,7 @@ use lib.ListN.{length}
 use Rattle.sam.specs.Parts.{headerPart, namePart, opsPart, basesPart, qualsPart, tagsPart}
 use Rattle.sam.proofs.PartLaws as Parts
 use Rattle.oplist.specs.Ops.{mostOps, recordOps}
-use Rattle.ops.specs.Ops.{copiedOps, getOps}
+use Rattle.copied_ops.specs.Copied.{copiedOps, getOps}
 use Rattle.clip_rules.specs.Answer.{clippedOps, clippedCount, isBeyond}
 use Rattle.clip_rules.proofs.BeyondLaws.{not-within}
 use Rattle.clip_laws.specs.Demand3.{Takes, most, StartGives, EndGives, Given, Further, StartTwice, InRecord}

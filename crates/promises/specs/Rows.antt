@@ -15,7 +15,7 @@ use Rattle.ops.specs.Ops.{readLen}
 use Rattle.sam.specs.Record.{posOf, matePosOf, flagsOf, isUnmapped, isReverse, opsEnd, isShort}
 use Rattle.bed_rules.specs.Blocks.{blocks}
 use Rattle.bed_rules.specs.Bed.{unfit}
-use Rattle.clip_runs.specs.Clips.{leadingClips, clipsAfterReference}
+use Rattle.clip_run_rules.specs.Clips.{leadingClips, clipsAfterReference}
 use Rattle.bin_rules.specs.Bin.{spanOf}
 use Rattle.csi_rules.specs.Csi.{served, inside, regionBins}
 use Rattle.print_rules.specs.Text.{anyBad, textOf}

@@ -12,7 +12,7 @@ use Rattle.signed.specs.declared.Sum.the-variants as Sum
 use Rattle.sam.specs.Columns.{columns, refs}
 use Rattle.sam.specs.Record.{isShort, posOf, flagsOf, isUnmapped, isReverse, opCountOf, opsEnd}
 use Rattle.oplist.specs.Ops.{recordOps}
-use Rattle.clip_runs.specs.Clips.{leadingClips, clipsAfterReference}
+use Rattle.clip_run_rules.specs.Clips.{leadingClips, clipsAfterReference}
 use Rattle.answers.specs.declared.Pos1.{Pos1}
 use Rattle.answers.specs.declared.Int.{Int}
 use Rattle.answers.specs.declared.Int.the-variants as Int

@@ -12,8 +12,8 @@ use Rattle.sam.specs.Op.{lenOf, queryLen}
 use Rattle.sam.specs.Columns.{columns, queries}
 use Rattle.sam.proofs.ColumnLaws.{queries-append}
 use Rattle.sam.proofs.LengthLaws.{query-length}
-use Rattle.clip_runs.specs.Clips.{outerHard, nextSoft, inside, leadingClips}
-use Rattle.clip_runs.proofs.RunLaws.{outer-total}
+use Rattle.clip_run_rules.specs.Clips.{outerHard, nextSoft, inside, leadingClips}
+use Rattle.clip_run_rules.proofs.RunLaws.{outer-total}
 use Rattle.clip_rules.specs.Clipping.{taking, hardOf, softOf, upgraded, cutInto, clip}
 use Rattle.clip_rules.specs.Answer.{clippedOps}
 use Rattle.clip_laws.proofs.CodeLaws.{hard-len}

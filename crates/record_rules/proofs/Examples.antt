@@ -16,7 +16,7 @@ use Rattle.answers.specs.Settled.{keeps}
 use Rattle.answers.specs.declared.Refusal.the-variants.{NoRoom}
 use Rattle.length_rules.specs.Lengths.{asInt}
 use Rattle.bin_rules.specs.Bin.{low16, firstAgreed, binTo, reg2bin, binUpTo, binFrom}
-use Rattle.clip_runs.specs.Clips.{leadingClips, outerHard, nextSoft, inside}
+use Rattle.clip_run_rules.specs.Clips.{leadingClips, outerHard, nextSoft, inside}
 use Rattle.clip_rules.specs.Clipping.{goes, ends, taking, softOf, upgraded, cutInto, clip}
 use Rattle.clip_rules.specs.Answer.{clippedOps, clippedCount, clippable, isBeyond}
 use Rattle.clip_rules.specs.declared.Clipped.the-variants.{Done, Refused}

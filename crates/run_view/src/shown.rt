@@ -105,7 +105,7 @@ pub fn unclipped(answer: Unclipped) {
 // An op as text; a code 9 to 15 as a number.
 fn op(word: u32) {
     natural((word / 16) as u64);
-    let n = ops::named(word % 16);
+    let n = kinds::named(word % 16);
     if n.letter == 0 {
         text(b"?");
     } else {

@@ -50,7 +50,7 @@ pub fn true_cigar_ops(bam: &[u8], out: &mut [u32]) -> Count
                 at: at,
                 n: n,
             };
-            ops::copy_ops(bam, list, out)
+            copied_ops::copy_ops(bam, list, out)
         }
         TrueList::Refused(why) => Count::Refused(why),
     }

@@ -10,7 +10,7 @@ use Rattle.answers.specs.declared.Count.{Count}
 use Rattle.answers.specs.declared.Count.the-variants as Count
 use Rattle.answers.specs.Settled.{Outcome, keeps}
 use Rattle.tag_rules.specs.Long.{trueList, partOf, refusalOf, readFrom}
-use Rattle.ops.specs.Ops.{copiedOps}
+use Rattle.copied_ops.specs.Copied.{copiedOps}
 use Rattle.print_rules.specs.Text.{printedOps}
 use Rattle.length_rules.specs.Lengths.{listLengths}
 use Rattle.length_rules.specs.declared.Lengths.{Lengths}

@@ -11,8 +11,8 @@ use Rattle.lists.proofs.ListLaws.{length-facing}
 use Rattle.lists.proofs.Walks.{step, done}
 use Rattle.ops.specs.Ops.{isClip}
 use Rattle.oplist.specs.Ops.{opsOf}
-use Rattle.clip_runs.specs.Clips.{softLen, hardLen, run, afterRun}
-use Rattle.clip_runs.proofs.RunLaws.{run-in, run-out, run-nil, rest-in, rest-out, rest-nil, soft-op, hard-op, other-op}
+use Rattle.clip_run_rules.specs.Clips.{softLen, hardLen, run, afterRun}
+use Rattle.clip_run_rules.proofs.RunLaws.{run-in, run-out, run-nil, rest-in, rest-out, rest-nil, soft-op, hard-op, other-op}
 use Rattle.clip_runs.proofs.clip_run.Statement.{statement}
 use Rattle.clip_runs.proofs.clip_run.Tie as tie
 

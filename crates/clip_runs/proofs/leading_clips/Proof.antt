@@ -1,5 +1,5 @@
 -- The run of S and H is its soft and its hard bases.
-use Rattle.clip_runs.proofs.RunLaws.{clips-found}
+use Rattle.clip_run_rules.proofs.RunLaws.{clips-found}
 use borrow.Author.Needs.{needs}
 use Rattle.clip_runs.proofs.leading_clips.Statement.{statement}
 use Rattle.clip_runs.proofs.leading_clips.Tie as tie

@@ -1,5 +1,5 @@
 -- The soft bases of the run of S and H.
-use Rattle.clip_runs.proofs.RunLaws.{soft-found}
+use Rattle.clip_run_rules.proofs.RunLaws.{soft-found}
 use borrow.Author.Needs.{needs}
 use Rattle.clip_runs.proofs.leading_soft.Statement.{statement}
 use Rattle.clip_runs.proofs.leading_soft.Tie as tie

@@ -1,7 +1,7 @@
 -- By the test.
 use native.Mathlib.Omega.{arith}
 use borrow.Author.Tests.{eq-eqb, ne-eqb}
-use Rattle.clip_runs.specs.Clips.{lenIf}
+use Rattle.clip_run_rules.specs.Clips.{lenIf}
 use borrow.Author.Needs.{needs}
 use Rattle.clip_runs.proofs.length_if.Statement.{statement}
 use Rattle.clip_runs.proofs.length_if.Tie as tie

@@ -2,7 +2,7 @@
 use native.Mathlib.Omega.{arith}
 use Rattle.lists.proofs.ListLaws.{length-facing}
 use Rattle.oplist.specs.Ops.{opsOf}
-use Rattle.clip_runs.proofs.RunLaws.{outer-found}
+use Rattle.clip_run_rules.proofs.RunLaws.{outer-found}
 use borrow.Author.Needs.{needs}
 use Rattle.clip_runs.proofs.outer_runs.Statement.{statement}
 use Rattle.clip_runs.proofs.outer_runs.Tie as tie

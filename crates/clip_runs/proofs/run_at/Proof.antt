@@ -10,9 +10,9 @@ use Rattle.lists.specs.Lists.{facing, sumOf}
 use Rattle.lists.proofs.ListLaws.{length-facing}
 use Rattle.lists.proofs.Walks.{step, done}
 use Rattle.oplist.specs.Ops.{opsOf}
-use Rattle.clip_runs.specs.Clips.{softLen, hardLen, run, afterRun}
-use Rattle.clip_runs.specs.Walked.{inMask}
-use Rattle.clip_runs.proofs.RunLaws.{run-in, run-out, run-nil, rest-in, rest-out, rest-nil}
+use Rattle.clip_run_rules.specs.Clips.{softLen, hardLen, run, afterRun}
+use Rattle.clip_run_rules.specs.InnerWalked.{inMask}
+use Rattle.clip_run_rules.proofs.RunLaws.{run-in, run-out, run-nil, rest-in, rest-out, rest-nil}
 use Rattle.clip_runs.proofs.run_at.Statement.{statement}
 use Rattle.clip_runs.proofs.run_at.Tie as tie
 

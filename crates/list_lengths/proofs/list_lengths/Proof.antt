@@ -8,7 +8,7 @@ use mir.Facts.{toZ-ofZ}
 use mir.Val.{toZ, ofZ}
 use Rattle.lists.proofs.ListLaws.{length-facing}
 use Rattle.oplist.specs.Ops.{opsOf}
-use Rattle.clip_runs.proofs.EndLaws.{apart}
+use Rattle.clip_run_rules.proofs.EndLaws.{apart}
 use Rattle.list_lengths.proofs.LengthLaws.{no-ops, only-clips, none-are, six-are}
 use borrow.Author.Needs.{needs}
 use Rattle.list_lengths.proofs.list_lengths.Statement.{statement}

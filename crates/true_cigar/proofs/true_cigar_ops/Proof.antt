@@ -5,7 +5,7 @@ use mathlib.Core.List.{List}
 use borrow.Author.Needs.{needs}
 use Rattle.answers.specs.declared.Count.the-variants as Count
 use Rattle.answers.proofs.Unique.{settled, resettled}
-use Rattle.ops.specs.Ops.{copiedOps}
+use Rattle.copied_ops.specs.Copied.{copiedOps}
 use Rattle.tag_rules.proofs.HeldLaws.{reads-list, reads-none}
 use Rattle.true_rules.specs.True.{stopKept}
 use Rattle.true_cigar.proofs.true_cigar_ops.Statement.{statement}

@@ -9,8 +9,8 @@ use Rattle.answers.specs.declared.Count.the-variants.{Number}
 use Rattle.answers.proofs.Unique.{settled, outcome}
 use Rattle.oplist.specs.Ops.{opsOf}
 use borrow.Author.Needs.{needs}
-use Rattle.ops.proofs.copy_ops.Statement.{statement}
-use Rattle.ops.proofs.copy_ops.Tie as tie
+use Rattle.copied_ops.proofs.copy_ops.Statement.{statement}
+use Rattle.copied_ops.proofs.copy_ops.Tie as tie
 
 slice-aggregate-count : tie.Need-slice-aggregate-count
 slice-aggregate-count c = search needs

@@ -5,9 +5,9 @@ use mathlib.Core.List.{List}
 use borrow.Author.Needs.{needs}
 use borrow.Author.Tests.{lt-ltb, le-ltb}
 use Rattle.answers.proofs.Unique.{settled, resettled}
-use Rattle.ops.specs.Ops.{copiedOps, getOps}
-use Rattle.ops.proofs.get_cigar_ops.Statement.{statement}
-use Rattle.ops.proofs.get_cigar_ops.Tie as tie
+use Rattle.copied_ops.specs.Copied.{copiedOps, getOps}
+use Rattle.copied_ops.proofs.get_cigar_ops.Statement.{statement}
+use Rattle.copied_ops.proofs.get_cigar_ops.Tie as tie
 
 returns : tie.Need-returns
 unfolding getOps

@@ -16,9 +16,9 @@ use Rattle.lists.proofs.Tables.{below-same}
 use Rattle.lists.proofs.Walks.{sum-done}
 use Rattle.sam.specs.Op.{codeOf, isRef, isQuery, refLen, queryLen}
 use Rattle.ops.specs.Ops.{isClip}
-use Rattle.clip_runs.specs.Clips.{isSoft, lenIf, softLen, hardLen, run, afterRun, leadingClips, leadingSoft, leadingHard, hasInner, trailingSoft, trailingHard}
-use Rattle.clip_runs.specs.Walked.{RunIs}
-use Rattle.clip_runs.proofs.RunLaws.{run-sum, run-same, run-none, leading-parts}
+use Rattle.clip_run_rules.specs.Clips.{isSoft, lenIf, softLen, hardLen, run, afterRun, leadingClips, leadingSoft, leadingHard, hasInner, trailingSoft, trailingHard}
+use Rattle.clip_run_rules.specs.InnerWalked.{RunIs}
+use Rattle.clip_run_rules.proofs.RunLaws.{run-sum, run-same, run-none, leading-parts}
 
 -- ---- a list of clips only
 

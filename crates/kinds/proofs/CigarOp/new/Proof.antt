@@ -3,11 +3,11 @@ use Prim.Native.Nat.{ℕ}
 use mathlib.Core.Path.{ap}
 use borrow.Author.Tests.{eq-eqb, ne-eqb, lt-ltb, le-ltb}
 use Rattle.sam.specs.Op.{opOf}
-use Rattle.ops.specs.declared.NewOp.the-variants.{Op}
-use Rattle.ops.specs.Ops.{newOp}
+use Rattle.kinds.specs.declared.NewOp.the-variants.{Op}
+use Rattle.kinds.specs.Kinds.{newOp}
 use borrow.Author.Needs.{needs}
-use Rattle.ops.proofs.CigarOp.new.Statement.{statement}
-use Rattle.ops.proofs.CigarOp.new.Tie as tie
+use Rattle.kinds.proofs.CigarOp.new.Statement.{statement}
+use Rattle.kinds.proofs.CigarOp.new.Tie as tie
 
 returns : tie.Need-returns
 unfolding newOp

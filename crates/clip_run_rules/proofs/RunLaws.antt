@@ -13,8 +13,8 @@ use Rattle.lists.proofs.Absurd.{false-true}
 use Rattle.lists.proofs.Tables.{below-same}
 use Rattle.sam.specs.Op.{lenOf, codeOf}
 use Rattle.ops.specs.Ops.{isClip}
-use Rattle.clip_runs.specs.Clips.{isSoft, isHard, lenIf, softLen, hardLen, run, afterRun, leadingClips, leadingSoft, leadingHard, outerHard, nextSoft, inside}
-use Rattle.clip_runs.specs.Walked.{inMask, RunIs, OuterIs}
+use Rattle.clip_run_rules.specs.Clips.{isSoft, isHard, lenIf, softLen, hardLen, run, afterRun, leadingClips, leadingSoft, leadingHard, outerHard, nextSoft, inside}
+use Rattle.clip_run_rules.specs.InnerWalked.{inMask, RunIs, OuterIs}
 
 module _ (p : ℕ → Bool) where
   module _ (o : ℕ) (xs : List ℕ) where

@@ -6,7 +6,7 @@ use mathlib.Core.List.{List}
 use lib.ListN.{length, drop}
 use lib.Dec.{eqb}
 use Rattle.lists.specs.Lists.{sumOf}
-use Rattle.clip_runs.specs.Clips.{softLen, hardLen, run, afterRun, outerHard, nextSoft, inside}
+use Rattle.clip_run_rules.specs.Clips.{softLen, hardLen, run, afterRun, outerHard, nextSoft, inside}
 
 -- bit c of a mask is code c's
 abbrev pub inMask : ℕ → ℕ → Bool

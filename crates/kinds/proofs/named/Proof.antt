@@ -1,11 +1,12 @@
 -- Each arm is the table's entry at its code; past the table stand its defaults.
 use Prim.Native.Nat.{_≤_}
 use mathlib.Core.Path.{sym, ap, _∙_}
-use Rattle.ops.specs.Ops.{kindOf, letterOf}
-use Rattle.ops.proofs.CodeLaws.{past5, past9, no-kind, no-letter}
+use Rattle.ops.specs.Ops.{letterOf}
+use Rattle.kinds.specs.Kinds.{kindOf}
+use Rattle.kinds.proofs.KindLaws.{past5, past9, no-kind, no-letter}
 use borrow.Author.Needs.{needs}
-use Rattle.ops.proofs.named.Statement.{statement}
-use Rattle.ops.proofs.named.Tie as tie
+use Rattle.kinds.proofs.named.Statement.{statement}
+use Rattle.kinds.proofs.named.Tie as tie
 
 -- a code that is none of 0 to 8
 past8 : (c : tie.At-match-rest) → 9 ≤ c .before .args .code

@@ -1,11 +1,11 @@
 -- The one test is the definition's.
 use mathlib.Core.Path.{ap}
 use borrow.Author.Tests.{lt-ltb, le-ltb}
-use Rattle.ops.specs.declared.KindFound.the-variants.{Kind}
-use Rattle.ops.specs.Ops.{fromOpType}
+use Rattle.kinds.specs.declared.KindFound.the-variants.{Kind}
+use Rattle.kinds.specs.Kinds.{fromOpType}
 use borrow.Author.Needs.{needs}
-use Rattle.ops.proofs.CigarKind.from_op_type.Statement.{statement}
-use Rattle.ops.proofs.CigarKind.from_op_type.Tie as tie
+use Rattle.kinds.proofs.CigarKind.from_op_type.Statement.{statement}
+use Rattle.kinds.proofs.CigarKind.from_op_type.Tie as tie
 
 returns : tie.Need-returns
 unfolding fromOpType

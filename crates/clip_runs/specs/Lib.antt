@@ -1,2 +1,0 @@
-pub mod Clips
-pub mod Walked
