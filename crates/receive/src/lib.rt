@@ -9,6 +9,7 @@ ghost use Rattle.record_rules.specs.InnerPlan.{changeBy, Fits};
 ghost use Rattle.receive_rules.specs.Receiving.{compared, weighed, receivedAs, checkedStart, checkedEnd};
 ghost use Rattle.receive_rules.specs.InnerCompared.{behindOps, behindHeader};
 use answers::Refusal;
+use clip_rules::Plan;
 use receive_rules::Part;
 use receive_rules::Received;
 use record_rules::PlannedRecord;
@@ -77,7 +78,7 @@ fn compare_behind(got: &[u8], rec: &[u8], p: RecordPlan, start: bool) -> Receive
 {
     let name = little_endian::u8_at(rec, 8) as usize;
     let n = little_endian::u16_at(rec, 12) as usize;
-    let ops = p.ops;
+    let ops: Plan = p.ops;
     if !receive_parts::same_bytes(got, 32, rec, 32, name) {
         return Received::Differs(Part::Name);
     }

@@ -5,6 +5,7 @@ ghost use Prim.Native.Nat.{_+_, _≤_};
 ghost use lib.ListN.{length};
 ghost use Rattle.line_rules.specs.Line.{orDot, tabbed, lengthMark};
 ghost use Rattle.put_text.specs.Puts.{Put};
+use answers::Pos1;
 use ends_rules::Unclipped;
 
 // Whether the query length is that of the stored sequence, or `-` where none is stored.
@@ -27,7 +28,8 @@ pub fn put_five(five: Unclipped, out: &mut [u8], at: usize) -> usize
     ensures { λ r. ⌜ r ≤ at + 22 ⌝ }
 {
     if let Unclipped::At(p) = five {
-        return put_text::put_signed(p.0, out, at);
+        let place: Pos1 = p;
+        return put_text::put_signed(place.0, out, at);
     }
     put_text::put_bytes(b"\t.", out, at)
 }
