@@ -391,7 +391,7 @@ fn main() {
     }
     single(random);
     for n in [10, 100, 10_000, 65_535] {
-        for op in ["1M", "100M"] {
+        for op in ["1M", "100M", "1000M"] {
             foreseen(n, op);
         }
         plain(n, "all D", |length| length << 4 | 2, random);

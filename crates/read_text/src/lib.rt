@@ -42,7 +42,7 @@ fn alike(text: &[u8], from: usize, had: usize, digits: usize, out: &mut [u32]) -
 {
     let mut n = had;
     let mut i = from;
-    while 4 <= text.len() - i {
+    while 5 <= text.len() - i {
         let Token::Op(len, code, next) = tokens::alike_token(text, i, digits) else {
             break;
         };
@@ -89,12 +89,13 @@ fn stretch(text: &[u8], seen: Reached, out: &mut [u32]) -> Reach
     Reach::To(Reached { stage: p, n, at: i })
 }
 
-// How many digits each of sixteen ops has that take so many bytes, if it is one number for all, at most three; else 0. A guess, which no answer rests on.
+// How many digits each of sixteen ops has that take so many bytes, if it is one number for all, at most four; else 0. A guess, which no answer rests on.
 fn digits_of(bytes: usize) -> usize {
     match bytes {
         32 => 1,
         48 => 2,
         64 => 3,
+        80 => 4,
         _ => 0,
     }
 }

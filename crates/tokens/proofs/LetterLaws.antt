@@ -1,4 +1,4 @@
--- An op of one to three digits and a letter, byte by byte.
+-- An op of one to four digits and a letter, byte by byte.
 use Prim.Native.Nat.{ℕ, _+_, _-_, _*_, _≤_, _<_}
 use mathlib.Core.Path.{_≡_, refl, sym, ap, _∙_, subst}
 use mathlib.Core.Bool.{Bool, true, false, cond}
@@ -70,6 +70,28 @@ module _ (s : List ℕ) (at first second third : ℕ) (room : at + 4 ≤ length 
   short-op false three d₂ d₃ len code next p z c k q =
       let a = a-digit first d₁ in
       letter-on s at (at + 1) _ second one-digit e₂ (omega arith) (omega arith) (omega arith) len code next p (omega arith) z (omega arith) (c ∙ ap letterCode (sym e₂)) k
+
+-- the op at a place with five bytes of which the first four are digits
+module _ (s : List ℕ) (at first second third fourth : ℕ) (room : at + 5 ≤ length s)
+    (e₁ : first ≡ getD s at 0) (e₂ : second ≡ getD s (at + 1) 0) (e₃ : third ≡ getD s (at + 2) 0) (e₄ : fourth ≡ getD s (at + 3) 0)
+    (d₁ : isDigit first ≡ true) (d₂ : isDigit second ≡ true) (d₃ : isDigit third ≡ true) (d₄ : isDigit fourth ≡ true) where
+  four-digits : Reading s at (at + 4) (((first * 10 + second) * 10 + third) * 10 + fourth - 53328)
+  four-digits =
+      let k = a-digit first d₁ in
+      let l = a-digit second d₂ in
+      let m = a-digit third d₃ in
+      let n = a-digit fourth d₄ in
+      digit-on s at (at + 3) ((first * 10 + second) * 10 + third - 5328) fourth (three-digits s at first second third (omega arith) e₁ e₂ e₃ d₁ d₂ d₃) e₄ (omega arith) (omega arith)
+      (at + 4) (((first * 10 + second) * 10 + third) * 10 + fourth - 53328) (omega arith) d₄ (omega arith) (omega arith)
+
+  pub four-op : (len code next : ℕ) → len ≡ ((first * 10 + second) * 10 + third) * 10 + fourth - 53328
+      → (len ≡ 0 → ⊥) → code ≡ letterCode (getD s (at + 4) 0) → code ≤ 8 → next ≡ at + 5 → OpAt s at len code next
+  four-op len code next p z c k q =
+      let a = a-digit first d₁ in
+      let l = a-digit second d₂ in
+      let m = a-digit third d₃ in
+      let n = a-digit fourth d₄ in
+      letter-on s at (at + 4) _ _ four-digits refl (omega arith) (omega arith) (omega arith) len code next p (omega arith) z (omega arith) c k
 
 -- a letter that is looked up after the number
 pub lettered-short : (s : List ℕ) (at len letter next : ℕ) (r : Token) → Lettered len letter next r

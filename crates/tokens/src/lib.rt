@@ -131,10 +131,10 @@ fn lettered(len: u32, letter: u8, next: usize) -> Token
     Token::Op(len, code, next)
 }
 
-// The op at a place of a text if it has so many digits, one, two or three, of which the first is no 0. Each byte is read where the one before it was right:
+// The op at a place of a text if it has so many digits, one, two, three or four, of which the first is no 0. Each byte is read where the one before it was right:
 // so the place after the op doesn't wait for its bytes, which pays where the number of digits is foreseen.
 pub fn alike_token(text: &[u8], at: usize, digits: usize) -> Token
-    requires { ⌜ at + 4 ≤ length (now text) ⌝ }
+    requires { ⌜ at + 5 ≤ length (now text) ⌝ }
     ensures { λ r. ⌜ ShortAt (now (text .entry)) at r ⌝ }
 {
     let first = text[at];
@@ -158,7 +158,15 @@ pub fn alike_token(text: &[u8], at: usize, digits: usize) -> Token
         return Token::Bad;
     }
     let c = b * 10 + wide(third);
-    lettered(c - 5328, text[at + 3], at + 4)
+    let fourth = text[at + 3];
+    if digits == 3 {
+        return lettered(c - 5328, fourth, at + 4);
+    }
+    if !is_digit(fourth) {
+        return Token::Bad;
+    }
+    let d = c * 10 + wide(fourth);
+    lettered(d - 53328, text[at + 4], at + 5)
 }
 
 // The op at a place of a text, digits and a letter, of which the short form may be known.

@@ -8,7 +8,7 @@ use borrow.Author.Needs.{needs}
 use borrow.Author.Tests.{not-false}
 use Rattle.sam.specs.Text.{isDigit}
 use Rattle.sam.proofs.TextLaws.{is-digit, a-digit}
-use Rattle.tokens.proofs.LetterLaws.{code-no-digit, short-op, lettered-short}
+use Rattle.tokens.proofs.LetterLaws.{code-no-digit, short-op, four-op, lettered-short}
 use Rattle.tokens.proofs.alike_token.Statement.{statement}
 use Rattle.tokens.proofs.alike_token.Tie as tie
 
@@ -28,6 +28,9 @@ second c = let t = c .before in ap isDigit (c .wide2 .ensures .0) ∙ sym (t .be
 
 third : (c : tie.After-wide3) → isDigit (c .wide3 .result) ≡ true
 third c = let t = c .before in ap isDigit (c .wide3 .ensures .0) ∙ sym (t .before .is-digit2 .ensures) ∙ not-false _ (t .if5 .left)
+
+fourth : (c : tie.After-wide4) → isDigit (c .wide4 .result) ≡ true
+fourth c = let t = c .before in ap isDigit (c .wide4 .ensures .0) ∙ sym (t .before .is-digit3 .ensures) ∙ not-false _ (t .if7 .left)
 
 shared-slice-read-first : tie.Need-shared-slice-read-first
 shared-slice-read-first c = search needs
@@ -125,29 +128,30 @@ wide-requires-3 c κs = search needs
 add-c : tie.Need-add-c
 add-c c = search needs
 
+add-fourth : tie.Need-add-fourth
+add-fourth c = search needs
+
+shared-slice-read-fourth : tie.Need-shared-slice-read-fourth
+shared-slice-read-fourth c = search needs
+
 sub-lettered-3 : tie.Need-sub-lettered-3
 sub-lettered-3 c =
-    let w = c .before .before .before .before .before in
-    let h = first (w .before .before .before .before .before) in
-    let d = a-digit (w .wide2 .result) (second w) in
-    let f = a-digit (c .wide3 .result) (third c) in
+    let u = c .before .before in
+    let v = u .before .before .before .before .before in
+    let h = first (v .before .before .before .before .before) in
+    let d = a-digit (v .wide2 .result) (second v) in
+    let f = a-digit (u .wide3 .result) (third u) in
     omega (arith, h .0, d .least, f .least)
 
 add-lettered-3 : tie.Need-add-lettered-3
 add-lettered-3 c = search needs
-
-shared-slice-read-lettered : tie.Need-shared-slice-read-lettered
-shared-slice-read-lettered c = search needs
-
-add-lettered-4 : tie.Need-add-lettered-4
-add-lettered-4 c = search needs
 
 lettered-requires-3 : tie.Need-lettered-requires-3
 lettered-requires-3 c κs = search needs
 
 returns-6 : tie.Need-returns-6
 returns-6 c =
-    let u = c .before .before in
+    let u = c .before .before .before in
     let v = u .before .before .before .before .before in
     let w = v .before .before .before .before .before in
     let a = w .before .before .before .before .before .args in
@@ -157,6 +161,59 @@ returns-6 c =
     lettered-short (a .text .now) (a .at) _ _ _ (c .lettered3 .result) (c .lettered3 .ensures)
     (λ code e k. short-op (a .text .now) (a .at) (w .wide .result) (v .wide2 .result) (u .wide3 .result) (omega arith) (w .wide .ensures .0) (v .wide2 .ensures .0) (u .wide3 .ensures .0) (first-digit w)
     true true (second v) (third u) _ code _ refl (λ z. omega (arith, z, h .0, d .least, f .least)) e k refl)
+
+is-digit-requires-3 : tie.Need-is-digit-requires-3
+is-digit-requires-3 c κs = search needs
+
+returns-7 : tie.Need-returns-7
+returns-7 c = search needs
+
+mul-d : tie.Need-mul-d
+mul-d c = search needs
+
+wide-requires-4 : tie.Need-wide-requires-4
+wide-requires-4 c κs = search needs
+
+add-d : tie.Need-add-d
+add-d c = search needs
+
+sub-lettered-4 : tie.Need-sub-lettered-4
+sub-lettered-4 c =
+    let u = c .before .before .before .before .before in
+    let v = u .before .before .before .before .before in
+    let h = first (v .before .before .before .before .before) in
+    let d = a-digit (v .wide2 .result) (second v) in
+    let f = a-digit (u .wide3 .result) (third u) in
+    let g = a-digit (c .wide4 .result) (fourth c) in
+    omega (arith, h .0, d .least, f .least, g .least)
+
+add-lettered-4 : tie.Need-add-lettered-4
+add-lettered-4 c = search needs
+
+shared-slice-read-lettered : tie.Need-shared-slice-read-lettered
+shared-slice-read-lettered c = search needs
+
+add-lettered-5 : tie.Need-add-lettered-5
+add-lettered-5 c = search needs
+
+lettered-requires-4 : tie.Need-lettered-requires-4
+lettered-requires-4 c κs = search needs
+
+returns-8 : tie.Need-returns-8
+returns-8 c =
+    let t = c .before .before in
+    let u = t .before .before .before .before .before in
+    let v = u .before .before .before .before .before in
+    let w = v .before .before .before .before .before in
+    let a = w .before .before .before .before .before .args in
+    let h = first w in
+    let d = a-digit (v .wide2 .result) (second v) in
+    let f = a-digit (u .wide3 .result) (third u) in
+    let g = a-digit (t .wide4 .result) (fourth t) in
+    lettered-short (a .text .now) (a .at) _ _ _ (c .lettered4 .result) (c .lettered4 .ensures)
+    (λ code e k. four-op (a .text .now) (a .at) (w .wide .result) (v .wide2 .result) (u .wide3 .result) (t .wide4 .result) (omega arith)
+    (w .wide .ensures .0) (v .wide2 .ensures .0) (u .wide3 .ensures .0) (t .wide4 .ensures .0) (first-digit w) (second v) (third u) (fourth t)
+    _ code _ refl (λ z. omega (arith, z, h .0, d .least, f .least, g .least)) e k refl)
 
 pub alike-token-spec : {M : Type 1} → statement M
 alike-token-spec =
@@ -188,9 +245,20 @@ alike-token-spec =
     mul-c
     wide-requires-3
     add-c
+    add-fourth
+    shared-slice-read-fourth
     sub-lettered-3
     add-lettered-3
-    shared-slice-read-lettered
-    add-lettered-4
     lettered-requires-3
-    returns-6)
+    returns-6
+    is-digit-requires-3
+    returns-7
+    mul-d
+    wide-requires-4
+    add-d
+    sub-lettered-4
+    add-lettered-4
+    shared-slice-read-lettered
+    add-lettered-5
+    lettered-requires-4
+    returns-8)
