@@ -43,7 +43,7 @@ fn alike(text: &[u8], from: usize, had: usize, digits: usize, out: &mut [u32]) -
     let mut n = had;
     let mut i = from;
     while 5 <= text.len() - i {
-        let Token::Op(len, code, next) = tokens::alike_token(text, i, digits) else {
+        let Token::Op(len, code, next) = alike_tokens::alike_token(text, i, digits) else {
             break;
         };
         if !validity::is_inner(code) {

@@ -3,8 +3,8 @@ use mathlib.Core.Path.{refl, _∙_}
 use native.Mathlib.Omega.{arith}
 use borrow.Author.Needs.{needs}
 use Rattle.letters.proofs.Table.{known}
-use Rattle.tokens.proofs.lettered.Statement.{statement}
-use Rattle.tokens.proofs.lettered.Tie as tie
+use Rattle.alike_tokens.proofs.lettered.Statement.{statement}
+use Rattle.alike_tokens.proofs.lettered.Tie as tie
 
 code-at-requires : tie.Need-code-at-requires
 code-at-requires c κs = search needs

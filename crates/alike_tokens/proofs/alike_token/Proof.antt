@@ -8,9 +8,9 @@ use borrow.Author.Needs.{needs}
 use borrow.Author.Tests.{not-false}
 use Rattle.sam.specs.Text.{isDigit}
 use Rattle.sam.proofs.TextLaws.{is-digit, a-digit}
 use Rattle.tokens.proofs.LetterLaws.{code-no-digit, short-op, four-op, lettered-short}
-use Rattle.tokens.proofs.alike_token.Statement.{statement}
-use Rattle.tokens.proofs.alike_token.Tie as tie
+use Rattle.alike_tokens.proofs.alike_token.Statement.{statement}
+use Rattle.alike_tokens.proofs.alike_token.Tie as tie
 
 -- the bytes that were widened are digits, and the first is no 0
 first : (c : tie.After-wide) → (48 < c .wide .result) × (c .wide .result ≤ 57)

@@ -2,8 +2,8 @@
 use native.Mathlib.Omega.{arith}
 use borrow.Author.Tests.{leb-true}
 use Rattle.lists.proofs.Absurd.{never}
-use Rattle.tokens.proofs.is_first.Statement.{statement}
-use Rattle.tokens.proofs.is_first.Tie as tie
+use Rattle.alike_tokens.proofs.is_first.Statement.{statement}
+use Rattle.alike_tokens.proofs.is_first.Tie as tie
 
 returns : tie.Need-returns
 returns c = λ e. never (cc)
