@@ -6,7 +6,7 @@ use native.Mathlib.Omega.{arith}
 use lib.ListN.{length, take, drop, length-drop, length-append}
 use lib.Seq.{take-add, take-all, drop-drop, length-take-le}
 use Rattle.lists.specs.Lists.{splice}
-use Rattle.lists.proofs.ListLaws.{length-splice, two-parts}
+use Rattle.lists.proofs.ListLaws.{splice-append, length-splice, two-parts}
 use Rattle.lists.proofs.Splices.{front-step, part-of-front}
 use Rattle.signed.specs.Whole.{bits32}
 use Rattle.sam.specs.Record.{nameLenOf, seqLenOf, basesStart, qualsStart, tagsStart, uint32}
@@ -67,3 +67,22 @@ tail-is b d d₁ d₂ d₃ from n at second x y z ex ey ez t f e g p q r =
     ∙ ap (λ (o : List ℕ). packed o ++ (u ++ tagsPart b)) (bases-left b from n f)
     ∙ ap (λ (o : List ℕ). packed (part (recordBases b) from n) ++ (o ++ tagsPart b))
     (ap (take n) (sym (drop-drop from (qualsStart b) b)) ∙ sym (part-of-front (drop (qualsStart b) b) from n (seqLenOf b) f)))
+
+-- the same, where the last quality stays, and so qualities and tags stand side by side
+pub tail-at-once : (b d d₁ d₂ : List ℕ) (from n at second x y z : ℕ) → x ≡ basesStart b → y ≡ qualsStart b → z ≡ tagsStart b → tagsStart b ≤ length b → from + n ≤ seqLenOf b
+    → second ≡ at + (n + 1) / 2 → second + n ≤ length d → y + from + n ≡ z
+    → d₁ ≡ splice d at (packed (take n (drop from (basesOf (drop x b))))) → length d₁ ≡ length d → d₂ ≡ splice d₁ second (take (length b - (y + from)) (drop (y + from) b))
+    → d₂ ≡ splice d at (packed (part (recordBases b) from n) ++ (part (qualsPart b) from n ++ tagsPart b))
+tail-at-once b d d₁ d₂ from n at second x y z ex ey ez t f e g k p l q =
+    let s : List ℕ = drop (y + from) b in
+    let v : List ℕ = take n s in
+    let m : length v ≡ n = length-take-le n s (let o = length-drop (y + from) b in omega arith) in
+    let i : length b - (y + from) ≡ n + (length b - z) = omega arith in
+    let j : y + from + n ≡ z = k in
+    tail-is b d d₁ (splice d₁ second v) d₂ from n at second x y z ex ey ez t f e g p refl
+    (q
+    ∙ ap (λ (o : ℕ). splice d₁ second (take o s)) i
+    ∙ ap (splice d₁ second) (take-add n (length b - z) s)
+    ∙ sym (splice-append d₁ second v (omega arith) (take (length b - z) (drop n s)))
+    ∙ ap (λ (o : ℕ). splice (splice d₁ second v) (second + o) (take (length b - z) (drop n s))) m
+    ∙ ap (λ (o : List ℕ). splice (splice d₁ second v) (second + n) (take (length b - z) o)) (drop-drop n (y + from) b ∙ ap (λ (o : ℕ). drop o b) j))

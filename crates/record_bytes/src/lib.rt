@@ -25,7 +25,7 @@ pub fn put_front(rec: &[u8], p: RecordPlan, start: bool, out: &mut [u8])
     record_parts::put_u32(p.len, out, 16);
 }
 
-// The bases and qualities that stay, and the tags.
+// The bases and qualities that stay, and the tags. Where the last quality stays, the qualities and the tags stand side by side in the record, and are copied as one.
 pub fn put_tail(rec: &[u8], from: usize, n: usize, out: &mut [u8], at: usize)
     requires { ⌜ tagsStart (now rec) ≤ length (now rec) ⌝ }
     requires { ⌜ from + n ≤ seqLenOf (now rec) ⌝ }
@@ -35,8 +35,13 @@ pub fn put_tail(rec: &[u8], from: usize, n: usize, out: &mut [u8], at: usize)
     let bases = record_parts::bases_start(rec);
     let quals = record_parts::quals_start(rec);
     let tags = record_parts::tags_start(rec);
+    let first = quals + from;
     let second = at + (n + 1) / 2;
     record_bases::put_bases(rec, bases, from, n, out, at);
-    record_parts::copy_bytes(rec, quals + from, n, out, second);
+    if first + n == tags {
+        record_parts::copy_bytes(rec, first, rec.len() - first, out, second);
+        return;
+    }
+    record_parts::copy_bytes(rec, first, n, out, second);
     record_parts::copy_bytes(rec, tags, rec.len() - tags, out, second + n);
 }
