@@ -1,11 +1,12 @@
 // Document 01, module 3: the one walk that sums the reference and query bases of an op list, and a sum as a signed number. An inner crate of the lengths.
 ghost use mathlib.Core.Path.{_≡_};
-ghost use Prim.Native.Nat.{_+_, _≤_};
+ghost use mathlib.Core.Bool.{cond};
+ghost use Prim.Native.Nat.{_+_, _*_, _≤_, _<_};
 ghost use lib.ListN.{length, drop};
 ghost use lib.IntN.{pos};
 ghost use Rattle.lists.specs.Lists.{sumOf};
 ghost use Rattle.signed.specs.Whole.{clamp32};
-ghost use Rattle.sam.specs.Op.{refLen, queryLen};
+ghost use Rattle.sam.specs.Op.{lenOf, isRef, isQuery, refLen, queryLen};
 ghost use Rattle.oplist.specs.Ops.{opsOf};
 ghost use Rattle.length_rules.specs.Lengths.{asInt};
 use answers::Int;
@@ -45,6 +46,56 @@ pub fn sums(words: &[u32], rec: &[u8], list: Ops) -> Totals
     ensures { λ r. ⌜ (r .refs ≤ 1152921504606846976) × (r .query ≤ 1152921504606846976) ⌝ }
 {
     sums_between(words, rec, list, 0, oplist::count(words, rec, list))
+}
+
+// What each base of an op with this code counts in a sum of both: 1 for the reference, 2^32 for the query. Every code has an arm, so that the compiler makes one load of it.
+fn weight(code: u32) -> u64
+    requires { ⌜ code < 16 ⌝ }
+    ensures { λ r. ⌜ r ≡ cond (isRef code) 1 0 + cond (isQuery code) 4294967296 0 ⌝ }
+{
+    match code {
+        0 => 0x1_0000_0001,
+        1 => 0x1_0000_0000,
+        2 => 1,
+        3 => 1,
+        4 => 0x1_0000_0000,
+        5 => 0,
+        6 => 0,
+        7 => 0x1_0000_0001,
+        8 => 0x1_0000_0001,
+        9 => 0,
+        10 => 0,
+        11 => 0,
+        12 => 0,
+        13 => 0,
+        14 => 0,
+        _ => 0,
+    }
+}
+
+// The reference bases of an op, and 2^32 times its query bases.
+fn both_lens(op: u32) -> u64
+    ensures { λ r. ⌜ r ≡ refLen op + 4294967296 * queryLen op ⌝ }
+{
+    (op / 16) as u64 * weight(op % 16)
+}
+
+// Both sums of all ops in one number, for lists that are not too long to be clipped: the query's in the high half.
+pub fn short_sums(words: &[u32], rec: &[u8], list: Ops) -> Totals
+    requires { ⌜ sumOf lenOf (opsOf (now words) (now rec) list) < 268435456 ⌝ }
+    ensures { λ r. ⌜ (r .refs ≡ sumOf refLen (opsOf (now (words .entry)) (now (rec .entry)) list)) × (r .query ≡ sumOf queryLen (opsOf (now (words .entry)) (now (rec .entry)) list)) ⌝ }
+{
+    let n = oplist::count(words, rec, list);
+    let mut both: u64 = 0;
+    let mut i: usize = 0;
+    while i < n {
+        both += both_lens(oplist::op_at(words, rec, list, i));
+        i += 1;
+    }
+    Totals {
+        refs: both % 0x1_0000_0000,
+        query: both / 0x1_0000_0000,
+    }
 }
 
 // n as a signed number, or refusal 4.

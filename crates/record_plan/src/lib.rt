@@ -6,7 +6,7 @@ ghost use lib.IntN.{pos, _+ℤ_};
 ghost use lib.ListN.{length};
 ghost use Rattle.lists.specs.Lists.{sumOf};
 ghost use Rattle.signed.specs.Whole.{checked};
-ghost use Rattle.sam.specs.Op.{refLen};
+ghost use Rattle.sam.specs.Op.{lenOf, refLen};
 ghost use Rattle.sam.specs.Record.{posOf, opCountOf, tagsStart};
 ghost use Rattle.oplist.specs.Ops.{recordOps};
 ghost use Rattle.record_rules.specs.Clipping.{differs, binAt, binned, placed, counted, clippedFate};
@@ -112,11 +112,11 @@ fn counted(bam: &[u8], p: Plan, start: bool) -> PlannedRecord
     requires { ⌜ tagsStart (now bam) ≤ length (now bam) ⌝ }
     requires { ⌜ p .heads ≤ 2 ⌝ }
     requires { ⌜ p .skip ≤ opCountOf (now bam) ⌝ }
-    requires { ⌜ sumOf refLen (recordOps (now bam)) < 268435456 ⌝ }
+    requires { ⌜ sumOf lenOf (recordOps (now bam)) < 268435456 ⌝ }
     requires { ⌜ sumOf refLen (recordOps (now bam)) ≡ p .lost + sumOf refLen (plannedOps start (recordOps (now bam)) p) ⌝ }
     ensures { λ r. ⌜ FateIs (now (bam .entry)) start (counted (now (bam .entry)) (plannedOps start (recordOps (now (bam .entry))) p) start (cond start (p .lost) 0)) r ⌝ }
 {
-    let total = op_sums::sums(&[], bam, oplist::of_record(bam));
+    let total = op_sums::short_sums(&[], bam, oplist::of_record(bam));
     let len = little_endian::u32_at(bam, 16) as u64;
     if query_differs(len, total.query) {
         return PlannedRecord::Refused(Refusal::QueryDiffers);

@@ -13,7 +13,7 @@ use Rattle.sam.specs.Record.{seqLenOf, posOf, opCountOf}
 use Rattle.oplist.specs.Ops.{recordOps}
 use Rattle.record_rules.specs.Clipping.{differs, placed}
 use Rattle.record_rules.specs.InnerPlan.{plannedOps}
-use Rattle.record_rules.proofs.PlanLaws.{refated, planned-count, ops-count, differs-is, over-is, counted-is}
+use Rattle.record_rules.proofs.PlanLaws.{refated, refs-small, planned-count, ops-count, differs-is, over-is, counted-is}
 use borrow.Author.Needs.{needs}
 use Rattle.record_plan.proofs.counted.Statement.{statement}
 use Rattle.record_plan.proofs.counted.Tie as tie
@@ -33,23 +33,23 @@ module _ (q : tie.After-query-differs) where
       let m = planned-count (a .start) (recordOps (a .bam .now)) (a .p) (first .pre .1 .0) (omega arith) in
       omega arith
 
-  refs : q .before .before .sums .result .refs ≡ sumOf refLen (recordOps (first .args .bam .now))
-  refs = q .before .before .sums .ensures .0 .0 ∙ ap (sumOf refLen) (q .before .before .before .of-record .ensures .0 [])
+  refs : q .before .before .short-sums .result .refs ≡ sumOf refLen (recordOps (first .args .bam .now))
+  refs = q .before .before .short-sums .ensures .0 ∙ ap (sumOf refLen) (q .before .before .before .of-record .ensures .0 [])
 
   tested : q .query-differs .result ≡ differs (seqLenOf (first .args .bam .now)) (sumOf queryLen (recordOps (first .args .bam .now)))
   tested =
       q .query-differs .ensures
-      ∙ ap (λ (n : ℕ). differs n (q .before .before .sums .result .query)) (q .before .u32-at .ensures)
-      ∙ ap (differs (seqLenOf (first .args .bam .now))) (q .before .before .sums .ensures .0 .1 ∙ ap (sumOf queryLen) (q .before .before .before .of-record .ensures .0 []))
+      ∙ ap (λ (n : ℕ). differs n (q .before .before .short-sums .result .query)) (q .before .u32-at .ensures)
+      ∙ ap (differs (seqLenOf (first .args .bam .now))) (q .before .before .short-sums .ensures .1 ∙ ap (sumOf queryLen) (q .before .before .before .of-record .ensures .0 []))
 
-slice-aggregate-sums : tie.Need-slice-aggregate-sums
-slice-aggregate-sums c = search needs
+slice-aggregate-short-sums : tie.Need-slice-aggregate-short-sums
+slice-aggregate-short-sums c = search needs
 
 of-record-requires : tie.Need-of-record-requires
 of-record-requires c κs = search needs
 
-sums-requires : tie.Need-sums-requires
-sums-requires c κs = search needs
+short-sums-requires : tie.Need-short-sums-requires
+short-sums-requires c κs = rw (c .of-record .ensures .0 []) (c .before .before .before .pre .1 .1 .1 .0)
 
 u32-at-requires : tie.Need-u32-at-requires
 u32-at-requires c κs = search needs
@@ -89,7 +89,8 @@ placed-requires : tie.Need-placed-requires
 placed-requires c κs =
     let q = c .before .before .before .before .before .before in
     let h = first q .pre in
-    (h .0, (h .1 .0, (h .1 .1 .0, ((omega (arith, refs q, h .1 .1 .1 .0), omega (arith, h .1 .1 .1 .0, h .1 .1 .1 .1)), omega (arith, refs q, h .1 .1 .1 .1)))))
+    let s = refs-small (recordOps (first q .args .bam .now)) in
+    (h .0, (h .1 .0, (h .1 .1 .0, ((omega (arith, refs q, s, h .1 .1 .1 .0), omega (arith, s, h .1 .1 .1 .0, h .1 .1 .1 .1)), omega (arith, refs q, h .1 .1 .1 .1)))))
 
 returns-3 : tie.Need-returns-3
 returns-3 c =
@@ -112,9 +113,9 @@ pub counted-spec : {M : Type 1} → statement M
 counted-spec =
     tie.close
     (tie.spec
-    slice-aggregate-sums
+    slice-aggregate-short-sums
     of-record-requires
-    sums-requires
+    short-sums-requires
     u32-at-requires
     cast-len
     query-differs-requires

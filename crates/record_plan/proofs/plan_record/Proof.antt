@@ -10,7 +10,7 @@ use Rattle.clip_rules.specs.declared.Planned.{Planned}
 use Rattle.clip_rules.specs.declared.Planned.the-variants as Planned
 use Rattle.clip_rules.specs.InnerPlan.{PlannedIs}
 use Rattle.record_rules.specs.Clipping.{counted, startCount}
-use Rattle.record_rules.proofs.PlanLaws.{refated, refs-small, ops-count, planned-is, count-is, refs-are, skip-fits, short-is, overrun-is, refused-is, within-is}
+use Rattle.record_rules.proofs.PlanLaws.{refated, ops-count, planned-is, count-is, refs-are, skip-fits, short-is, overrun-is, refused-is, within-is}
 use borrow.Author.Needs.{needs}
 use Rattle.record_plan.proofs.plan_record.Statement.{statement}
 use Rattle.record_plan.proofs.plan_record.Tie as tie
@@ -78,7 +78,6 @@ counted-requires c κs =
     let g = c .before in
     let a = first (g .before .before) .args in
     let P = made g .2 .1 in
-    let s = refs-small (recordOps (a .bam .now)) in
     let n = ops-count (a .bam .now) (whole (g .before .before)) in
     let k = skip-fits (recordOps (a .bam .now)) (a .start) (a .amount) (g .p .given .0 .0) P in
     (whole (g .before .before), (P .heads-in, (omega arith, (omega (arith, made g .1), refs-are (recordOps (a .bam .now)) (a .start) (a .amount) (g .p .given .0 .0) P))))
