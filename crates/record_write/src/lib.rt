@@ -28,12 +28,12 @@ pub fn clip_record_end(bam: &[u8], amount: u64, out: &mut [u8]) -> Count
     clip::without_count(clip_record(bam, amount, false, out))
 }
 
-// Both ends.
+// Both ends. The record is lent anew to each call, so that its place and its length are handed on in registers: passed on as it stands it is copied, sixteen bytes that were stored as two numbers, for which the machine waits longer than for any of the copies.
 fn clip_record(bam: &[u8], amount: u64, start: bool, out: &mut [u8]) -> Clipped
     ensures { λ r. ⌜ Settled (written (now (bam .entry)) (clippedFate (now (bam .entry)) amount start) (now (out .entry))) r (now (out .exit)) ⌝ }
 {
-    match record_plan::plan_record(bam, amount, start) {
-        PlannedRecord::Made(p) => put_record(bam, p, start, out),
+    match record_plan::plan_record(&*bam, amount, start) {
+        PlannedRecord::Made(p) => put_record(&*bam, p, start, out),
         PlannedRecord::Refused(why) => Clipped::Refused(why),
     }
 }
