@@ -8,6 +8,8 @@ use lib.ListN.{length, getD, take, drop, set, length-drop}
 use lib.Seq.{getD-drop, take-suc, take-suc-set, take-add, take-append-seam, drop-append-add, drop-drop, length-take-le}
 use Rattle.lists.specs.Lists.{splice}
 use Rattle.lists.proofs.ListLaws.{splice-append, length-splice}
+use Rattle.sam.specs.Record.{le32, opsIn, uint32, opBytes}
+use Rattle.sam.proofs.PartLaws.{ops-stand}
 
 -- one turn of holding a list's elements
 pub hold-turn : (l s : List ℕ) (from i : ℕ) → i < length l → from + i < length s → take i l ≡ take i (drop from s) → take (i + 1) (set l i (getD s (from + i) 0)) ≡ take (i + 1) (drop from s)
@@ -46,7 +48,7 @@ over-written d at us ws h k =
     ∙ ap (λ (n : ℕ). drop n d) g)
 
 -- k elements from m on, where the first j are written and m ≤ j ≤ m + k: the first m + k are
-pub block-written : (d s : List ℕ) (at from m k j : ℕ) → m ≤ j → j ≤ m + k → from + (m + k) ≤ length s → at + (m + k) ≤ length d
+block-written : (d s : List ℕ) (at from m k j : ℕ) → m ≤ j → j ≤ m + k → from + (m + k) ≤ length s → at + (m + k) ≤ length d
     → splice (splice d at (take j (drop from s))) (at + m) (take k (drop (from + m) s)) ≡ splice d at (take (m + k) (drop from s))
 block-written d s at from m k j h₁ h₂ f g =
     let S : List ℕ = drop from s in
@@ -67,3 +69,17 @@ block-written d s at from m k j h₁ h₂ f g =
     ∙ ap (λ (i : ℕ). splice (splice d at vs) (at + i) ws) (sym a)
     ∙ splice-append d at vs (omega arith) ws
     ∙ ap (splice d at) (sym (take-add m k S))
+
+-- the same of two copies, the second of them from m on
+pub two-blocks : (d d₁ d₂ s : List ℕ) (at from j m k n : ℕ) → m + k ≡ n → m ≤ j → j ≤ n → from + n ≤ length s → at + n ≤ length d
+    → d₁ ≡ splice d at (take j (drop from s)) → d₂ ≡ splice d₁ (at + m) (take k (drop (from + m) s)) → d₂ ≡ splice d at (take n (drop from s))
+two-blocks d d₁ d₂ s at from j m k n e h₁ h₂ f g p q =
+    q
+    ∙ ap (λ (l : List ℕ). splice l (at + m) (take k (drop (from + m) s))) p
+    ∙ block-written d s at from m k j h₁ (omega arith) (omega arith) (omega arith)
+    ∙ ap (λ (i : ℕ). splice d at (take i (drop from s))) e
+
+-- four bytes as they stand are those of their number
+pub four-stand : (d d₁ s : List ℕ) (at from x : ℕ) → ((i : ℕ) → getD s i 0 < 256) → from + 4 ≤ length s → x ≡ le32 s from → d₁ ≡ splice d at (uint32 x) → d₁ ≡ splice d at (take 4 (drop from s))
+unfolding opBytes opsIn
+four-stand d d₁ s at from x w h e p = p ∙ ap (λ (n : ℕ). splice d at (uint32 n)) e ∙ ap (splice d at) (sym (ops-stand s from 1 w h))

@@ -38,23 +38,102 @@ fn copy_sixteen(rec: &[u8], from: usize, out: &mut [u8], at: usize)
     }
 }
 
-// Copies n bytes, sixteen at a time; the last sixteen may be copied twice in part.
-pub fn copy_bytes(rec: &[u8], from: usize, n: usize, out: &mut [u8], at: usize)
+// Copies four bytes, as a number.
+fn copy_four(rec: &[u8], from: usize, out: &mut [u8], at: usize)
+    requires { ⌜ from + 4 ≤ length (now rec) ⌝ }
+    requires { ⌜ at + 4 ≤ length (now out) ⌝ }
+    ensures { λ _. ⌜ now (out .exit) ≡ splice (now (out .entry)) at (take 4 (drop from (now (rec .entry)))) ⌝ }
+{
+    put_u32(little_endian::u32_at(rec, from), out, at);
+}
+
+// Copies eight bytes.
+fn copy_eight(rec: &[u8], from: usize, out: &mut [u8], at: usize)
+    requires { ⌜ from + 8 ≤ length (now rec) ⌝ }
+    requires { ⌜ at + 8 ≤ length (now out) ⌝ }
+    ensures { λ _. ⌜ now (out .exit) ≡ splice (now (out .entry)) at (take 8 (drop from (now (rec .entry)))) ⌝ }
+{
+    copy_four(rec, from, out, at);
+    copy_four(rec, from + 4, out, at + 4);
+}
+
+// Copies 32 bytes.
+fn copy_half_block(rec: &[u8], from: usize, out: &mut [u8], at: usize)
+    requires { ⌜ from + 32 ≤ length (now rec) ⌝ }
+    requires { ⌜ at + 32 ≤ length (now out) ⌝ }
+    ensures { λ _. ⌜ now (out .exit) ≡ splice (now (out .entry)) at (take 32 (drop from (now (rec .entry)))) ⌝ }
+{
+    copy_sixteen(rec, from, out, at);
+    copy_sixteen(rec, from + 16, out, at + 16);
+}
+
+// Copies a block, which is 64 bytes.
+fn copy_block(rec: &[u8], from: usize, out: &mut [u8], at: usize)
+    requires { ⌜ from + 64 ≤ length (now rec) ⌝ }
+    requires { ⌜ at + 64 ≤ length (now out) ⌝ }
+    ensures { λ _. ⌜ now (out .exit) ≡ splice (now (out .entry)) at (take 64 (drop from (now (rec .entry)))) ⌝ }
+{
+    copy_half_block(rec, from, out, at);
+    copy_half_block(rec, from + 32, out, at + 32);
+}
+
+// Copies fewer than sixteen bytes: the first eight or four and the last, which may be copied twice in part.
+fn copy_few(rec: &[u8], from: usize, n: usize, out: &mut [u8], at: usize)
+    requires { ⌜ n < 16 ⌝ }
+    requires { ⌜ from + n ≤ length (now rec) ⌝ }
+    requires { ⌜ at + n ≤ length (now out) ⌝ }
+    ensures { λ _. ⌜ now (out .exit) ≡ splice (now (out .entry)) at (take n (drop from (now (rec .entry)))) ⌝ }
+{
+    if n < 4 {
+        copy_each(rec, from, n, out, at);
+        return;
+    }
+    if n < 8 {
+        copy_four(rec, from, out, at);
+        copy_four(rec, from + (n - 4), out, at + (n - 4));
+        return;
+    }
+    copy_eight(rec, from, out, at);
+    copy_eight(rec, from + (n - 8), out, at + (n - 8));
+}
+
+// Copies at most 64 bytes: the same with the first and the last sixteen or half a block.
+fn copy_some(rec: &[u8], from: usize, n: usize, out: &mut [u8], at: usize)
+    requires { ⌜ n ≤ 64 ⌝ }
     requires { ⌜ from + n ≤ length (now rec) ⌝ }
     requires { ⌜ at + n ≤ length (now out) ⌝ }
     ensures { λ _. ⌜ now (out .exit) ≡ splice (now (out .entry)) at (take n (drop from (now (rec .entry)))) ⌝ }
 {
     if n < 16 {
-        copy_each(rec, from, n, out, at);
+        copy_few(rec, from, n, out, at);
         return;
     }
-    let last = n - 16;
+    if n <= 32 {
+        copy_sixteen(rec, from, out, at);
+        copy_sixteen(rec, from + (n - 16), out, at + (n - 16));
+        return;
+    }
+    copy_half_block(rec, from, out, at);
+    copy_half_block(rec, from + (n - 32), out, at + (n - 32));
+}
+
+// Copies n bytes, block by block; the last block may be copied twice in part.
+pub fn copy_bytes(rec: &[u8], from: usize, n: usize, out: &mut [u8], at: usize)
+    requires { ⌜ from + n ≤ length (now rec) ⌝ }
+    requires { ⌜ at + n ≤ length (now out) ⌝ }
+    ensures { λ _. ⌜ now (out .exit) ≡ splice (now (out .entry)) at (take n (drop from (now (rec .entry)))) ⌝ }
+{
+    if n <= 64 {
+        copy_some(rec, from, n, out, at);
+        return;
+    }
+    let last = n - 64;
     let mut j: usize = 0;
     while j < last {
-        copy_sixteen(rec, from + j, out, at + j);
-        j += 16;
+        copy_block(rec, from + j, out, at + j);
+        j += 64;
     }
-    copy_sixteen(rec, from + last, out, at + last);
+    copy_block(rec, from + last, out, at + last);
 }
 
 // Stores a number of 16 bits.
