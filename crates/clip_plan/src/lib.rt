@@ -1,11 +1,13 @@
 // Document 01, module 9, planning: what a clip takes away and what it puts in its place. Nothing is written; whoever writes or compares a clipped list goes by the plan.
 ghost use mathlib.Core.Path.{_≡_};
+ghost use mathlib.Core.Bool.{true};
 ghost use mathlib.Core.List.{List};
 ghost use Prim.Native.Nat.{ℕ, _+_, _-_, _*_, _/_, _<_, _≤_, _^_};
 ghost use lib.Dec.{ltb};
 ghost use lib.ListN.{length, drop};
 ghost use Rattle.lists.specs.Lists.{sumOf};
-ghost use Rattle.sam.specs.Op.{lenOf};
+ghost use Rattle.sam.specs.Op.{lenOf, codeOf, opOf};
+ghost use Rattle.ops.specs.Ops.{readLen};
 ghost use Rattle.oplist.specs.Ops.{opsOf};
 ghost use Rattle.clip_rules.specs.Clipping.{upgraded};
 ghost use Rattle.clip_rules.specs.InnerPlan.{MadeIs, PlannedIs, cutOf};
@@ -125,7 +127,35 @@ fn unchanged() -> Plan
     }
 }
 
-// The plan of a list that is not too long. Refusal 19: the taking goes through every op inside, so it falls short exactly where the amount is beyond what can be clipped.
+// Whether an op that a clip begins with is an M, = or X of more bases than are clipped.
+fn ends_within(op: u32, amount: u64) -> bool
+    ensures { λ r. ⌜ (r ≡ true → (codeOf op ≡ 1 → ⊥) × (amount < readLen op)) ⌝ }
+{
+    if op % 16 == 1 {
+        return false;
+    }
+    if ops::read_len(op) <= amount {
+        return false;
+    }
+    true
+}
+
+// A clip that ends within the first op: one H, and what is left of the op.
+fn cut_first(op: u32, amount: u64) -> Plan
+    requires { ⌜ amount < lenOf op ⌝ }
+    ensures { λ r. ⌜ (r .skip ≡ 1) × (r .heads ≡ 2) × (r .lost ≡ amount) ⌝ }
+    ensures { λ r. ⌜ (r .first ≡ opOf amount 5) × (r .second ≡ opOf (lenOf op - amount) (codeOf op)) ⌝ }
+{
+    Plan {
+        skip: 1,
+        heads: 2,
+        first: clip_taking::encode_op(5, amount),
+        second: clip_taking::encode_op(op % 16, ops::length_of(op) - amount),
+        lost: amount,
+    }
+}
+
+// The plan of a list that is not too long. Most clips end within the first op, and the others go through the runs of clips and take bases. Refusal 19: the taking goes through every op inside, so it falls short exactly where the amount is beyond what can be clipped.
 fn make_plan(words: &[u32], rec: &[u8], list: Ops, amount: u64, start: bool) -> Planned
     requires { ⌜ sumOf lenOf (opsOf (now words) (now rec) list) < 2 ^ 28 ⌝ }
     ensures { λ r. ⌜ MadeIs (opsOf (now (words .entry)) (now (rec .entry)) list) amount start r ⌝ }
@@ -133,8 +163,13 @@ fn make_plan(words: &[u32], rec: &[u8], list: Ops, amount: u64, start: bool) -> 
     if amount == 0 {
         return Planned::Made(unchanged());
     }
-    if oplist::count(words, rec, list) == 0 {
+    let count = oplist::count(words, rec, list);
+    if count == 0 {
         return Planned::Made(unchanged());
+    }
+    let op = oplist::op_from(words, rec, list, count, start, 0);
+    if ends_within(op, amount) {
+        return Planned::Made(cut_first(op, amount));
     }
     let clips = clip_runs::leading_clips(words, rec, list, start);
     let outer = clip_runs::outer_runs(words, rec, list, start);
