@@ -54,8 +54,8 @@ pub fn alone(rec: &[u8], area: usize, i: usize) -> u8
     pair(base_at(rec, area, i), 0)
 }
 
-// Writes k bytes of bases from an odd base on.
-fn put_shifted(rec: &[u8], area: usize, from: usize, k: usize, out: &mut [u8], at: usize)
+// Writes k bytes of bases from an odd base on, one by one.
+fn shift_each(rec: &[u8], area: usize, from: usize, k: usize, out: &mut [u8], at: usize)
     requires { ⌜ from % 2 ≡ 1 ⌝ }
     requires { ⌜ area + (from + 2 * k + 1) / 2 ≤ length (now rec) ⌝ }
     requires { ⌜ at + k ≤ length (now out) ⌝ }
@@ -67,6 +67,46 @@ fn put_shifted(rec: &[u8], area: usize, from: usize, k: usize, out: &mut [u8], a
         out[at + j] = straddled(rec, first + j);
         j += 1;
     }
+}
+
+// Writes sixteen bytes of bases from the second base of byte `first` on. All are made before one is stored, so that they go in one store.
+fn shift_sixteen(rec: &[u8], first: usize, out: &mut [u8], at: usize)
+    requires { ⌜ first + 17 ≤ length (now rec) ⌝ }
+    requires { ⌜ at + 16 ≤ length (now out) ⌝ }
+    ensures { λ _. ⌜ now (out .exit) ≡ splice (now (out .entry)) at (packed (take 32 (drop 1 (basesOf (drop first (now (rec .entry))))))) ⌝ }
+{
+    let mut held: [u8; 16] = [0; 16];
+    let mut i: usize = 0;
+    while i < 16 {
+        held[i] = straddled(rec, first + i);
+        i += 1;
+    }
+    let mut j: usize = 0;
+    while j < 16 {
+        out[at + j] = held[j];
+        j += 1;
+    }
+}
+
+// Writes k bytes of bases from an odd base on, sixteen at a time; the last sixteen may be written twice in part.
+fn put_shifted(rec: &[u8], area: usize, from: usize, k: usize, out: &mut [u8], at: usize)
+    requires { ⌜ from % 2 ≡ 1 ⌝ }
+    requires { ⌜ area + (from + 2 * k + 1) / 2 ≤ length (now rec) ⌝ }
+    requires { ⌜ at + k ≤ length (now out) ⌝ }
+    ensures { λ _. ⌜ now (out .exit) ≡ splice (now (out .entry)) at (packed (take (2 * k) (drop from (basesOf (drop area (now (rec .entry))))))) ⌝ }
+{
+    if k < 16 {
+        shift_each(rec, area, from, k, out, at);
+        return;
+    }
+    let first = area + from / 2;
+    let last = k - 16;
+    let mut j: usize = 0;
+    while j < last {
+        shift_sixteen(rec, first + j, out, at + j);
+        j += 16;
+    }
+    shift_sixteen(rec, first + last, out, at + last);
 }
 
 // Writes k bytes of bases from an even base on: bytes as they stand.

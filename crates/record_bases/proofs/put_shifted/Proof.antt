@@ -1,24 +1,29 @@
--- After j turns the first j bytes of the packed bases stand in out.
-use Prim.Native.Nat.{ℕ, _+_, _-_, _*_, _≤_}
+-- What is written grows by blocks, and the last one ends it.
+use Prim.Native.Nat.{_+_, _-_, _≤_}
 use mathlib.Core.Path.{_≡_, refl, sym, ap, _∙_}
-use mathlib.Core.List.{List}
 use native.Mathlib.Omega.{arith}
-use lib.ListN.{length, take, drop, set, length-set}
+use lib.ListN.{length, take}
 use lib.Seq.{take-all}
 use Rattle.lists.specs.Lists.{splice}
 use Rattle.lists.proofs.ListLaws.{splice-nil}
-use Rattle.sam.specs.Bases.{basesOf, packed}
-use Rattle.lists.proofs.Splices.{put-turn}
-use Rattle.sam.proofs.BaseLaws.{length-behind, packed-size, shifted-byte}
+use Rattle.record_bases.proofs.PackLaws.{shifted, shifted-size, shifted-block}
 use Rattle.record_bases.proofs.put_shifted.Statement.{statement}
 use Rattle.record_bases.proofs.put_shifted.Tie as tie
 
 abbrev Inv-loop : tie.InvT-loop
-Inv-loop rec area from k out₀ at first j₀ out j =
-    (j ≤ k) × (out ≡ splice out₀ at (take j (packed (take (2 * k) (drop from (basesOf (drop area rec))))))) × (length out ≡ length out₀)
+Inv-loop rec area from k out₀ at first last j₀ out j = (j ≤ k - 16 + 15) × (out ≡ splice out₀ at (take j (shifted rec area from k))) × (length out ≡ length out₀)
 
 abbrev μ-loop : tie.MeasureT-loop
-μ-loop rec area from k out₀ at first j₀ out j = k - j
+μ-loop rec area from k out₀ at first last j₀ out j = k - j
+
+shift-each-requires : tie.Need-shift-each-requires Inv-loop μ-loop
+shift-each-requires c κs = c .before .before .before .before .pre
+
+same-length : tie.Need-same-length Inv-loop μ-loop
+same-length c = omega arith
+
+returns : tie.Need-returns Inv-loop μ-loop
+returns c = c .before .before .shift-each .ensures
 
 add-first : tie.Need-add-first Inv-loop μ-loop
 add-first c = omega arith
@@ -26,17 +31,14 @@ add-first c = omega arith
 loop-holds : tie.Need-loop-holds Inv-loop μ-loop
 loop-holds c = (omega arith, sym (splice-nil _ _), refl)
 
-add-straddled : tie.Need-add-straddled Inv-loop μ-loop
-add-straddled c = omega arith
+add-shift-sixteen : tie.Need-add-shift-sixteen Inv-loop μ-loop
+add-shift-sixteen c = omega arith
 
-straddled-requires : tie.Need-straddled-requires Inv-loop μ-loop
-straddled-requires c κs = omega arith
+add-shift-sixteen-2 : tie.Need-add-shift-sixteen-2 Inv-loop μ-loop
+add-shift-sixteen-2 c = omega arith
 
-add-out : tie.Need-add-out Inv-loop μ-loop
-add-out c = omega arith
-
-slice-write-out : tie.Need-slice-write-out Inv-loop μ-loop
-slice-write-out c = omega arith
+shift-sixteen-requires : tie.Need-shift-sixteen-requires Inv-loop μ-loop
+shift-sixteen-requires c κs = (omega arith, omega arith)
 
 add-j : tie.Need-add-j Inv-loop μ-loop
 add-j c = omega arith
@@ -46,31 +48,36 @@ loop-less c = omega arith
 
 loop-again : tie.Need-loop-again Inv-loop μ-loop
 loop-again c =
-    let k = c .before .before in
-    let g = k .before .before .before in
-    let a = g .args in
-    let j = k .loop .j in
-    let bs = basesOf (drop (a .area) (a .rec .now)) in
-    let l = length-behind (a .rec .now) (a .area) in
-    let m = packed-size bs (a .from) (2 * a .k) (omega arith) in
-    let x = c .straddled .ensures ∙ shifted-byte (a .rec .now) (a .area) (a .from) (2 * a .k) j (g .pre .0) (omega arith) in (
+    let w = c .before .before in
+    let k = w .before .before .before in
+    let g = k .before .before .before .before in
+    let a = g .args in (
       omega arith,
-      ap (λ (l : List ℕ). set l (a .at + j) (c .straddled .result)) (k .loop .inv .1)
-          ∙ put-turn (a .out .now) (packed (take (2 * a .k) (drop (a .from) bs))) (a .at) j (c .straddled .result) x (omega arith) (omega arith),
-      simp length-set (k .loop .inv .2),
+      shifted-block (a .rec .now) (a .out .now) _ _ (a .area) (a .from) (a .k) (a .at) (k .loop .j) (k .loop .j) _ (g .pre .0) (omega arith) (omega arith) refl (omega arith) (omega arith) (omega arith) (k .loop .inv .1) (w .shift-sixteen .ensures),
+      omega arith,
     )
 
-same-length : tie.Need-same-length Inv-loop μ-loop
-same-length c = omega arith
+add-shift-sixteen-3 : tie.Need-add-shift-sixteen-3 Inv-loop μ-loop
+add-shift-sixteen-3 c = omega arith
 
-returns : tie.Need-returns Inv-loop μ-loop
-returns c =
-    let k = c .before in
-    let a = k .before .before .before .args in
-    let bs = basesOf (drop (a .area) (a .rec .now)) in
-    let l = length-behind (a .rec .now) (a .area) in
-    let m = packed-size bs (a .from) (2 * a .k) (omega arith) in
-    k .loop .inv .1 ∙ ap (splice (a .out .now) (a .at)) (take-all (k .loop .j) (packed (take (2 * a .k) (drop (a .from) bs))) (omega arith))
+add-shift-sixteen-4 : tie.Need-add-shift-sixteen-4 Inv-loop μ-loop
+add-shift-sixteen-4 c = omega arith
+
+shift-sixteen-requires-2 : tie.Need-shift-sixteen-requires-2 Inv-loop μ-loop
+shift-sixteen-requires-2 c κs = (omega arith, omega arith)
+
+same-length-2 : tie.Need-same-length-2 Inv-loop μ-loop
+same-length-2 c = omega arith
+
+returns-2 : tie.Need-returns-2 Inv-loop μ-loop
+returns-2 c =
+    let w = c .before .before in
+    let k = w .before .before .before in
+    let g = k .before .before .before .before in
+    let a = g .args in
+    let l = shifted-size (a .rec .now) (a .area) (a .from) (a .k) (omega arith) in
+    shifted-block (a .rec .now) (a .out .now) _ _ (a .area) (a .from) (a .k) (a .at) (k .loop .j) (a .k - 16) (a .k) (g .pre .0) (omega arith) (omega arith) (omega arith) (omega arith) (omega arith) (omega arith) (k .loop .inv .1) (w .shift-sixteen2 .ensures)
+    ∙ ap (splice (a .out .now) (a .at)) (take-all (a .k) (shifted (a .rec .now) (a .area) (a .from) (a .k)) (omega arith))
 
 pub put-shifted-spec : {M : Type 1} → statement M
 put-shifted-spec =
@@ -78,14 +85,19 @@ put-shifted-spec =
     (tie.spec
     Inv-loop
     μ-loop
+    shift-each-requires
+    same-length
+    returns
     add-first
     loop-holds
-    add-straddled
-    straddled-requires
-    add-out
-    slice-write-out
+    add-shift-sixteen
+    add-shift-sixteen-2
+    shift-sixteen-requires
     add-j
     loop-less
     loop-again
-    same-length
-    returns)
+    add-shift-sixteen-3
+    add-shift-sixteen-4
+    shift-sixteen-requires-2
+    same-length-2
+    returns-2)
