@@ -11,9 +11,9 @@ use Rattle.lists.specs.Lists.{facing, sumOf}
 use Rattle.lists.proofs.Walks.{step}
 use Rattle.sam.specs.Op.{lenOf, codeOf, opOf}
 use Rattle.ops.specs.Ops.{readLen, isClip}
-use Rattle.clip_runs.specs.Clips.{isSoft, isHard, run, afterRun, leadingClips, outerHard, nextSoft, inside}
-use Rattle.clip_runs.specs.Walked.{OuterIs}
-use Rattle.clip_runs.proofs.RunLaws.{run-out, rest-out, other-op}
+use Rattle.clip_run_rules.specs.Clips.{isSoft, isHard, run, afterRun, leadingClips, outerHard, nextSoft, inside}
+use Rattle.clip_run_rules.specs.InnerWalked.{OuterIs}
+use Rattle.clip_run_rules.proofs.RunLaws.{run-out, rest-out, other-op}
 use Rattle.clip_rules.specs.Clipping.{goes, taking}
 use Rattle.clip_rules.specs.Answer.{isBeyond}
 use Rattle.clip_rules.specs.InnerPlan.{TakingIs, PlanIs}

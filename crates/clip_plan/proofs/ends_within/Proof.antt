@@ -1,5 +1,4 @@
 -- By the tests.
-use native.Mathlib.Omega.{arith}
 use Rattle.lists.proofs.Absurd.{false-true}
 use borrow.Author.Needs.{needs}
 use Rattle.clip_plan.proofs.ends_within.Statement.{statement}
