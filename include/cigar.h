@@ -26,7 +26,7 @@
  *
  * A flag as an argument is a byte: anything but 0 counts as 1. Positions are counted as each call says.
  *
- * The calls are in five archives, each said above its calls: link the ones that you need. libselvedgekite.so has all of them.
+ * The calls are in four archives, each said above its calls: link the ones that you need. libselvedgekite.so has all of them.
  */
 #ifndef CIGAR_H
 #define CIGAR_H
@@ -257,8 +257,6 @@ struct cigar_count cigar_long_clip_cigar_end_raw(const uint32_t *ops, size_t ops
 struct cigar_two cigar_clip_record_start(const uint8_t *rec, size_t rec_len, uint64_t amount, uint8_t *out, size_t out_len);
 /* At the end: the bytes written. Refusals 1, 2, 8, 19, 15, 16, 4, 6 */
 struct cigar_count cigar_clip_record_end(const uint8_t *rec, size_t rec_len, uint64_t amount, uint8_t *out, size_t out_len);
-
-/* ======== libexports_receive.a ======== */
 
 /* ---- the receiving check: whether `received` is what clipping the record `rec`, which was sent, writes, byte for byte, apart from the two bytes of the bin, which
  * may both be 0. 0 is accepted; else the first part that differs: 1 the 32 bytes of header, 2 the name, 3 the ops, 4 the bases, 5 the qualities, 6 the tags to the

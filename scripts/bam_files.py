@@ -103,7 +103,7 @@ def build(what, files, names, make):
 
 
 LIBRARIES = os.path.join(TARGET, 'libraries', 'x86_64' if os.uname().machine == 'x86_64' else 'native')
-ARCHIVES = ('exports', 'exports_reads', 'exports_long', 'exports_records', 'exports_receive')
+ARCHIVES = ('exports', 'exports_reads', 'exports_long', 'exports_records')
 
 
 def prove_libraries(lock):

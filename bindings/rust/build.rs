@@ -1,4 +1,4 @@
-// Links the five archives that ./build-libraries writes at the top of the repository: those for x86-64, and for any other target
+// Links the four archives that ./build-libraries writes at the top of the repository: those for x86-64, and for any other target
 // those of this machine's own processor. SELVEDGEKITE_LIB names another folder.
 use std::env::var;
 use std::path::Path;
@@ -14,7 +14,7 @@ fn main() {
     });
     println!("cargo:rerun-if-env-changed=SELVEDGEKITE_LIB");
     println!("cargo:rustc-link-search=native={folder}");
-    for name in ["exports", "exports_reads", "exports_long", "exports_records", "exports_receive"] {
+    for name in ["exports", "exports_reads", "exports_long", "exports_records"] {
         let library = Path::new(&folder).join(format!("lib{name}.a"));
         if !library.exists() {
             panic!("{} is missing: run ./build-libraries at the top of the repository", library.display());

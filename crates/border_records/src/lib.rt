@@ -1,4 +1,4 @@
-// How the receiving check's answer crosses the C border. An inner crate of the static library `exports_receive`.
+// How the receiving check's answer crosses the C border. An inner crate of the static library `exports_records`.
 ghost use mathlib.Core.Path.{_≡_};
 ghost use Rattle.receive_rules.specs.Receiving.{partNumber, tellReceived};
 ghost use Rattle.border.specs.Border.{countOf};

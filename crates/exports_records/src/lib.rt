@@ -1,9 +1,10 @@
-// The static library, fourth part: clipped records, as include/cigar.h declares them. The receiving check is a part of its own, so that the compiler puts the plan, which both
-// ask for, into the one call that is left here.
+// The static library, fourth part: clipped records and the receiving check, as include/cigar.h declares them.
+ghost use mathlib.Core.Path.{_≡_};
 ghost use Rattle.answers.specs.Answers.{tellCount};
 ghost use Rattle.answers.specs.Settled.{Settled};
 ghost use Rattle.clip_rules.specs.Answer.{tellClipped};
 ghost use Rattle.record_rules.specs.Clipping.{clippedRecordStart, clippedRecordEnd};
+ghost use Rattle.receive_rules.specs.Receiving.{checkedStart, checkedEnd, tellReceived};
 ghost use Rattle.border.specs.Border.{countOf, twoOf, across};
 use border::ToldCount;
 use border::ToldTwo;
@@ -20,4 +21,18 @@ pub extern "C" fn cigar_clip_record_end(rec: &[u8], amount: u64, out: &mut [u8])
     ensures { λ r. ⌜ Settled (across countOf tellCount (clippedRecordEnd (now (rec .entry)) amount (now (out .entry)))) r (now (out .exit)) ⌝ }
 {
     border::told_count(record_write::clip_record_end(rec, amount, out))
+}
+
+#[no_mangle]
+pub extern "C" fn cigar_check_clipped_start(rec: &[u8], amount: u64, received: &[u8]) -> ToldCount
+    ensures { λ r. ⌜ r ≡ countOf (tellReceived (checkedStart (now (rec .entry)) amount (now (received .entry)))) ⌝ }
+{
+    border_records::told_received(receive::check_clipped_start(rec, amount, received))
+}
+
+#[no_mangle]
+pub extern "C" fn cigar_check_clipped_end(rec: &[u8], amount: u64, received: &[u8]) -> ToldCount
+    ensures { λ r. ⌜ r ≡ countOf (tellReceived (checkedEnd (now (rec .entry)) amount (now (received .entry)))) ⌝ }
+{
+    border_records::told_received(receive::check_clipped_end(rec, amount, received))
 }

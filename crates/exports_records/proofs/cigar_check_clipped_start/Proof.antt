@@ -3,8 +3,8 @@ use borrow.Author.Needs.{needs}
 use Rattle.border.specs.Border.{countOf}
 use Rattle.receive_rules.specs.Receiving.{tellReceived}
 use Rattle.receive_rules.specs.declared.Received.{Received}
-use Rattle.exports_receive.proofs.cigar_check_clipped_start.Statement.{statement}
-use Rattle.exports_receive.proofs.cigar_check_clipped_start.Tie as tie
+use Rattle.exports_records.proofs.cigar_check_clipped_start.Statement.{statement}
+use Rattle.exports_records.proofs.cigar_check_clipped_start.Tie as tie
 
 check-clipped-start-requires : tie.Need-check-clipped-start-requires
 check-clipped-start-requires c κs = search needs

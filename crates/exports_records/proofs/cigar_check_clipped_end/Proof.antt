@@ -3,8 +3,8 @@ use borrow.Author.Needs.{needs}
 use Rattle.border.specs.Border.{countOf}
 use Rattle.receive_rules.specs.Receiving.{tellReceived}
 use Rattle.receive_rules.specs.declared.Received.{Received}
-use Rattle.exports_receive.proofs.cigar_check_clipped_end.Statement.{statement}
-use Rattle.exports_receive.proofs.cigar_check_clipped_end.Tie as tie
+use Rattle.exports_records.proofs.cigar_check_clipped_end.Statement.{statement}
+use Rattle.exports_records.proofs.cigar_check_clipped_end.Tie as tie
 
 check-clipped-end-requires : tie.Need-check-clipped-end-requires
 check-clipped-end-requires c κs = search needs
