@@ -155,7 +155,7 @@ fn cut_first(op: u32, amount: u64) -> Plan
     }
 }
 
-// The plan of a list that is not too long. Most clips end within the first op, and the others go through the runs of clips and take bases. Refusal 19: the taking goes through every op inside, so it falls short exactly where the amount is beyond what can be clipped.
+// The plan of a list that is not too long. A clip that ends within the first op is made at once, and any other goes through the runs of clips and takes bases. Refusal 19: the taking goes through every op inside, so it falls short exactly where the amount is beyond what can be clipped.
 fn make_plan(words: &[u32], rec: &[u8], list: Ops, amount: u64, start: bool) -> Planned
     requires { ⌜ sumOf lenOf (opsOf (now words) (now rec) list) < 2 ^ 28 ⌝ }
     ensures { λ r. ⌜ MadeIs (opsOf (now (words .entry)) (now (rec .entry)) list) amount start r ⌝ }
