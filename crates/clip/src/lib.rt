@@ -115,7 +115,7 @@ pub fn clip_end(
 }
 
 // An answer without its count.
-pub fn without_count(answer: Clipped) -> Count
+fn without_count(answer: Clipped) -> Count
     ensures { λ r. ⌜ r ≡ uncounted answer ⌝ }
 {
     match answer {

@@ -19,22 +19,22 @@ use record_rules::RecordPlan;
 pub fn check_clipped_start(sent: &[u8], amount: u64, received: &[u8]) -> Received
     ensures { λ r. ⌜ r ≡ checkedStart (now (sent .entry)) amount (now (received .entry)) ⌝ }
 {
-    check_clipped(sent, amount, true, received)
+    check_clipped(&*sent, amount, true, &*received)
 }
 
 // The same at the end. Refusals 1, 2, 8, 19, 15, 16, 4, 23, 24.
 pub fn check_clipped_end(sent: &[u8], amount: u64, received: &[u8]) -> Received
     ensures { λ r. ⌜ r ≡ checkedEnd (now (sent .entry)) amount (now (received .entry)) ⌝ }
 {
-    check_clipped(sent, amount, false, received)
+    check_clipped(&*sent, amount, false, &*received)
 }
 
-// Both ends.
+// Both ends. The records are lent anew to each call, so that their places and lengths are handed on in registers (`record_write`).
 fn check_clipped(sent: &[u8], amount: u64, start: bool, received: &[u8]) -> Received
     ensures { λ r. ⌜ r ≡ receivedAs (now (received .entry)) (now (sent .entry)) (clippedFate (now (sent .entry)) amount start) ⌝ }
 {
-    match record_plan::plan_record(sent, amount, start) {
-        PlannedRecord::Made(p) => weigh(received, sent, p, start),
+    match record_plan::plan_record(&*sent, amount, start) {
+        PlannedRecord::Made(p) => weigh(&*received, &*sent, p, start),
         PlannedRecord::Refused(why) => Received::Refused(why),
     }
 }
