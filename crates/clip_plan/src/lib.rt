@@ -19,7 +19,8 @@ use oplist::Ops;
 // The longest total that clipping takes: 28 bits, as one op holds.
 pub const MOST_BASES: u64 = 268435455;
 
-// What a clip does, as seen from the chosen end, to an op list of at most `limit` ops. Refusals 3, 8, 19.
+// What a clip does, as seen from the chosen end, to an op list of at most `limit` ops. Refusals 3, 8, 19. Where `quick` is true a clip that ends within the first op is looked for
+// at once, as most clips of a read do; of lists that begin with any op that is not foreseen, and costs more than it saves. No answer rests on it.
 pub fn plan_clip(
     words: &[u32],
     rec: &[u8],
@@ -27,6 +28,7 @@ pub fn plan_clip(
     limit: usize,
     amount: u64,
     start: bool,
+    quick: bool,
 ) -> Planned
     ensures { λ r. ⌜ PlannedIs limit (opsOf (now (words .entry)) (now (rec .entry)) list) amount start r ⌝ }
 {
@@ -36,7 +38,7 @@ pub fn plan_clip(
     if is_too_long(words, rec, list) {
         return Planned::Refused(Refusal::TooLong);
     }
-    make_plan(words, rec, list, amount, start)
+    make_plan(words, rec, list, amount, start, quick)
 }
 
 // Whether the lengths sum to more than clipping takes. The longest length that all ops' bits could make bounds the sum, and costs less to find.
@@ -127,10 +129,13 @@ fn unchanged() -> Plan
     }
 }
 
-// Whether an op that a clip begins with is an M, = or X of more bases than are clipped.
-fn ends_within(op: u32, amount: u64) -> bool
+// Whether an op that a clip begins with is an M, = or X of more bases than are clipped; false where that is not asked.
+fn ends_within(quick: bool, op: u32, amount: u64) -> bool
     ensures { λ r. ⌜ (r ≡ true → (codeOf op ≡ 1 → ⊥) × (amount < readLen op)) ⌝ }
 {
+    if !quick {
+        return false;
+    }
     if op % 16 == 1 {
         return false;
     }
@@ -155,8 +160,9 @@ fn cut_first(op: u32, amount: u64) -> Plan
     }
 }
 
-// The plan of a list that is not too long. A clip that ends within the first op is made at once, and any other goes through the runs of clips and takes bases. Refusal 19: the taking goes through every op inside, so it falls short exactly where the amount is beyond what can be clipped.
-fn make_plan(words: &[u32], rec: &[u8], list: Ops, amount: u64, start: bool) -> Planned
+// The plan of a list that is not too long. A clip that ends within the first op may be made at once, and any other goes through the runs of clips and takes bases. Refusal 19: the taking goes through
+// every op inside, so it falls short exactly where the amount is beyond what can be clipped.
+fn make_plan(words: &[u32], rec: &[u8], list: Ops, amount: u64, start: bool, quick: bool) -> Planned
     requires { ⌜ sumOf lenOf (opsOf (now words) (now rec) list) < 2 ^ 28 ⌝ }
     ensures { λ r. ⌜ MadeIs (opsOf (now (words .entry)) (now (rec .entry)) list) amount start r ⌝ }
 {
@@ -168,7 +174,7 @@ fn make_plan(words: &[u32], rec: &[u8], list: Ops, amount: u64, start: bool) -> 
         return Planned::Made(unchanged());
     }
     let op = oplist::op_from(words, rec, list, count, start, 0);
-    if ends_within(op, amount) {
+    if ends_within(quick, op, amount) {
         return Planned::Made(cut_first(op, amount));
     }
     let clips = clip_runs::leading_clips(words, rec, list, start);

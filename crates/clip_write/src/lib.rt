@@ -69,7 +69,7 @@ pub fn clip_ops(
 ) -> Clipped
     ensures { λ r. ⌜ Settled (clippedUpTo limit (opsOf (now (words .entry)) (now (rec .entry)) list) amount start (now (out .entry))) r (now (out .exit)) ⌝ }
 {
-    match clip_plan::plan_clip(words, rec, list, limit, amount, start) {
+    match clip_plan::plan_clip(words, rec, list, limit, amount, start, false) {
         Planned::Made(p) => {
             let n = p.heads + (oplist::count(words, rec, list) - p.skip);
             if out.len() < n {

@@ -35,7 +35,7 @@ pub fn plan_record(bam: &[u8], amount: u64, start: bool) -> PlannedRecord
     }
     let list = oplist::of_record(bam);
     let limit = oplist::count(&[], bam, list);
-    match clip_plan::plan_clip(&[], bam, list, limit, amount, start) {
+    match clip_plan::plan_clip(&[], bam, list, limit, amount, start, true) {
         Planned::Made(p) => counted(bam, p, start),
         Planned::Refused(why) => PlannedRecord::Refused(why),
     }

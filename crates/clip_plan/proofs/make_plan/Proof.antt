@@ -134,8 +134,8 @@ returns-5 c = let t = c .before .before in
       refl,
     )
 
-add-t19 : tie.Need-add-t19
-add-t19 c = search needs
+add-t20 : tie.Need-add-t20
+add-t20 c = search needs
 
 add-encode-op : tie.Need-add-encode-op
 add-encode-op c = let f = fits (c .before .before .before .before .before .before) in omega arith
@@ -180,7 +180,7 @@ make-plan-spec =
     sub-n
     take-bases-requires
     returns-5
-    add-t19
+    add-t20
     add-encode-op
     add-encode-op-2
     encode-op-requires
