@@ -20,7 +20,7 @@ use oplist::Ops;
 pub const MOST_BASES: u64 = 268435455;
 
 // What a clip does, as seen from the chosen end, to an op list of at most `limit` ops. Refusals 3, 8, 19. Where `quick` is true a clip that ends within the first op is looked for
-// at once, as most clips of a read do; of lists that begin with any op that is not foreseen, and costs more than it saves. No answer rests on it.
+// at once, since most clips of a read do; where lists begin with any op the processor does not foresee it, and looking costs more than it saves. No answer rests on it.
 pub fn plan_clip(
     words: &[u32],
     rec: &[u8],
