@@ -1,4 +1,5 @@
 pub mod Scanner
 pub mod PieceSteps
 pub mod Sums
+pub mod Trails
 pub mod Lent

@@ -51,7 +51,8 @@ use denote.Triple.Call.{calls-at}
 use denote.Triple.Clauses.{ensured, lasts}
 use denote.Triple.Spec.{tripleOf}
 use Rattle.mate_text.specs.declared.DigitRun.{DigitRun}
-use Rattle.mate_rules.proofs.Scans.{scan, scan-digit, scan-letter}
+use Rattle.mate_rules.specs.InnerScan.{scan}
+use Rattle.mate_rules.proofs.Scans.{scan-digit, scan-letter}
 use Rattle.mate_text.proofs.Lent.{mach, Push, Take, pushes, takes}
 use Rattle.mate_text.proofs.DigitRun as T
 use Rattle.mate_text.proofs.DigitRun.Laws as T′
@@ -130,7 +131,7 @@ pub is-false : (t : Bool) → Holds (not t) → t ≡ false
 is-false true a = absurd a
 is-false false a = refl
 
-is-true : (t : Bool) → Holds (not (not t)) → t ≡ true
+pub is-true : (t : Bool) → Holds (not (not t)) → t ≡ true
 is-true true a = refl
 is-true false a = absurd a
 

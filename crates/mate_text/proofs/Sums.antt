@@ -16,7 +16,8 @@ use Rattle.mate_text.specs.InnerPiece.{leadPiece, trailPiece}
 use Rattle.mate_text.specs.declared.Lead.{Lead}
 use Rattle.mate_text.specs.declared.Trail.{Trail}
 use Rattle.mate_text.proofs.PieceSteps.{lead-off, lead-stop, lead-clip, trail-ref, trail-other, trail-early, trail-clip}
-use Rattle.mate_rules.proofs.Scans.{scan, overPieces, scan-is}
+use Rattle.mate_rules.specs.InnerScan.{scan}
+use Rattle.mate_rules.proofs.Scans.{overPieces, scan-is}
 
 -- ---- one step that saturates
 
@@ -71,7 +72,7 @@ leading-is text =
 -- ---- the reference length, and the clips after its last letter
 
 abbrev tail : ℕ → ℕ → Bool → Trail
-tail r c seen = record { refs = capped r; clips = capped c; seen = seen }
+tail r c seen = record { refs = capped r; clips = capped c; seen = cond seen 1 0 }
 
 -- the clips that a walk has at the end, from those before: a reference letter among the pieces leaves only those after the last
 abbrev trailing : ℕ → Bool → List Piece → ℕ
@@ -121,8 +122,8 @@ trail-sum (p ∷ ps) r c seen = go (isRefPiece p) refl (isClipPiece p) refl seen
         let n : refCount p ≡ counts p = rw e in
         ends-next p ps r c (r + counts p) 0 v true _ (ih (r + counts p) 0 true)
         (trail-ref (tail r c v) (pos (counts p)) (p .letter) e
-        ∙ ap (λ (z : ℤ). record { refs = z; clips = pos 0; seen = true }) (held-add r (counts p))
-        ∙ ap (λ (z : ℤ). record { refs = capped (r + counts p); clips = z; seen = true }) held-none)
+        ∙ ap (λ (z : ℤ). record { refs = z; clips = pos 0; seen = 1 }) (held-add r (counts p))
+        ∙ ap (λ (z : ℤ). record { refs = capped (r + counts p); clips = z; seen = 1 }) held-none)
         (omega arith) (trailing-ref p ps c v e)
     go false e false f v ih =
         let n : refCount p ≡ 0 = rw e in
@@ -139,7 +140,7 @@ trail-sum (p ∷ ps) r c seen = go (isRefPiece p) refl (isClipPiece p) refl seen
         let m : clipCount p ≡ counts p = rw f in
         ends-next p ps r c r (c + counts p) true true _ (ih r (c + counts p) true)
         (trail-clip (tail r c true) (pos (counts p)) (p .letter) e f refl
-        ∙ ap (λ (z : ℤ). record { refs = capped r; clips = z; seen = true }) (held-add c (counts p)))
+        ∙ ap (λ (z : ℤ). record { refs = capped r; clips = z; seen = 1 }) (held-add c (counts p)))
         (omega arith) (trailing-other p ps c (c + counts p) true e (omega arith))
 
 trailing-first : (ps : List Piece) → trailing 0 false ps ≡ total clipCount (afterLast isRefPiece ps)
@@ -152,12 +153,12 @@ trailing-first ps = go (holds isRefPiece ps) refl
 
 module _ (text : List ℕ) where
   abbrev found : Trail
-  found = scan trailPiece 0 (record { refs = pos 0; clips = pos 0; seen = false }) text
+  found = scan trailPiece 0 (record { refs = pos 0; clips = pos 0; seen = 0 }) text
 
   found-is : found ≡ overPieces trailPiece (tail 0 0 false) (pieces text)
   found-is =
-      scan-is trailPiece (record { refs = pos 0; clips = pos 0; seen = false }) text
-      ∙ ap (λ (z : ℤ). overPieces trailPiece (record { refs = z; clips = z; seen = false }) (pieces text)) held-none
+      scan-is trailPiece (record { refs = pos 0; clips = pos 0; seen = 0 }) text
+      ∙ ap (λ (z : ℤ). overPieces trailPiece (record { refs = z; clips = z; seen = 0 }) (pieces text)) held-none
 
   pub reference-is : found .refs ≡ capped (mateReference text)
   unfolding mateReference

@@ -1,11 +1,13 @@
 // Document 01, module 6: the mate's unclipped 5' end from text. Reads any bytes, refuses none; each step saturates.
 ghost use mathlib.Core.Path.{_≡_};
+ghost use Prim.Native.Nat.{_≤_, _<_};
 ghost use lib.IntN.{pos};
+ghost use lib.ListN.{length};
 ghost use Rattle.sam.specs.Text.{isDigit};
 ghost use Rattle.mate_rules.specs.Run.{countsAs, pushOf};
 ghost use Rattle.mate_rules.specs.Pieces.{mateLeading, mateReference, mateTrailing, capped};
-ghost use Rattle.mate_text.specs.Mate.{mateStart, endFrom, saturatedOneBased, mateUnclipped, mateUnclipped1};
-ghost use Rattle.mate_text.specs.InnerPiece.{leadPiece, trailPiece};
+ghost use Rattle.mate_text.specs.Mate.{mateStart, mateEnd, saturatedOneBased, mateUnclipped, mateUnclipped1};
+ghost use Rattle.mate_text.specs.InnerPiece.{opened, leadPiece, trailPiece, GoesOn};
 use answers::Pos0;
 use answers::Pos1;
 
@@ -21,24 +23,17 @@ fn wide(b: u8) -> u64
     b as u64
 }
 
-// The digits so far, then one more byte; as they were where the byte is no digit. Capped at 2^64 - 1, which one test rules out for a number that is not huge.
+// The digits so far, then one more byte; as they were where the byte is no digit. A number above 2^31 - 1 counts 0, however many digits follow: it is held at 2^31.
 fn pushed(x: u64, b: u8) -> u64
     ensures { λ r. ⌜ r ≡ pushOf x b ⌝ }
 {
     if !is_digit(b) {
         return x;
     }
-    let d = wide(b) - 48;
-    if x < 1844674407370955161 {
-        return x * 10 + d;
+    if 214748364 < x {
+        return 2147483648;
     }
-    if 1844674407370955161 < x {
-        return 18446744073709551615;
-    }
-    if 5 < d {
-        return 18446744073709551615;
-    }
-    18446744073709551610 + d
+    x * 10 + wide(b) - 48
 }
 
 // What a number counts: 0 above 2^31 - 1.
@@ -77,6 +72,46 @@ impl DigitRun {
         let v = counted(self.0);
         self.0 = 0;
         v
+    }
+}
+
+// The first three bytes of a piece: how many digits they begin with; what these count, where a letter ends them; and their number, where all three are digits.
+struct Opening {
+    digits: u32,
+    number: i32,
+    run: u64,
+}
+
+// Reads them: the run is this scan's own, which lends it for each byte.
+fn first_three(a: u8, b: u8, c: u8) -> Opening
+    ensures { λ r. ⌜ r ≡ opened a b c ⌝ }
+{
+    let mut run = DigitRun(0);
+    if !run.push(a) {
+        return Opening {
+            digits: 0,
+            number: run.take(),
+            run: 0,
+        };
+    }
+    if !run.push(b) {
+        return Opening {
+            digits: 1,
+            number: run.take(),
+            run: 0,
+        };
+    }
+    if !run.push(c) {
+        return Opening {
+            digits: 2,
+            number: run.take(),
+            run: 0,
+        };
+    }
+    Opening {
+        digits: 3,
+        number: 0,
+        run: run.0,
     }
 }
 
@@ -125,11 +160,11 @@ fn parse_leading_clips(text: &[u8]) -> i32
     found.clips
 }
 
-// The reference length, the clips since its last letter, and whether there was one.
+// The reference length, the clips since its last letter, and 1 where there was one: a number, as a bool would leave three bytes that each copy moves, too.
 struct Trail {
     refs: i32,
     clips: i32,
-    seen: bool,
+    seen: u32,
 }
 
 fn trail_piece(s: Trail, number: i32, letter: u8) -> Trail
@@ -140,19 +175,74 @@ fn trail_piece(s: Trail, number: i32, letter: u8) -> Trail
         return Trail {
             refs: signed::saturating_add(s.refs, number),
             clips: 0,
-            seen: true,
+            seen: 1,
         };
     }
     if !ops::is_clip(code) {
         return s;
     }
-    if !s.seen {
+    if s.seen == 0 {
         return s;
     }
     Trail {
         refs: s.refs,
         clips: signed::saturating_add(s.clips, number),
-        seen: true,
+        seen: 1,
+    }
+}
+
+// What was found of a text, and the place where the next piece begins.
+struct Ahead {
+    found: Trail,
+    at: usize,
+}
+
+// A piece was taken in, and the next one begins at a place.
+fn taken(found: Trail, number: i32, letter: u8, at: usize) -> Ahead
+    ensures { λ r. ⌜ (r .found ≡ trailPiece found number letter) × (r .at ≡ at) ⌝ }
+{
+    Ahead {
+        found: trail_piece(found, number, letter),
+        at,
+    }
+}
+
+// Takes in the rest of a piece, after digits whose number is known: the run is this scan's own, which lends it for each byte.
+fn trail_rest(found: Trail, digits: u64, text: &[u8], from: usize) -> Ahead
+    requires { ⌜ from ≤ length (now text) ⌝ }
+    ensures { λ r. ⌜ GoesOn (now (text .entry)) digits found from r ⌝ }
+{
+    let mut run = DigitRun(digits);
+    let mut i = from;
+    while i < text.len() {
+        let b = text[i];
+        if !run.push(b) {
+            let number = run.take();
+            return taken(found, number, b, i + 1);
+        }
+        i += 1;
+    }
+    Ahead { found, at: i }
+}
+
+// Takes in the piece at a place. A piece of up to two digits is taken in by itself: so nothing waits for how many there are.
+fn trail_at(found: Trail, text: &[u8], at: usize) -> Ahead
+    requires { ⌜ at < length (now text) ⌝ }
+    ensures { λ r. ⌜ GoesOn (now (text .entry)) 0 found at r ⌝ }
+{
+    if text.len() - at < 3 {
+        return trail_rest(found, 0, &*text, at);
+    }
+    let a = text[at];
+    let b = text[at + 1];
+    let c = text[at + 2];
+    let o = first_three(a, b, c);
+    let digits = o.digits;
+    match digits {
+        0 => taken(found, o.number, a, at + 1),
+        1 => taken(found, o.number, b, at + 2),
+        2 => taken(found, o.number, c, at + 3),
+        _ => trail_rest(found, o.run, &*text, at + 3),
     }
 }
 
@@ -160,20 +250,16 @@ fn trail_piece(s: Trail, number: i32, letter: u8) -> Trail
 fn parse_ref_len_and_trailing_clips(text: &[u8]) -> Trail
     ensures { λ r. ⌜ (r .refs ≡ capped (mateReference (now (text .entry)))) × (r .clips ≡ capped (mateTrailing (now (text .entry)))) ⌝ }
 {
-    let mut run = DigitRun::new();
     let mut found = Trail {
         refs: 0,
         clips: 0,
-        seen: false,
+        seen: 0,
     };
     let mut i = 0;
     while i < text.len() {
-        let b = text[i];
-        if !run.push(b) {
-            let number = run.take();
-            found = trail_piece(found, number, b);
-        }
-        i += 1;
+        let next = trail_at(found, &*text, i);
+        found = next.found;
+        i = next.at;
     }
     found
 }
@@ -185,12 +271,13 @@ fn unclipped_other_start(position: i32, text: &[u8]) -> i32
 }
 
 // The 1 goes first: taken last, it would bring a sum that saturated below 2^31 - 1.
-fn unclipped_other_end(position: i32, refs: i32, clips: i32) -> i32
-    ensures { λ r. ⌜ r ≡ endFrom position refs clips ⌝ }
+fn unclipped_other_end(position: i32, text: &[u8]) -> i32
+    ensures { λ r. ⌜ r ≡ mateEnd position (now (text .entry)) ⌝ }
 {
+    let t = parse_ref_len_and_trailing_clips(&*text);
     signed::saturating_add(
-        signed::saturating_add(signed::saturating_sub(position, 1), refs),
-        clips,
+        signed::saturating_add(signed::saturating_sub(position, 1), t.refs),
+        t.clips,
     )
 }
 
@@ -201,14 +288,12 @@ fn saturating_one_based(p: Pos0) -> Pos1
     Pos1(signed::saturating_add(p.0, 1))
 }
 
-// The mate's unclipped 5' position from its text: its start where it is forward, its end where it is reverse. Each call has the scans within it: one
-// function for both would be a call of its own, 1 ns.
+// The mate's unclipped 5' position from its text: its start where it is forward, its end where it is reverse.
 pub fn mate_unclipped_5prime(position: Pos0, reverse: bool, text: &[u8]) -> Pos0
     ensures { λ r. ⌜ r ≡ mateUnclipped position reverse (now (text .entry)) ⌝ }
 {
     if reverse {
-        let t = parse_ref_len_and_trailing_clips(text);
-        return Pos0(unclipped_other_end(position.0, t.refs, t.clips));
+        return Pos0(unclipped_other_end(position.0, text));
     }
     Pos0(unclipped_other_start(position.0, text))
 }
@@ -219,8 +304,7 @@ pub fn mate_unclipped_5prime_1based(position: Pos0, reverse: bool, text: &[u8]) 
 {
     let from = saturating_one_based(position);
     if reverse {
-        let t = parse_ref_len_and_trailing_clips(text);
-        return Pos1(unclipped_other_end(from.0, t.refs, t.clips));
+        return Pos1(unclipped_other_end(from.0, text));
     }
     Pos1(unclipped_other_start(from.0, text))
 }

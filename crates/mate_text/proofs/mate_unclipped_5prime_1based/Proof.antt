@@ -5,8 +5,7 @@ use denote.Ref.{now}
 use mir.Syntax.{w32}
 use mir.Val.{toZ, ofZ}
 use Rattle.answers.specs.declared.Pos1.{Pos1}
-use Rattle.mate_rules.specs.Pieces.{capped, mateReference}
-use Rattle.mate_text.specs.Mate.{mateStart, endFrom, mateEnd, mateFivePrime, mateUnclipped1}
+use Rattle.mate_text.specs.Mate.{mateStart, mateEnd, mateFivePrime, mateUnclipped1}
 use borrow.Author.Needs.{needs}
 use Rattle.mate_text.proofs.mate_unclipped_5prime_1based.Statement.{statement}
 use Rattle.mate_text.proofs.mate_unclipped_5prime_1based.Tie as tie
@@ -14,29 +13,20 @@ use Rattle.mate_text.proofs.mate_unclipped_5prime_1based.Tie as tie
 saturating-one-based-requires : tie.Need-saturating-one-based-requires
 saturating-one-based-requires c κs = search needs
 
-parse-ref-len-and-trailing-clips-requires : tie.Need-parse-ref-len-and-trailing-clips-requires
-parse-ref-len-and-trailing-clips-requires c κs = search needs
-
 unclipped-other-end-requires : tie.Need-unclipped-other-end-requires
 unclipped-other-end-requires c κs = search needs
 
 returns : tie.Need-returns
 unfolding mateUnclipped1 mateFivePrime
 returns c =
-    let t = c .before .before .before .before in
-    let a = t .before .before .before .before .args in
-    let f = t .parse-ref-len-and-trailing-clips in
+    let t = c .before .before in
+    let a = t .before .before .before .args in
     let e = c .unclipped-other-end in
-    let o = t .before .before .saturating-one-based in
+    let o = t .before .saturating-one-based in
     let p : toZ w32 (ofZ w32 (o .result .0)) ≡ o .result .0 = search needs in
-    let u : toZ w32 (ofZ w32 (f .result .refs)) ≡ f .result .refs = search needs in
-    let v : toZ w32 (ofZ w32 (f .result .clips)) ≡ f .result .clips = search needs in
     let r : toZ w32 (ofZ w32 (e .result)) ≡ e .result = search needs in
-    let g : e .result ≡ endFrom (o .result .0) (f .result .refs) (f .result .clips) = simp (p, u, v) at (e .ensures) in
-    rw (t .before .if1 .taken)
-    (ap (λ (z : ℤ). record { 0 = z })
-    (r ∙ g ∙ ap (λ (z : ℤ). endFrom (o .result .0) z (f .result .clips)) (f .ensures .0)
-    ∙ ap (λ (z : ℤ). endFrom (o .result .0) (capped (mateReference (now (a .text)))) z) (f .ensures .1) ∙ ap (λ (x : Pos1). mateEnd (x .0) (now (a .text))) (o .ensures)))
+    let g : e .result ≡ mateEnd (o .result .0) (now (a .text)) = simp p at (e .ensures) in
+    rw (t .if1 .taken) (ap (λ (z : ℤ). record { 0 = z }) (r ∙ g ∙ ap (λ (x : Pos1). mateEnd (x .0) (now (a .text))) (o .ensures)))
 
 unclipped-other-start-requires : tie.Need-unclipped-other-start-requires
 unclipped-other-start-requires c κs = search needs
@@ -58,7 +48,6 @@ mate-unclipped-5prime-1based-spec =
     tie.close
     (tie.spec
     saturating-one-based-requires
-    parse-ref-len-and-trailing-clips-requires
     unclipped-other-end-requires
     returns
     unclipped-other-start-requires

@@ -43,7 +43,8 @@ use denote.Triple.Walked.{says, Stays, stay-none-slice, walkOf, goes-none-slice,
 use denote.Exit.{yes}
 use Rattle.mate_text.specs.InnerPiece.{leadPiece}
 use Rattle.mate_text.specs.declared.Lead.{Lead}
-use Rattle.mate_rules.proofs.Scans.{scan, scan-end}
+use Rattle.mate_rules.specs.InnerScan.{scan}
+use Rattle.mate_rules.proofs.Scans.{scan-end}
 use Rattle.mate_text.proofs.PieceSteps.{scan-off}
 use Rattle.mate_text.proofs.Sums.{leading-is}
 use Rattle.mate_text.proofs.Lent.{Push, Take}

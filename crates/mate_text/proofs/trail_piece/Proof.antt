@@ -5,7 +5,7 @@ use Prim.Native.Nat.{ℕ}
 use lib.IntN.{ℤ, pos, _+ℤ_}
 use mir.Syntax.{w32}
 use mir.Val.{toZ, ofZ}
-use borrow.Author.Tests.{not-true, not-false}
+use borrow.Author.Tests.{not-true, not-false, eq-eqb, ne-eqb}
 use Rattle.signed.specs.Whole.{clamp32}
 use Rattle.sam.specs.Op.{codeOf, isRef}
 use Rattle.ops.specs.Ops.{isClip}
@@ -40,7 +40,7 @@ returns c =
     let r : toZ w32 (ofZ w32 (c .saturating-add .result)) ≡ c .saturating-add .result = search needs in
     let g : c .saturating-add .result ≡ clamp32 (a .s .refs +ℤ a .number) = simp (e, n) at (c .saturating-add .ensures) in
     let k : isRefLetter (a .letter) ≡ true = refs (t .before) ∙ t .if1 .taken in
-    (ap (λ (z : ℤ). record { refs = z; clips = pos 0; seen = true }) (r ∙ g) ∙ sym (trail-ref (a .s) (a .number) (a .letter) k))
+    (ap (λ (z : ℤ). record { refs = z; clips = pos 0; seen = 1 }) (r ∙ g) ∙ sym (trail-ref (a .s) (a .number) (a .letter) k))
 
 is-clip-requires : tie.Need-is-clip-requires
 is-clip-requires c κs = search needs
@@ -59,7 +59,7 @@ returns-3 c =
     let a = t .before .before .before .args in
     let k : isRefLetter (a .letter) ≡ false = refs (t .before) ∙ t .if1 .left in
     let l : isClipLetter (a .letter) ≡ true = clips (c .before .before .before) ∙ not-false _ (c .before .before .if2 .left) in
-    (sym (trail-early (a .s) (a .number) (a .letter) k l (not-true _ (c .if3 .taken))))
+    (sym (trail-early (a .s) (a .number) (a .letter) k l (eq-eqb _ 0 (c .if3 .taken))))
 
 saturating-add-requires-2 : tie.Need-saturating-add-requires-2
 saturating-add-requires-2 c κs = search needs
@@ -76,9 +76,9 @@ returns-4 c =
     let g : c .before .saturating-add2 .result ≡ clamp32 (a .s .clips +ℤ a .number) = simp (e, n) at (c .before .saturating-add2 .ensures) in
     let k : isRefLetter (a .letter) ≡ false = refs (t .before) ∙ t .if1 .left in
     let l : isClipLetter (a .letter) ≡ true = clips (u .before .before .before) ∙ not-false _ (u .before .before .if2 .left) in
-    (ap (λ (z : ℤ). record { refs = z; clips = toZ w32 (ofZ w32 (c .before .saturating-add2 .result)); seen = true }) p
-    ∙ ap (λ (z : ℤ). record { refs = a .s .refs; clips = z; seen = true }) (r ∙ g)
-    ∙ sym (trail-clip (a .s) (a .number) (a .letter) k l (not-false _ (u .if3 .left))))
+    (ap (λ (z : ℤ). record { refs = z; clips = toZ w32 (ofZ w32 (c .before .saturating-add2 .result)); seen = 1 }) p
+    ∙ ap (λ (z : ℤ). record { refs = a .s .refs; clips = z; seen = 1 }) (r ∙ g)
+    ∙ sym (trail-clip (a .s) (a .number) (a .letter) k l (ne-eqb _ 0 (u .if3 .left))))
 
 pub trail-piece-spec : {M : Type 1} → statement M
 trail-piece-spec =
