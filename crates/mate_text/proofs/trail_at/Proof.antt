@@ -1,13 +1,12 @@
 -- `mate_text::trail_at` meets its contract: the first three bytes tell which of them ends the piece, or that none does.
-use mathlib.Core.Path.{_≡_, refl, sym, ap, _∙_}
-use Prim.Native.Nat.{ℕ, _+_}
+use mathlib.Core.Path.{_≡_, refl}
+use Prim.Native.Nat.{_+_}
 use native.Mathlib.Omega.{arith}
 use lib.ListN.{getD}
 use mir.Syntax.{w32}
 use mir.Val.{toZ, ofZ}
 use borrow.Author.Needs.{needs}
-use Rattle.mate_rules.specs.Run.{pushOf}
-use Rattle.mate_text.specs.InnerPiece.{trailPiece, GoesOn}
+use Rattle.mate_text.specs.InnerPiece.{trailPiece}
 use Rattle.mate_text.proofs.Trails.{on-digit, on-letter, by-rest, by-digits}
 use Rattle.mate_text.proofs.trail_at.Statement.{statement}
 use Rattle.mate_text.proofs.trail_at.Tie as tie
