@@ -40,7 +40,8 @@ trailPiece s n b =
     cond (isRefLetter b) (record { refs = clamp32 (s .refs +ℤ n); clips = pos 0; seen = 1 })
     (cond (isClipLetter b) (cond (eqb (s .seen) 0) s (record { refs = s .refs; clips = clamp32 (s .clips +ℤ n); seen = 1 })) s)
 
--- from a run that holds x, with s found before the place i, to what was found before a place further on, where a piece begins
+-- from a run that holds x, with s found before the place i, to r: what was found before a place further on, at which a piece begins or the text ends. What is left of the text
+-- comes to the same from there
 pub record GoesOn (text : List ℕ) (x : ℕ) (s : Trail) (i : ℕ) (r : Ahead) : Type 0 where
   pub left : scan trailPiece 0 (r .found) (drop (r .at) text) ≡ scan trailPiece x s (drop i text)
   pub onward : i ≤ r .at

@@ -40,10 +40,10 @@ fn pushed(x: u64, b: u8) -> u64
 fn counted(x: u64) -> i32
     ensures { λ r. ⌜ r ≡ pos (countsAs x) ⌝ }
 {
-    if x <= 2147483647 {
-        return x as i32;
+    if 2147483647 < x {
+        return 0;
     }
-    0
+    x as i32
 }
 
 // The number of the digits since the last letter.

@@ -8,16 +8,16 @@ use borrow.Author.Needs.{needs}
 use Rattle.mate_text.proofs.counted.Statement.{statement}
 use Rattle.mate_text.proofs.counted.Tie as tie
 
+returns : tie.Need-returns
+unfolding countsAs
+returns c = simp (lt-leb (c .before .args .x) 2147483647 (c .if1 .taken))
+
 cast-result : tie.Need-cast-result
 cast-result c = search needs
 
-returns : tie.Need-returns
-unfolding countsAs
-returns c = simp (le-leb (c .before .args .x) 2147483647 (c .if1 .taken)) (toZ-pos w32 (omega arith))
-
 returns-2 : tie.Need-returns-2
 unfolding countsAs
-returns-2 c = simp (lt-leb (c .before .args .x) 2147483647 (c .if1 .left))
+returns-2 c = simp (le-leb (c .before .args .x) 2147483647 (c .if1 .left)) (toZ-pos w32 (omega arith))
 
 pub counted-spec : {M : Type 1} → statement M
-counted-spec = tie.close (tie.spec cast-result returns returns-2)
+counted-spec = tie.close (tie.spec returns cast-result returns-2)
