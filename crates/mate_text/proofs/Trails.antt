@@ -54,6 +54,14 @@ module _ (text : List ℕ) (s : Trail) (d from : ℕ) where
         further true e k = let m = g .ahead (ltb-true i (length text) e) in omega arith
         further false e k = let m = ltb-false i (length text) e in omega (arith, g .onward)
 
+-- the scan of a piece at i, after one digit and after two
+module _ (text : List ℕ) (s : Trail) (i : ℕ) (one : isDigit (getD text i 0) ≡ true) where
+  pub one-on : i + 1 < length text → Come text s 0 i (pushOf 0 (getD text i 0)) (i + 1)
+  one-on less = on-digit text s 0 i 0 i refl (omega arith) (i + 1) _ refl one refl
+
+  pub two-on : i + 2 < length text → isDigit (getD text (i + 1) 0) ≡ true → Come text s 0 i (pushOf (pushOf 0 (getD text i 0)) (getD text (i + 1) 0)) (i + 2)
+  two-on less two = on-digit text s 0 i _ (i + 1) (one-on (omega arith)) (omega arith) (i + 2) _ (omega arith) two refl
+
 -- the first three bytes, by how many digits they begin with
 pub by-digits : (a b c : ℕ) (o : Opening) → o ≡ opened a b c → {Q : Type 0}
     → (o .digits ≡ 0 → isDigit a ≡ false → o .number ≡ pos (countsAs 0) → Q)

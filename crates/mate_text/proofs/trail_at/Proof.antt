@@ -7,7 +7,7 @@ use mir.Syntax.{w32}
 use mir.Val.{toZ, ofZ}
 use borrow.Author.Needs.{needs}
 use Rattle.mate_text.specs.InnerPiece.{trailPiece}
-use Rattle.mate_text.proofs.Trails.{on-digit, on-letter, by-rest, by-digits}
+use Rattle.mate_text.proofs.Trails.{on-digit, on-letter, by-rest, one-on, two-on, by-digits}
 use Rattle.mate_text.proofs.trail_at.Statement.{statement}
 use Rattle.mate_text.proofs.trail_at.Tie as tie
 
@@ -88,7 +88,7 @@ returns-3 c =
     let g : c .taken2 .result .found ≡ trailPiece (a .found) (o .number) (getD text (a .at + 1) 0) = simp m at (c .taken2 .ensures .0) in
     by-digits _ _ _ o (u .first-three .ensures)
     (λ e _ _. absurd (omega arith))
-    (λ e da nb z. on-letter text (a .found) 0 (a .at) _ (a .at + 1) (on-digit text (a .found) 0 (a .at) 0 (a .at) refl (search needs) (a .at + 1) _ refl da refl) (search needs) (c .taken2 .result) (o .number) nb z g (omega (arith, c .taken2 .ensures .1)) (omega arith))
+    (λ e da nb z. on-letter text (a .found) 0 (a .at) _ (a .at + 1) (one-on text (a .found) (a .at) da (search needs)) (search needs) (c .taken2 .result) (o .number) nb z g (omega (arith, c .taken2 .ensures .1)) (omega arith))
     (λ e _ _ _ _. absurd (omega arith))
     (λ e _ _ _ _. absurd (omega arith))
 
@@ -104,7 +104,7 @@ returns-4 c =
     by-digits _ _ _ o (u .first-three .ensures)
     (λ e _ _. absurd (omega arith))
     (λ e _ _ _. absurd (omega arith))
-    (λ e da db nc z. on-letter text (a .found) 0 (a .at) _ (a .at + 2) (on-digit text (a .found) 0 (a .at) _ (a .at + 1) (on-digit text (a .found) 0 (a .at) 0 (a .at) refl (search needs) (a .at + 1) _ refl da refl) (search needs) (a .at + 2) _ (omega arith) db refl) (search needs) (c .taken3 .result) (o .number) nc z g (omega (arith, c .taken3 .ensures .1)) (omega arith))
+    (λ e da db nc z. on-letter text (a .found) 0 (a .at) _ (a .at + 2) (two-on text (a .found) (a .at) da (search needs) db) (search needs) (c .taken3 .result) (o .number) nc z g (omega (arith, c .taken3 .ensures .1)) (omega arith))
     (λ e _ _ _ _. absurd (omega arith))
 
 returns-5 : tie.Need-returns-5
@@ -118,7 +118,7 @@ returns-5 c =
     (λ e _ _. absurd (k .0 .0 .1 e))
     (λ e _ _ _. absurd (k .0 .1 e))
     (λ e _ _ _ _. absurd (k .1 e))
-    (λ e da db dc r. by-rest text (a .found) 0 (a .at) (o .run) (a .at + 3) (on-digit text (a .found) 0 (a .at) _ (a .at + 2) (on-digit text (a .found) 0 (a .at) _ (a .at + 1) (on-digit text (a .found) 0 (a .at) 0 (a .at) refl (search needs) (a .at + 1) _ refl da refl) (search needs) (a .at + 2) _ (omega arith) db refl) (search needs) (a .at + 3) (o .run) (omega arith) dc r) (c .trail-rest2 .result) (c .trail-rest2 .ensures) (omega arith))
+    (λ e da db dc r. by-rest text (a .found) 0 (a .at) (o .run) (a .at + 3) (on-digit text (a .found) 0 (a .at) _ (a .at + 2) (two-on text (a .found) (a .at) da (search needs) db) (search needs) (a .at + 3) (o .run) (omega arith) dc r) (c .trail-rest2 .result) (c .trail-rest2 .ensures) (omega arith))
 
 pub trail-at-spec : {M : Type 1} → statement M
 trail-at-spec =
