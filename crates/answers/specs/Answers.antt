@@ -3,17 +3,11 @@ use Rattle.std.specs.Prelude.{ℕ, Bool, cond, List, [], ◌∷◌, ℤ, pos}
 use Rattle.answers.specs.declared.Refusal.{Refusal}
 use Rattle.answers.specs.declared.Refusal.TheVariants.{ShortRecord, AreaOverrun, TooManyOps, Overflow, NotACigar, NoRoom, BadCode, TooLong, BadStart, BadLength, AmountBeyond, BadLevels, BadRegion, NoBlocks, QueryDiffers, CountOver, BadTags, OtherCg, BadMd, MatchesTold, MdDisagrees, ReceivedShort, ReceivedCut}
 use Rattle.answers.specs.declared.Int.{Int}
-use Rattle.answers.specs.declared.Int.TheVariants as Int
 use Rattle.answers.specs.declared.Nat.{Nat}
-use Rattle.answers.specs.declared.Nat.TheVariants as Nat
 use Rattle.answers.specs.declared.Count.{Count}
-use Rattle.answers.specs.declared.Count.TheVariants as Count
 use Rattle.answers.specs.declared.Flag.{Flag}
-use Rattle.answers.specs.declared.Flag.TheVariants as Flag
 use Rattle.answers.specs.declared.Place0.{Place0}
-use Rattle.answers.specs.declared.Place0.TheVariants as Place0
 use Rattle.answers.specs.declared.Place1.{Place1}
-use Rattle.answers.specs.declared.Place1.TheVariants as Place1
 
 abbrev pub number_of : Refusal → ℕ
 number_of ShortRecord = 1

@@ -1,9 +1,11 @@
 // What calls answer: a value, "none", or the refusal. Document 01, "Numbers and their bounds".
+#![tactic(auto)]
+
 ghost use Rattle.std.specs.Prelude.{◌≡◌};
 ghost use Rattle.answers.specs.Answers.{number_of, bare0};
 
 // Why a call answers no value: one variant for each number, in their order; 11 is nobody's.
-#[derive(Drop)]
+#[derive(Clone, Copy)]
 pub enum Refusal {
     ShortRecord,
     AreaOverrun,
@@ -31,50 +33,50 @@ pub enum Refusal {
 }
 
 // A signed number.
-#[derive(Drop)]
+#[derive(Clone, Copy)]
 pub enum Int {
     Number(i32),
     Refused(Refusal),
 }
 
 // A field of a record, or a bin.
-#[derive(Drop)]
+#[derive(Clone, Copy)]
 pub enum Nat {
     Number(u32),
     Refused(Refusal),
 }
 
 // A count, or a sum.
-#[derive(Drop)]
+#[derive(Clone, Copy)]
 pub enum Count {
     Number(u64),
     Refused(Refusal),
 }
 
 // Yes or no.
-#[derive(Drop)]
+#[derive(Clone, Copy)]
 pub enum Flag {
     Is(bool),
     Refused(Refusal),
 }
 
 // A position in a record, counted from 0.
-#[derive(Drop)]
+#[derive(Clone, Copy)]
 pub struct Pos0(pub i32);
 
 // A position as answers have it, counted from 1.
-#[derive(Drop)]
+#[derive(Clone, Copy)]
 pub struct Pos1(pub i32);
 
 // A position, counted from 0.
-#[derive(Drop)]
+#[derive(Clone, Copy)]
 pub enum Place0 {
     At(Pos0),
     Refused(Refusal),
 }
 
 // A position, counted from 1, or none.
-#[derive(Drop)]
+#[derive(Clone, Copy)]
 pub enum Place1 {
     At(Pos1),
     Nothing,

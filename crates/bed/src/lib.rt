@@ -1,4 +1,6 @@
 // Document 02, item 5: the blocks of a spliced alignment, as BED12 has them. A measuring pass decides every refusal, and then the blocks are written.
+#![tactic(auto)]
+
 ghost use Rattle.std.specs.Prelude.{◌≡◌, false, cond, ◌≤◌, ◌<◌, ltb, length, set};
 ghost use Rattle.lists.specs.Lists.{sum_of, splice};
 ghost use Rattle.sam.specs.Op.{ref_len};

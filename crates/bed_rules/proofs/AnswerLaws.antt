@@ -22,7 +22,6 @@ use Rattle.bed_rules.specs.InnerWalk.{measured}
 use Rattle.bed_rules.specs.declared.Bed.{Bed}
 use Rattle.bed_rules.specs.declared.Bed.TheVariants.{Blocks, Refused}
 use Rattle.bed_rules.specs.declared.Measured.{Measured}
-use Rattle.bed_rules.specs.declared.Measured.TheVariants as Measured
 
 module _ (start : ℤ) (xs d e : List ℕ) where
   pub too_many : most_ops < length xs → bed_blocks start xs d e ≡ keeps_both (Refused TooManyOps) d e
@@ -95,9 +94,6 @@ measured_not xs u = rw u refl
 pub measured_are : (xs : List ℕ) → unfit xs ≡ false → (n refs : ℕ) → n ≡ length (blocks xs) → refs ≡ sum_of ref_len xs → Measured.Blocks n refs ≡ measured xs
 unfolding measured
 measured_are xs u n refs e f = rw (u, e, f) refl
-
-pub same_blocks : {n m r s : ℕ} → Measured.Blocks n r ≡ Measured.Blocks m s → (n ≡ m) × (r ≡ s)
-same_blocks e = (cc, cc)
 
 pub told_nothing : (xs : List ℕ) → measured xs ≡ Measured.Nothing → unfit xs ≡ true
 unfolding measured

@@ -5,7 +5,6 @@ use Rattle.sam.specs.Op.{ref_len}
 use Rattle.bed_rules.specs.Blocks.{is_skip, Block, blocks}
 use Rattle.bed_rules.specs.Bed.{unfit}
 use Rattle.bed_rules.specs.declared.Measured.{Measured}
-use Rattle.bed_rules.specs.declared.Measured.TheVariants as Measured
 
 -- what the open stretch makes where it ends
 abbrev pub block_of : ℕ → ℕ → List Block

@@ -1,4 +1,6 @@
 // Document 02, item 5, the walk over the ops: what an op more does to it, and the measuring pass. An inner crate of `bed`.
+#![tactic(auto)]
+
 ghost use Rattle.std.specs.Prelude.{◌≡◌, ℕ, ◌+◌, ◌≤◌, ◌<◌, length};
 ghost use Rattle.bed_rules.specs.Blocks.{is_skip};
 ghost use Rattle.bed_rules.specs.InnerWalk.{measured};
@@ -8,7 +10,7 @@ ghost use Rattle.bed_walk.specs.InnerWalked.{Passes, is_early};
 use bed_rules::Measured;
 
 // What a walk has passed: n blocks, and the stretch that is open, by its start, counted from the alignment's, and its size so far.
-#[derive(Drop)]
+#[derive(Clone, Copy)]
 pub struct Walk {
     pub n: usize,
     pub start: u64,

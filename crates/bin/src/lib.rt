@@ -1,4 +1,6 @@
 // Document 01, module 11: the bin of a region, and of a record.
+#![tactic(auto)]
+
 ghost use Rattle.std.specs.Prelude.{◌≡◌, ◌<◌, pos, ◌+ℤ◌};
 ghost use Rattle.answers.specs.Settled.{Settled};
 ghost use Rattle.signed.specs.Equal.{eqℤ};

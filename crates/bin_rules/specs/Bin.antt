@@ -5,10 +5,8 @@ use Rattle.std.specs.Int.Signed.{shr_z, lt_z}
 use Rattle.signed.specs.Equal.{eqℤ}
 use Rattle.signed.specs.Whole.{checked}
 use Rattle.signed.specs.declared.Sum.{Sum}
-use Rattle.signed.specs.declared.Sum.TheVariants as Sum
 use Rattle.sam.specs.Record.{pos_of, is_short}
 use Rattle.answers.specs.declared.Int.{Int}
-use Rattle.answers.specs.declared.Int.TheVariants as Int
 use Rattle.length_rules.specs.Lengths.{checked_ref_length}
 use Rattle.answers.specs.Settled.{Outcome, keeps}
 use Rattle.answers.specs.declared.Refusal.TheVariants.{Overflow, ShortRecord}

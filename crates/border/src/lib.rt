@@ -1,4 +1,6 @@
 // What crosses the C border: a struct for each shape of an answer, its number and its values, that a call returns in registers. An inner crate of the static libraries.
+#![tactic(auto)]
+
 ghost use Rattle.std.specs.Prelude.{◌≡◌, [], ◌∷◌, pos};
 ghost use Rattle.answers.specs.Answers.{number_of, answered, refused, none, some, tell_int, tell_nat, tell_count, tell_flag};
 ghost use Rattle.border.specs.Border.{int_of, count_of, flag_of, found_of, two_of, flagged};

@@ -1,4 +1,6 @@
 // Document 01, module 9: clipping an op list at one end, lent as numbers or in a record. `clip_plan` says what a clip does, and nothing is written before its plan is made.
+#![tactic(auto)]
+
 ghost use Rattle.std.specs.Prelude.{◌≡◌, true, false, ◌≤◌};
 ghost use Rattle.oplist.specs.Ops.{ops_of};
 ghost use Rattle.answers.specs.Settled.{Settled};

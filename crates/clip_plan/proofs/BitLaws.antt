@@ -2,7 +2,7 @@
 use Prim.Native.Nat.{ℕ, ◌+◌, ◌*◌, ◌/◌, ◌≤◌, ◌<◌}
 use mathlib.Core.Path.{◌≡◌}
 use mathlib.Core.List.{List}
-use native.Mathlib.Nat.{add-mul, one-mul, mul-le-mul}
+use native.Mathlib.Nat.{add-mul, one-mul}
 use native.Mathlib.Omega.{arith}
 use lib.Bits.{bit_or, or_add_and, and_le_l, and_le_r}
 use lib.ListN.{length, get_or, drop}
@@ -31,11 +31,3 @@ module _ (xs : List ℕ) (i bits : ℕ) (B : Bounded bits i xs) where
       let s = sum_done len_of xs i (omega arith) in
       let z = B bits (omega arith) in
       rw (← e) (omega arith)
-
--- a sum that the product bounds, with n and w told by their equations
-pub sum_within : {n l w v s : ℕ} → n ≡ l → w ≡ v → s ≤ l * v → n * w ≤ 268435455 → s ≤ 268435455
-sum_within {n = n} {l = l} {w = w} {v = v} e f a b = let p : n * w ≡ l * v = cc in omega arith
-
--- a product that a u64 holds
-pub product_fits : (n w : ℕ) → n ≤ 4294967295 → w < 268435456 → n * w < 18446744073709551616
-product_fits n w h k = let m = mul-le-mul h k in omega arith

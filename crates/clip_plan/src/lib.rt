@@ -1,4 +1,6 @@
 // Document 01, module 9, planning: what a clip takes away and what it puts in its place. Nothing is written; whoever writes or compares a clipped list goes by the plan.
+#![tactic(auto)]
+
 ghost use Rattle.std.specs.Prelude.{◌≡◌, true, List, ℕ, ◌+◌, ◌-◌, ◌*◌, ◌/◌, ◌<◌, ◌≤◌, ◌^◌, ltb, length, drop};
 ghost use Rattle.lists.specs.Lists.{sum_of};
 ghost use Rattle.sam.specs.Op.{len_of, code_of, op_of};

@@ -17,10 +17,9 @@ use Rattle.answers.specs.declared.Refusal.TheVariants.{TooLong, NoRoom, AmountBe
 use Rattle.answers.specs.declared.Count.{Count}
 use Rattle.answers.proofs.Unique.{settled, outcome}
 use Rattle.clip_rules.specs.Clipping.{Cut, clip}
-use Rattle.clip_rules.specs.InnerPlan.{PlanIs, MadeIs, PlannedIs}
+use Rattle.clip_rules.specs.InnerPlan.{PlanIs, PlannedIs}
 use Rattle.clip_rules.specs.Answer.{clipped_ops, clipped_count, is_beyond, clipped_into, clipped_up_to, written, uncounted, without_count}
 use Rattle.clip_rules.specs.declared.Planned.{Planned}
-use Rattle.clip_rules.specs.declared.Planned.TheVariants as Planned
 use Rattle.clip_rules.specs.declared.Clipped.{Clipped}
 use Rattle.clip_rules.specs.declared.Clipped.TheVariants.{Done, Refused}
 
@@ -62,9 +61,6 @@ module _ (xs : List ℕ) (b : Bool) {a skip heads first second lost : ℕ} (P : 
       let s = length-drop skip (facing b xs) in
       omega arith
 
-  pub plan_skip : skip ≤ length xs
-  plan_skip = let m = length_facing b xs in let h = P.skip_in in omega arith
-
   module _ (d d' : List ℕ) (n : ℕ) (short : sum_of len_of xs ≤ 268435455) (near : is_beyond xs a b ≡ false) (fits : n ≤ length d) (long : n ≡ heads + (length xs - skip)) where
     done : (ys : List ℕ) → ys ≡ clipped_ops xs a b → d' ≡ splice d 0 ys → Settled (clipped_into xs a b d) (Done n lost) d'
     unfolding clipped_count
@@ -81,11 +77,6 @@ module _ (xs : List ℕ) (b : Bool) {a skip heads first second lost : ℕ} (P : 
     pub done_end : b ≡ false → d' ≡ splice d 0 (reverse (take heads (first ∷ (second ∷ [])) ++ drop skip (reverse xs))) → Settled (clipped_into xs a b d) (Done n lost) d'
     unfolding clipped_ops
     done_end e w = done (reverse (take heads (first ∷ (second ∷ [])) ++ drop skip (reverse xs))) (rw e (ap reverse (rw e at ops_are))) w
-
--- a plan past 3 and 8
-pub planned : (limit : ℕ) (xs : List ℕ) (a : ℕ) (b : Bool) → length xs ≤ limit → sum_of len_of xs ≤ 268435455 → (p : Planned) → MadeIs xs a b p → PlannedIs limit xs a b p
-planned limit xs a b h l (Planned.Made q) m = (h, l, m)
-planned limit xs a b h l (Planned.Refused r) m = inr (inr (h, l, m))
 
 -- a refusal that comes before the plan
 pub unplanned : (limit : ℕ) (xs : List ℕ) (a : ℕ) (b : Bool) (d : List ℕ) {r : Refusal} → PlannedIs limit xs a b (Planned.Refused r) → clipped_up_to limit xs a b d ≡ keeps (Refused r) d

@@ -11,7 +11,6 @@ use Rattle.answers.specs.Answers.{Told, answered, refused}
 use Rattle.answers.specs.Settled.{Outcome, keeps}
 use Rattle.answers.specs.declared.Refusal.TheVariants.{ShortRecord, TooManyOps, TooLong, NoRoom, AmountBeyond}
 use Rattle.answers.specs.declared.Count.{Count}
-use Rattle.answers.specs.declared.Count.TheVariants as Count
 use Rattle.clip_rules.specs.Clipping.{clip}
 use Rattle.clip_rules.specs.declared.Clipped.{Clipped}
 use Rattle.clip_rules.specs.declared.Clipped.TheVariants.{Done, Refused}

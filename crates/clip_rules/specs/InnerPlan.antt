@@ -4,7 +4,6 @@ use Rattle.lists.specs.Lists.{facing, sum_of}
 use Rattle.sam.specs.Op.{len_of}
 use Rattle.answers.specs.declared.Refusal.TheVariants.{TooManyOps, TooLong, AmountBeyond}
 use Rattle.clip_rules.specs.declared.Planned.{Planned}
-use Rattle.clip_rules.specs.declared.Planned.TheVariants as Planned
 use Rattle.clip_rules.specs.Clipping.{Taken, Cut, taking, clip}
 use Rattle.clip_rules.specs.Answer.{is_beyond}
 

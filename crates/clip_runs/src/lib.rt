@@ -1,4 +1,6 @@
 // The runs of clips that an op list begins with, as seen from either end. An inner crate: the unclipped ends, clipping and the overhang stand on its one walk.
+#![tactic(auto)]
+
 ghost use Rattle.std.specs.Prelude.{◌≡◌, ◌≤◌, ◌<◌, length};
 ghost use Rattle.lists.specs.Lists.{facing};
 ghost use Rattle.sam.specs.Op.{code_of};

@@ -1,4 +1,6 @@
 // Document 01, module 9, taking read bases from an op list: where it ends, and what is left of the op at which it does. An inner crate of clipping.
+#![tactic(auto)]
+
 ghost use Rattle.std.specs.Prelude.{◌≡◌, false, List, ◌∷◌, ℕ, ◌+◌, ◌<◌, ◌≤◌, ◌^◌, length, drop};
 ghost use Rattle.lists.specs.Lists.{facing};
 ghost use Rattle.sam.specs.Op.{op_of};

@@ -1,4 +1,6 @@
 // Document 01, module 9, a clip of an op list: planned, and written to the output as its plan says, by one function for each end. An inner crate of clipping.
+#![tactic(auto)]
+
 ghost use Rattle.std.specs.Prelude.{◌≡◌, [], ◌∷◌, ◌++◌, reverse, ◌+◌, ◌-◌, ◌≤◌, length, take, drop};
 ghost use Rattle.lists.specs.Lists.{splice};
 ghost use Rattle.oplist.specs.Ops.{ops_of};

@@ -6,7 +6,6 @@ use Rattle.oplist.specs.Ops.{record_ops}
 use Rattle.answers.specs.Settled.{Outcome, keeps}
 use Rattle.answers.specs.declared.Refusal.TheVariants.{ShortRecord, NoRoom}
 use Rattle.answers.specs.declared.Count.{Count}
-use Rattle.answers.specs.declared.Count.TheVariants as Count
 
 -- ops into lent memory d: 6
 abbrev pub copied_ops : List ℕ → List ℕ → Outcome Count

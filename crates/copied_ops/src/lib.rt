@@ -1,4 +1,6 @@
 // Document 01, module 2: ops that lie in a record, copied into lent memory.
+#![tactic(auto)]
+
 ghost use Rattle.std.specs.Prelude.{[]};
 ghost use Rattle.answers.specs.Settled.{Settled};
 ghost use Rattle.oplist.specs.Ops.{ops_of};

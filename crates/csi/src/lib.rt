@@ -1,4 +1,6 @@
 // Document 02, item 11: the CSI bin of a region, over min_shift and depth, and all bins that may overlap it.
+#![tactic(auto)]
+
 ghost use Rattle.std.specs.Prelude.{◌≡◌};
 ghost use Rattle.answers.specs.Settled.{Settled};
 ghost use Rattle.csi_rules.specs.Csi.{csi_bin, csi_bins};

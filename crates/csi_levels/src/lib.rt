@@ -1,4 +1,6 @@
 // Document 02, item 11, CSI's levels: the bin of a region and all bins that may overlap it, one level up with each call. An inner crate of `csi`.
+#![tactic(auto)]
+
 ghost use Rattle.std.specs.Prelude.{◌≡◌, ◌+◌, ◌-◌, ◌*◌, ◌/◌, ◌^◌, ◌<◌, ◌≤◌, length};
 ghost use Rattle.lists.specs.Lists.{splice};
 ghost use Rattle.sam.specs.Bins.{first_of, bin_up};

@@ -6,12 +6,9 @@ use Rattle.signed.specs.Whole.{natural}
 use Rattle.answers.specs.Settled.{Outcome, keeps}
 use Rattle.answers.specs.declared.Refusal.TheVariants.{NoRoom, BadLevels, BadRegion}
 use Rattle.answers.specs.declared.Nat.{Nat}
-use Rattle.answers.specs.declared.Nat.TheVariants as Nat
 use Rattle.answers.specs.declared.Count.{Count}
-use Rattle.answers.specs.declared.Count.TheVariants as Count
 use Rattle.sam.specs.Bins.{first_of, bin_up}
 use Rattle.csi_rules.specs.declared.Region.{Region}
-use Rattle.csi_rules.specs.declared.Region.TheVariants as Region
 
 -- "min_shift 10 to 20 and depth 1 to 8"
 abbrev pub served : ℕ → ℕ → Bool

@@ -1,14 +1,12 @@
 -- A run of stores in parts; decimal is the last digits, as many as there are.
 use Prim.Native.Nat.{ℕ, zero, suc, ◌+◌, ◌-◌, ◌*◌, ◌/◌, ◌%◌, ◌^◌, ◌≤◌, ◌<◌}
 use mathlib.Core.Path.{◌≡◌, refl, sym, ap, ◌∙◌, subst}
-use mathlib.Core.Bool.{Bool, true, false, cond}
 use mathlib.Core.List.{List, [], ◌∷◌, ◌++◌}
 use native.Mathlib.Nat.{add-zero, add-suc, suc-add, mod-eq_of_lt, pow-suc, pow-le-pow_right, le-div_iff_mul-le, div-lt_iff_lt-mul, zero-lt-suc}
 use native.Mathlib.Omega.{arith}
 use lib.ListN.{length, set, length-append}
 use lib.Seq.{sets, set_comm}
-use lib.Dec.{ltb}
-use borrow.Author.Tests.{lt-ltb, le-ltb, ltb-true, ltb-false}
+use borrow.Author.Tests.{lt-ltb, le-ltb}
 use Rattle.decimal.specs.Decimal.{dec, decimal}
 use Rattle.decimal.specs.Inner.{Width, last_digits}
 
@@ -39,18 +37,6 @@ digits_turn j n at l =
     sym (set_sets (last_digits j (n / 10)) l at (at + j) (48 + n % 10) (omega arith))
     ∙ ap (λ (k : ℕ). set (sets l at (last_digits j (n / 10))) (at + k) (48 + n % 10)) (sym e)
     ∙ sym (sets_append (last_digits j (n / 10)) ((48 + n % 10) ∷ []) l at)
-
--- the digits of a number below 10000, by how many powers it has got to
-pub short_width : (n : ℕ) → n < 10000 → Width n (1 + cond (ltb n 10) 0 1 + cond (ltb n 100) 0 1 + cond (ltb n 1000) 0 1)
-short_width n h = go (ltb n 10) (ltb n 100) (ltb n 1000) refl refl refl
-  where
-    go : (t u v : Bool) → ltb n 10 ≡ t → ltb n 100 ≡ u → ltb n 1000 ≡ v → Width n (1 + cond t 0 1 + cond u 0 1 + cond v 0 1)
-    go true true true p q r = let l = ltb-true n 10 p in record { some = omega arith; most = omega arith; below = omega arith; least = λ k. omega arith }
-    go false true true p q r = let g = ltb-false n 10 p in let l = ltb-true n 100 q in record { some = omega arith; most = omega arith; below = omega arith; least = λ k. omega arith }
-    go false false true p q r = let g = ltb-false n 100 q in let l = ltb-true n 1000 r in record { some = omega arith; most = omega arith; below = omega arith; least = λ k. omega arith }
-    go false false false p q r = let g = ltb-false n 1000 r in record { some = omega arith; most = omega arith; below = omega arith; least = λ k. omega arith }
-    go true false v p q r = let l = ltb-true n 10 p in let g = ltb-false n 100 q in absurd (omega arith)
-    go t true false p q r = let l = ltb-true n 100 q in let g = ltb-false n 1000 r in absurd (omega arith)
 
 dec_digits : (k f n : ℕ) → k ≤ f → n < 10 ^ suc k → (0 < k → 10 ^ k ≤ n) → dec (suc f) n ≡ last_digits (suc k) n
 unfolding dec last_digits

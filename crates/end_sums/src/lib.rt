@@ -1,4 +1,6 @@
 // Document 01, module 7: the walk over a record's ops to its end, and the sums of its unclipped ends.
+#![tactic(auto)]
+
 ghost use Rattle.std.specs.Prelude.{◌≡◌, ℕ, ◌+◌, ◌≤◌, ◌<◌, List, ◌∷◌, pos};
 ghost use Rattle.lists.specs.Lists.{sum_of};
 ghost use Rattle.signed.specs.declared.Sum.TheVariants.{Number};

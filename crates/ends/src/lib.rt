@@ -1,4 +1,6 @@
 // Document 01, module 7: start and end of a record. Positions are counted from 0 in records, and from 1 in answers.
+#![tactic(auto)]
+
 ghost use Rattle.std.specs.Prelude.{◌≡◌};
 ghost use Rattle.answers.specs.declared.Int.TheVariants as Int;
 ghost use Rattle.ends_rules.specs.Ends.{to_place1, plus_one, one_based, alignment_start, end_at, alignment_end};

@@ -74,11 +74,8 @@ none_left b xs n e f g = eq-eqb _ 0 (ap length (sym f) ∙ sym e ∙ g)
 pub some_left : (b xs : List ℕ) (n : ℕ) → n ≡ length xs → xs ≡ record_ops b → (n ≡ 0 → ⊥) → has_no_ops b ≡ false
 some_left b xs n e f g = ne_eqb _ 0 (λ z. g (e ∙ ap length f ∙ z))
 
--- of an op list: no op, or a place from the next of the given one
+-- of an op list that has ops: a place from the next of the given one
 module _ (xs : List ℕ) (p : Pos0) (reverse : Bool) (n : ℕ) (e : n ≡ length xs) where
-  pub none_by : n ≡ 0 → NoOps ≡ unclipped_by xs p reverse
-  none_by z = simp (eq-eqb (length xs) 0 (sym e ∙ z))
-
   pub placed_by : (n ≡ 0 → ⊥) → (s : Sum) → s ≡ plus_one p → unclipped_at s reverse xs ≡ unclipped_by xs p reverse
   placed_by z s f = simp (ne_eqb (length xs) 0 (λ w. z (e ∙ w)), f)
 

@@ -22,12 +22,10 @@ use Rattle.answers.specs.declared.Pos0.{Pos0}
 use Rattle.answers.specs.declared.Pos1.{Pos1}
 use Rattle.answers.specs.declared.Int.TheVariants as Int
 use Rattle.answers.specs.declared.Place1.{Place1}
-use Rattle.answers.specs.declared.Place1.TheVariants as Place1
 use Rattle.answers.specs.declared.Refusal.TheVariants.{ShortRecord}
 use Rattle.length_rules.specs.Lengths.{checked_ref_length}
 use Rattle.clip_run_rules.specs.Clips.{leading_clips, clips_after_reference}
 use Rattle.ends_rules.specs.declared.Unclipped.{Unclipped}
-use Rattle.ends_rules.specs.declared.Unclipped.TheVariants as Unclipped
 use Rattle.ends_rules.specs.Sums.{both, summed}
 use Rattle.ends_rules.specs.Tails.{greatest_run}
 use Rattle.ends_rules.specs.Ends.{unclipped_start, provided, trailing_sum, unclipped_end, five_prime, to_place1, plus_one, has_no_ops, as_unclipped, unclipped_at, unclipped_of, alignment_start, end_at, alignment_end}

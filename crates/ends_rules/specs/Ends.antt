@@ -6,7 +6,6 @@ use Rattle.std.specs.Int.Signed.{lt_z}
 use Rattle.lists.specs.Lists.{sum_of}
 use Rattle.signed.specs.Whole.{natural}
 use Rattle.signed.specs.declared.Sum.{Sum}
-use Rattle.signed.specs.declared.Sum.TheVariants as Sum
 use Rattle.sam.specs.Op.{ref_len}
 use Rattle.sam.specs.Record.{is_short, pos_of, flags_of, is_unmapped, is_reverse}
 use Rattle.oplist.specs.Ops.{record_ops}
@@ -15,14 +14,10 @@ use Rattle.length_rules.specs.Lengths.{checked_ref_length}
 use Rattle.answers.specs.Answers.{Told, answered, refused}
 use Rattle.answers.specs.declared.Pos0.{Pos0}
 use Rattle.answers.specs.declared.Int.{Int}
-use Rattle.answers.specs.declared.Int.TheVariants as Int
 use Rattle.answers.specs.declared.Place0.{Place0}
-use Rattle.answers.specs.declared.Place0.TheVariants as Place0
 use Rattle.answers.specs.declared.Place1.{Place1}
-use Rattle.answers.specs.declared.Place1.TheVariants as Place1
 use Rattle.answers.specs.declared.Refusal.TheVariants.{ShortRecord, Overflow}
 use Rattle.ends_rules.specs.declared.Unclipped.{Unclipped}
-use Rattle.ends_rules.specs.declared.Unclipped.TheVariants as Unclipped
 use Rattle.ends_rules.specs.Sums.{◌⊕◌, ◌⊖◌, summed}
 use Rattle.ends_rules.specs.Tails.{greatest_run}
 

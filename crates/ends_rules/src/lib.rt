@@ -1,4 +1,6 @@
 // Document 01, module 7: what unclipped ends, start and end of a record are, and what they mean: definitions and proofs. No function stands here.
+#![tactic(auto)]
+
 use answers::{Pos1, Refusal};
 
 // A record's unclipped 5' position: one of three answers, or the refusal.

@@ -4,13 +4,9 @@ use Rattle.sam.specs.Record.{is_short, ops_start, op_count_of, ops_end}
 use Rattle.answers.specs.Answers.{Told, answered, refused, number_of}
 use Rattle.answers.specs.declared.Refusal.TheVariants.{ShortRecord}
 use Rattle.answers.specs.declared.Int.{Int}
-use Rattle.answers.specs.declared.Int.TheVariants as Int
 use Rattle.answers.specs.declared.Nat.{Nat}
-use Rattle.answers.specs.declared.Nat.TheVariants as Nat
 use Rattle.answers.specs.declared.Place0.{Place0}
-use Rattle.answers.specs.declared.Place0.TheVariants as Place0
 use Rattle.fields.specs.declared.Area.{Area}
-use Rattle.fields.specs.declared.Area.TheVariants as Area
 
 abbrev pub int_field : (List ℕ → ℤ) → List ℕ → Int
 int_field f b = cond (is_short b) (Int.Refused ShortRecord) (Int.Number (f b))

@@ -1,7 +1,6 @@
 -- A code above 8 has no kind of its own and no letter.
 use Prim.Native.Nat.{ℕ, ◌≤◌}
 use mathlib.Core.Path.{◌≡◌}
-use native.Mathlib.Omega.{arith}
 use lib.ListN.{get_or-eq_default}
 use Rattle.sam.specs.Op.{letters}
 use Rattle.ops.specs.Ops.{letter_of}
@@ -15,10 +14,3 @@ no_kind c h = get_or-eq_default kinds Pad {n = c} h
 pub no_letter : (c : ℕ) → 9 ≤ c → letter_of c ≡ 0
 unfolding letter_of
 no_letter c h = get_or-eq_default letters 0 {n = c} h
-
--- a number that is none of 0 to 8, in two parts: `omega` takes at most six `≢` at once
-pub past5 : (k : ℕ) → (k ≡ 0 → ⊥) → (k ≡ 1 → ⊥) → (k ≡ 2 → ⊥) → (k ≡ 3 → ⊥) → (k ≡ 4 → ⊥) → 5 ≤ k
-past5 k a b c d e = omega arith
-
-pub past9 : (k : ℕ) → 5 ≤ k → (k ≡ 5 → ⊥) → (k ≡ 6 → ⊥) → (k ≡ 7 → ⊥) → (k ≡ 8 → ⊥) → 9 ≤ k
-past9 k h a b c d = omega arith

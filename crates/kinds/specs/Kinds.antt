@@ -8,7 +8,6 @@ use Rattle.kinds.specs.declared.CigarKind.TheVariants.{Match, Insertion, Deletio
 use Rattle.kinds.specs.declared.KindFound.{KindFound}
 use Rattle.kinds.specs.declared.KindFound.TheVariants.{Kind, Nothing}
 use Rattle.kinds.specs.declared.NewOp.{NewOp}
-use Rattle.kinds.specs.declared.NewOp.TheVariants as NewOp
 
 -- the nine kinds, by code
 abbrev pub code_of_kind : CigarKind → ℕ

@@ -1,4 +1,6 @@
 // Document 01, module 2: the kinds of ops, their codes and letters, and an op as a record holds it.
+#![tactic(auto)]
+
 ghost use Rattle.std.specs.Prelude.{◌≡◌, ◌<◌};
 ghost use Rattle.sam.specs.Op.{len_of, code_of, is_ref, is_query};
 ghost use Rattle.ops.specs.Ops.{letter_of};

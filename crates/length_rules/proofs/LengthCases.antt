@@ -10,7 +10,6 @@ use Rattle.sam.specs.Op.{ref_len, query_len}
 use Rattle.sam.specs.Record.{ops_end}
 use Rattle.answers.specs.declared.Refusal.TheVariants.{ShortRecord, AreaOverrun, TooManyOps, Overflow}
 use Rattle.answers.specs.declared.Int.{Int}
-use Rattle.answers.specs.declared.Int.TheVariants as Int
 use Rattle.answers.specs.declared.Count.TheVariants as Count
 use Rattle.oplist.specs.Ops.{record_ops}
 use Rattle.length_rules.specs.Lengths.{as_int, ref_length_up_to, query_length_up_to, checked_ref_length}

@@ -7,13 +7,10 @@ use Rattle.sam.specs.Record.{ops_end, is_short}
 use Rattle.answers.specs.Answers.{Told, answered, refused}
 use Rattle.answers.specs.declared.Refusal.TheVariants.{ShortRecord, AreaOverrun, TooManyOps, Overflow}
 use Rattle.answers.specs.declared.Int.{Int}
-use Rattle.answers.specs.declared.Int.TheVariants as Int
 use Rattle.answers.specs.declared.Count.{Count}
-use Rattle.answers.specs.declared.Count.TheVariants as Count
 use Rattle.oplist.specs.Ops.{most_ops, most_long_ops, record_ops}
 use Rattle.clip_run_rules.specs.Clips.{leading_soft, leading_hard, trailing_soft, trailing_hard}
 use Rattle.length_rules.specs.declared.Lengths.{Lengths}
-use Rattle.length_rules.specs.declared.Lengths.TheVariants as Lengths
 
 -- a sum as a signed number; from 2^31 on refusal 4
 unfoldable pub as_int : ℕ → Int

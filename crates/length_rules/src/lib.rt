@@ -1,4 +1,6 @@
 // Document 01, module 3: what the lengths of op lists are, lent or in a record: definitions and proofs. No function stands here.
+#![tactic(auto)]
+
 use answers::Refusal;
 
 // The soft and hard bases of a run of clips.

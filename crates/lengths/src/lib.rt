@@ -1,4 +1,6 @@
 // Document 01, module 3: lengths of op lists, lent or in a record. One walk, and thin calls over it.
+#![tactic(auto)]
+
 ghost use Rattle.std.specs.Prelude.{◌≡◌, ◌≤◌};
 ghost use Rattle.length_rules.specs.Lengths.{ref_length_up_to, query_length_up_to, ref_length, query_length, long_ref_length, long_query_length, saturated_length, checked_ref_length, record_query_length, record_lengths};
 

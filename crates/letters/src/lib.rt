@@ -1,4 +1,6 @@
 // Document 02, item 4: one table of letters, from which both readers of text read. An inner crate.
+#![tactic(auto)]
+
 ghost use Rattle.std.specs.Prelude.{◌≡◌, ◌<◌};
 ghost use Rattle.letters.specs.Letters.{entry_of};
 ghost use Rattle.letters.specs.InnerRow.{row_of};
@@ -27,6 +29,7 @@ const CODES: [u64; 16] = [
 ];
 
 // The sixteen entries of a table from byte 16 n on. The places are constants: so no array is built, and the compiler makes one load of it.
+#[tactic(auto, unfolding(crate::specs::InnerRow::row_of))]
 fn row(codes: [u64; 16], n: u8) -> u64
     requires { n < 16 }
     ensures { result ≡ row_of codes n }

@@ -17,7 +17,6 @@ use Rattle.clip_run_rules.specs.InnerWalked.{RunIs}
 use Rattle.clip_run_rules.proofs.RunLaws.{soft_found, hard_found}
 use Rattle.clip_run_rules.proofs.EndLaws.{none_soft, none_hard, some_soft, some_hard, run_refs, run_query, clips_refs, clips_query, clips_only, some_inner, parted}
 use Rattle.length_rules.specs.declared.Lengths.{Lengths}
-use Rattle.length_rules.specs.declared.Lengths.TheVariants as Lengths
 use Rattle.list_lengths.specs.InnerLengths.{of_clips}
 use Rattle.length_rules.specs.Lengths.{as_int, list_lengths}
 

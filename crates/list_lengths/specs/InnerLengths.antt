@@ -1,7 +1,6 @@
 -- What a function within the crate answers of a list that has no op but clips: no reference base, the soft ones as query, and all as the leading pair.
 use Rattle.std.specs.Prelude.{ℕ, pos}
 use Rattle.length_rules.specs.declared.Lengths.{Lengths}
-use Rattle.length_rules.specs.declared.Lengths.TheVariants as Lengths
 
 abbrev pub of_clips : ℕ → ℕ → Lengths
 of_clips soft hard =

@@ -1,5 +1,7 @@
 // Document 01, module 3: the lengths of a list that lies in a record, and the clips at its ends. An inner crate: `lengths` asks it of a record's own ops, and
 // `true_cigar` of its true list.
+#![tactic(auto)]
+
 ghost use Rattle.std.specs.Prelude.{◌≡◌, []};
 ghost use Rattle.oplist.specs.Ops.{ops_of};
 ghost use Rattle.length_rules.specs.Lengths.{list_lengths};

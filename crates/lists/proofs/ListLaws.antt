@@ -1,12 +1,12 @@
 -- Laws of `specs/Lists.antt`: a list seen from its end, and a list written into another. Assumes nothing.
 use mathlib.Core.Path.{◌≡◌, refl, sym, ap, ◌∙◌}
 use mathlib.Core.Bool.{Bool, true, false}
-use mathlib.Core.List.{List, [], ◌∷◌, ◌++◌, reverse, append_assoc, reverse-cons, reverse-append, reverse-reverse}
-use Prim.Native.Nat.{ℕ, zero, suc, ◌+◌, ◌-◌, ◌≤◌, ◌<◌}
+use mathlib.Core.List.{List, [], ◌∷◌, ◌++◌, reverse, append_assoc, reverse-append, reverse-reverse}
+use Prim.Native.Nat.{ℕ, ◌+◌, ◌-◌, ◌≤◌, ◌<◌}
 use native.Mathlib.Numerals.{add-one}
 use native.Mathlib.Omega.{arith}
-use lib.ListN.{length, take, drop, get_or, set, length-append, length-reverse, length-drop, take-append-drop, get_or-append}
-use lib.Seq.{take_at, drop_at, get_or_at, drop-drop, drop-append-add, set_split, take-suc, get_or-drop, length-take-le, take_all}
+use lib.ListN.{length, take, drop, get_or, set, length-append, length-reverse, length-drop, take-append-drop}
+use lib.Seq.{take_at, drop_at, drop-drop, drop-append-add, set_split, take-suc, get_or-drop, length-take-le}
 use Rattle.lists.specs.Lists.{facing, splice}
 
 -- ---- a list seen from the chosen end
@@ -14,20 +14,6 @@ use Rattle.lists.specs.Lists.{facing, splice}
 pub length_facing : (b : Bool) (xs : List ℕ) → length (facing b xs) ≡ length xs
 length_facing true xs = refl
 length_facing false xs = length-reverse xs
-
-pub get_d_reverse : (xs : List ℕ) (i j : ℕ) → i + j + 1 ≡ length xs → get_or (reverse xs) i 0 ≡ get_or xs j 0
-get_d_reverse [] i j h = absurd (omega arith)
-get_d_reverse (x ∷ xs) i zero h =
-    rw (reverse-cons x xs) (get_or_at (reverse xs) x [] 0 i (simp length-reverse (omega arith)))
-get_d_reverse (x ∷ xs) i (suc j) h =
-    rw (reverse-cons x xs)
-    (get_or-append (reverse xs) (x ∷ []) 0 i (simp length-reverse (omega arith)) ∙ get_d_reverse xs i j (omega arith))
-
-pub at_start : (b : Bool) (xs : List ℕ) (i : ℕ) → b ≡ true → get_or xs i 0 ≡ get_or (facing b xs) i 0
-at_start b xs i e = rw e
-
-pub at-end : (b : Bool) (xs : List ℕ) (i : ℕ) → b ≡ false → i < length xs → get_or xs (length xs - 1 - i) 0 ≡ get_or (facing b xs) i 0
-at-end b xs i e h = rw e (sym (get_d_reverse xs i (length xs - 1 - i) (omega arith)))
 
 -- what the end keeps of a list
 pub reverse_drop : (xs : List ℕ) (k : ℕ) → k ≤ length xs → reverse (drop k (reverse xs)) ≡ take (length xs - k) xs
@@ -111,7 +97,3 @@ splice_two d at x y h =
 pub two_parts : (d d₁ d₂ : List ℕ) (at n : ℕ) (vs ws : List ℕ) → at + length vs ≡ n → n ≤ length d → d₁ ≡ splice d at vs → d₂ ≡ splice d₁ n ws → d₂ ≡ splice d at (vs ++ ws)
 two_parts d d₁ d₂ at n vs ws e h p q =
     q ∙ ap (λ (l : List ℕ). splice l n ws) p ∙ ap (λ (k : ℕ). splice (splice d at vs) k ws) (sym e) ∙ splice_append d at vs (omega arith) ws
-
--- a copy of a whole list
-pub whole_copy : (d : List ℕ) (n : ℕ) (xs ys : List ℕ) → xs ≡ ys → n ≡ length ys → splice d 0 (take n (drop 0 xs)) ≡ splice d 0 ys
-whole_copy d n xs ys e h = ap (λ (l : List ℕ). splice d 0 (take n l)) e ∙ ap (splice d 0) (take_all n ys (omega arith))

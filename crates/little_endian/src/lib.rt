@@ -1,4 +1,6 @@
 // Little-endian numbers at a place of a record's bytes. An inner crate: its callers have tested that the bytes are there.
+#![tactic(auto)]
+
 ghost use Rattle.std.specs.Prelude.{◌≡◌, ◌+◌, ◌≤◌, ◌<◌, length};
 ghost use Rattle.sam.specs.Record.{byte_at, le16, le32, int32};
 

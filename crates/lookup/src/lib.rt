@@ -1,4 +1,6 @@
 // Document 01, module 8: the query base over a reference position.
+#![tactic(auto)]
+
 ghost use Rattle.std.specs.Prelude.{◌≡◌, ◌≤◌, max};
 ghost use Rattle.oplist.specs.Ops.{ops_of};
 ghost use Rattle.lookup_rules.specs.Lookup.{look, looked_up_to, looked, long_looked, counted, read_over};

@@ -8,7 +8,6 @@ use Rattle.answers.specs.declared.Refusal.TheVariants.{TooManyOps, BadStart}
 use Rattle.oplist.specs.Ops.{most_ops, most_long_ops}
 use Rattle.lookup_rules.specs.Examined.{examined}
 use Rattle.lookup_rules.specs.declared.Found.{Found}
-use Rattle.lookup_rules.specs.declared.Found.TheVariants as Found
 
 -- a query position, counted from 1; none; or why not
 pub data Answer : Type 0 where

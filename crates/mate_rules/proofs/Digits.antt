@@ -7,7 +7,7 @@ use native.Mathlib.Omega.{arith}
 use lib.Dec.{leb}
 use borrow.Author.Tests.{leb-true, leb-false, le-leb, lt-leb, lt-ltb, le-ltb}
 use Rattle.sam.specs.Text.{Digit, Digits, value, is_digit}
-use Rattle.sam.proofs.TextLaws.{is_digit}
+use Rattle.sam.proofs.TextLaws.{digit_is}
 use Rattle.mate_rules.specs.Run.{counts_as, push_of}
 
 -- ---- what a number counts
@@ -65,7 +65,7 @@ push_alike x n b e a = go (leb x 214748364) refl
 run_alike : (ds : List ℕ) (x n : ℕ) → Digits ds → Alike x n → Alike (run_of x ds) (value n ds)
 unfolding value
 run_alike [] x n k a = a
-run_alike (b ∷ ds) x n k a = run_alike ds (push_of x b) (n * 10 + (b - 48)) k.1 (push_alike x n b (is_digit b k.0) a)
+run_alike (b ∷ ds) x n k a = run_alike ds (push_of x b) (n * 10 + (b - 48)) k.1 (push_alike x n b (digit_is b k.0) a)
 
 -- THE LAW of the run: that it is held does not show
 pub run_counts : (ds : List ℕ) → Digits ds → counts_as (run_of 0 ds) ≡ counts_as (value 0 ds)

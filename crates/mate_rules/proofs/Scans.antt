@@ -7,7 +7,7 @@ use lib.IntN.{ℤ, pos}
 use lib.ListN.{length, drop, get_or}
 use Rattle.lists.proofs.Walks.{step, done}
 use Rattle.sam.specs.Text.{Digits, value, is_digit}
-use Rattle.sam.proofs.TextLaws.{is_digit, a_digit}
+use Rattle.sam.proofs.TextLaws.{digit_is, a_digit}
 use Rattle.mate_rules.specs.Run.{counts_as, push_of}
 use Rattle.mate_rules.specs.Pieces.{Piece, pieces, with_digit, counts}
 use Rattle.mate_rules.specs.InnerScan.{run_after, found_after, scan}
@@ -19,12 +19,12 @@ use Rattle.mate_rules.proofs.Steps.{run_digit, run_letter, push_letter, found_di
 pub no_piece : (ds : List ℕ) → Digits ds → pieces ds ≡ []
 unfolding pieces
 no_piece [] k = refl
-no_piece (d ∷ ds) k = rw (is_digit d k.0) (ap (with_digit d) (no_piece ds k.1))
+no_piece (d ∷ ds) k = rw (digit_is d k.0) (ap (with_digit d) (no_piece ds k.1))
 
 pub first_piece : (ds : List ℕ) (b : ℕ) (t : List ℕ) → Digits ds → is_digit b ≡ false → pieces (ds ++ (b ∷ t)) ≡ record { digits = ds; letter = b } ∷ pieces t
 unfolding pieces
 first_piece [] b t k e = rw e
-first_piece (d ∷ ds) b t k e = rw (is_digit d k.0) (ap (with_digit d) (first_piece ds b t k.1 e))
+first_piece (d ∷ ds) b t k e = rw (digit_is d k.0) (ap (with_digit d) (first_piece ds b t k.1 e))
 
 -- ---- the scan
 

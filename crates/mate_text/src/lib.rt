@@ -1,4 +1,6 @@
 // Document 01, module 6: the mate's unclipped 5' end from text. Reads any bytes, refuses none; each step saturates.
+#![tactic(auto)]
+
 ghost use Rattle.std.specs.Prelude.{◌≡◌, ◌≤◌, ◌<◌, pos, length};
 ghost use Rattle.sam.specs.Text.{is_digit};
 ghost use Rattle.mate_rules.specs.Run.{counts_as, push_of};

@@ -1,4 +1,6 @@
 // Document 02, item 13: matches told apart from MD. A measuring pass decides every refusal, and then the list is written, each M as its runs of = and X.
+#![tactic(auto)]
+
 ghost use Rattle.std.specs.Prelude.{◌≡◌, ◌≤◌, ◌<◌, length};
 ghost use Rattle.lists.specs.Lists.{splice};
 ghost use Rattle.lists.specs.Runs.{holds};

@@ -13,7 +13,6 @@ use Rattle.oplist.specs.Ops.{most_ops}
 use Rattle.answers.specs.Settled.{Outcome, keeps}
 use Rattle.answers.specs.declared.Refusal.TheVariants.{TooManyOps, BadMd, MatchesTold, MdDisagrees, NoRoom}
 use Rattle.answers.specs.declared.Count.{Count}
-use Rattle.answers.specs.declared.Count.TheVariants as Count
 use Rattle.md_rules.specs.Md.{well_formed, columns_of}
 use Rattle.md_rules.specs.Rule.{is_told, agrees, told, match_ops}
 

@@ -8,7 +8,6 @@ use Rattle.lists.specs.Runs.{holds}
 use Rattle.answers.specs.Settled.{Outcome, keeps}
 use Rattle.answers.specs.declared.Refusal.TheVariants.{BadMd, MatchesTold, MdDisagrees, NoRoom}
 use Rattle.answers.specs.declared.Count.{Count}
-use Rattle.answers.specs.declared.Count.TheVariants as Count
 use Rattle.md_rules.specs.Md.{fits, well_formed, columns_from}
 use Rattle.md_rules.specs.Rule.{joined, runs, bases, lost_at, op_agrees, op_leaves, op_told, agrees, told, match_ops}
 

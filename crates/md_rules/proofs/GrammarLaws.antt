@@ -9,7 +9,7 @@ use Rattle.lists.proofs.Absurd.{false_true}
 use Rattle.lists.proofs.EachLaws.{each_append}
 use Rattle.sam.specs.Text.{Digit, Digits, is_digit, value}
 use Rattle.sam.specs.Md.{Capital, Capitals, is_capital, MdColumn, MdColumn.Match, MdColumn.Mismatch, MdColumn.Deleted, SpellsMd, SpellsMd.number, SpellsMd.letter, SpellsMd.caret}
-use Rattle.sam.proofs.TextLaws.{is_digit, a_digit}
+use Rattle.sam.proofs.TextLaws.{digit_is, a_digit}
 use Rattle.sam.proofs.MdLaws.{is-capital, a_capital}
 use Rattle.md_rules.specs.Md.{fits, well_formed, Within.InNumber, Within.InLetters, columns_from, columns_of}
 use Rattle.md_rules.specs.declared.Place.TheVariants.{Wants, Number, Caret, Letters}
@@ -21,14 +21,14 @@ digits-run : (ds : List ℕ) (n : ℕ) (s : List ℕ) → Digits ds → (fits Nu
 unfolding value
 digits-run [] n s h = (refl, refl)
 digits-run (d ∷ ds) n s h =
-    let e = is_digit d h.0 in
+    let e = digit_is d h.0 in
     let r = digits-run ds (n * 10 + (d - 48)) s h.1 in
     (fits_digit d (ds ++ s) e ∙ r.0, columns_digit n d (ds ++ s) e ∙ r.1)
 
 number_run : (d : ℕ) (ds s : List ℕ) → Digits (d ∷ ds) → (fits Wants ((d ∷ ds) ++ s) ≡ fits Number s) × (columns_from InNumber 0 ((d ∷ ds) ++ s) ≡ columns_from InNumber (value 0 (d ∷ ds)) s)
 unfolding value
 number_run d ds s h =
-    let e = is_digit d h.0 in
+    let e = digit_is d h.0 in
     let r = digits-run ds (0 * 10 + (d - 48)) s h.1 in
     (fits_begin d (ds ++ s) e ∙ r.0, columns_digit 0 d (ds ++ s) e ∙ r.1)
 

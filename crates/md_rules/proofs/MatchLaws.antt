@@ -27,9 +27,6 @@ pub record Left (text : List ℕ) (cs : List MdColumn) (N from n k at left count
   pub few : count + k + n ≤ from + N
   pub longer : length (columns_at text at left) ≤ length cs
 
-pub begun : (text : List ℕ) (N from at left : ℕ) → Behind text at → Left text (columns_at text at left) N from N 0 at left from
-begun text N from at left w = record { behind = w; are = refl; rest = refl; counted = refl; since = omega arith; few = omega arith; longer = omega arith }
-
 module _ (text : List ℕ) (cs : List MdColumn) (N from n k at left count : ℕ) (l : Left text cs N from n k at left count) where
   -- the matches that are left, a letter and a number
   module _ (h : left < n) (i : at < length text) (c : is_capital (get_or text at 0) ≡ true) where

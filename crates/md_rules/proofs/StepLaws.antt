@@ -16,7 +16,6 @@ use Rattle.md_rules.specs.InnerWalk.{most, Behind, columns_here, ReadAt, FigureA
 use Rattle.md_rules.specs.declared.Figure.{Figure}
 use Rattle.md_rules.specs.declared.Spot.{Spot}
 use Rattle.md_rules.specs.declared.Step.{Step}
-use Rattle.md_rules.specs.declared.Step.TheVariants as Step
 use Rattle.md_rules.proofs.OpLaws.{match-agrees, match-leaves, match-told, kept-told, loss-agrees, loss-leaves, other-agrees, other-leaves, lost_behind, lost-end, lost-letter, lost-room, lost-capital, lost-large, loss-here, loss-behind}
 use Rattle.md_rules.proofs.PlaceLaws.{side}
 use Rattle.md_rules.proofs.RunLaws.{loss_some}

@@ -10,9 +10,7 @@ use Rattle.md_rules.specs.declared.Place.TheVariants.{Wants, Number}
 use Rattle.md_rules.specs.declared.Figure.{Figure}
 use Rattle.md_rules.specs.declared.Spot.{Spot}
 use Rattle.md_rules.specs.declared.Step.{Step}
-use Rattle.md_rules.specs.declared.Step.TheVariants as Step
 use Rattle.md_rules.specs.declared.Walked.{Walked}
-use Rattle.md_rules.specs.declared.Walked.TheVariants as Walked
 
 -- more bases than 65,535 ops have
 abbrev pub most : ℕ

@@ -9,7 +9,6 @@ use Rattle.oplist.specs.Ops.{most_ops}
 use Rattle.answers.specs.Settled.{Outcome, keeps}
 use Rattle.answers.specs.declared.Refusal.TheVariants.{TooManyOps, BadMd, MatchesTold, MdDisagrees, NoRoom}
 use Rattle.answers.specs.declared.Count.{Count}
-use Rattle.answers.specs.declared.Count.TheVariants as Count
 use Rattle.md_rules.specs.Md.{well_formed, columns_of}
 
 -- M, which may be a match or a mismatch

@@ -1,4 +1,5 @@
 // Document 02, item 13: what MD makes of an op list, and what the functions of `md_text`, `md_runs` and `md` come to: definitions and proofs. No function stands here.
+#![tactic(auto)]
 
 // Where a text stands: a number has to begin; in a number; behind `^`; in the letters behind it; or it is no MD.
 #[derive(Drop)]

@@ -1,4 +1,6 @@
 // Document 02, item 13, an M as its runs of = and X: counted, and written. An inner crate of `md`.
+#![tactic(auto)]
+
 ghost use Rattle.std.specs.Prelude.{◌≡◌, true, ◌+◌, ◌≤◌, ◌<◌, length};
 ghost use Rattle.lists.specs.Lists.{splice};
 ghost use Rattle.md_rules.specs.Rule.{is_match};

@@ -1,4 +1,6 @@
 // Document 02, item 13, the text of MD: whether it is one, its numbers, and the letters that a D passes. An inner crate of `md`.
+#![tactic(auto)]
+
 ghost use Rattle.std.specs.Prelude.{◌≡◌, ◌&&◌, ◌-◌, ◌≤◌, ◌<◌, length, take, drop};
 ghost use Rattle.sam.specs.Text.{is_digit};
 ghost use Rattle.sam.specs.Md.{is_capital};

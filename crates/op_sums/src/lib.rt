@@ -1,4 +1,6 @@
 // Document 01, module 3: the one walk that sums the reference and query bases of an op list, and a sum as a signed number. An inner crate of the lengths.
+#![tactic(auto)]
+
 ghost use Rattle.std.specs.Prelude.{◌≡◌, cond, ◌+◌, ◌*◌, ◌≤◌, ◌<◌, length, drop, pos};
 ghost use Rattle.lists.specs.Lists.{sum_of};
 ghost use Rattle.signed.specs.Whole.{clamp32};

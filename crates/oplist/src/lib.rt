@@ -1,4 +1,6 @@
 // The op list wherever it lies: lent as numbers, or in a record's bytes. An inner crate; every rule is one walk over this.
+#![tactic(auto)]
+
 ghost use Rattle.std.specs.Prelude.{◌≡◌, ℕ, ◌+◌, ◌*◌, ◌≤◌, ◌<◌, List, length, get_or, take, drop, leb};
 ghost use Rattle.lists.specs.Lists.{facing, splice};
 ghost use Rattle.sam.specs.Record.{ops_start, op_count_of};
@@ -11,7 +13,7 @@ pub const MOST_OPS: usize = 65535;
 pub const MOST_LONG_OPS: usize = 1048576;
 
 // Where an op list lies: n ops from place `at` of a record, or the first n of a list.
-#[derive(Drop)]
+#[derive(Clone, Copy)]
 pub struct Ops {
     pub inside: bool,
     pub at: usize,

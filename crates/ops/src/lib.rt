@@ -1,4 +1,6 @@
 // Document 01, module 2: what ops consume, and their lengths.
+#![tactic(auto)]
+
 ghost use Rattle.std.specs.Prelude.{◌≡◌, ◌%◌, ◌<◌};
 ghost use Rattle.sam.specs.Op.{len_of, is_ref, is_query, ref_len, query_len};
 ghost use Rattle.ops.specs.Ops.{is_read, read_len, is_clip};

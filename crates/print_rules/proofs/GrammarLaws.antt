@@ -1,15 +1,14 @@
--- What is printed is in the specification's grammar and means the list.
+-- What is printed spells the list, in the specification's words.
 use Prim.Native.Nat.{ℕ, ◌<◌}
 use mathlib.Core.Path.{◌≡◌, refl, sym, ap, ◌∙◌, subst}
 use mathlib.Core.Bool.{Bool, true, false, ◌||◌}
 use mathlib.Core.List.{List, [], ◌∷◌, ◌++◌, append_assoc}
 use native.Mathlib.Omega.{arith}
 use lib.Dec.{ltb}
-use lib.ListN.{length}
 use borrow.Author.Tests.{ltb-false}
 use Rattle.lists.proofs.Absurd.{never}
 use Rattle.sam.specs.Op.{len_of, code_of, op_of}
-use Rattle.sam.specs.Text.{Digits, value, Spells, Spells.end, Spells.op, Cigar}
+use Rattle.sam.specs.Text.{Digits, value, Spells}
 use Rattle.ops.specs.Ops.{letter_of}
 use Rattle.decimal.specs.Decimal.{decimal}
 use Rattle.decimal.proofs.Meaning.{decimal_means}
@@ -38,7 +37,3 @@ print_spells (o ∷ xs) e = go (ltb 8 (code_of o)) refl e (print_spells xs)
     go : (t : Bool) → ltb 8 (code_of o) ≡ t → (t || any_bad xs) ≡ false → (any_bad xs ≡ false → Spells (text_of xs) xs) → Spells (op_text o ++ text_of xs) (o ∷ xs)
     go true q f ih = never (cc)
     go false q f ih = let low = ltb-false 8 (code_of o) q in op_spells o (text_of xs) xs (omega arith) (ih f)
-
--- of one op or more it is in the grammar
-pub print_cigar : (xs : List ℕ) → any_bad xs ≡ false → 0 < length xs → Cigar (text_of xs) xs
-print_cigar xs e h = record { spells = print_spells xs e; some = h }

@@ -1,3 +1,4 @@
 pub mod GrammarLaws
+pub mod CigarLaws
 pub mod PrintLaws
 pub mod AnswerLaws

@@ -2,7 +2,6 @@
 use Rattle.std.specs.Prelude.{ℕ, cond, List, length}
 use Rattle.print_rules.specs.Text.{any_bad, text_of}
 use Rattle.print_rules.specs.declared.Room.{Room}
-use Rattle.print_rules.specs.declared.Room.TheVariants as Room
 
 unfoldable pub room_of : List ℕ → Room
 room_of xs = cond (any_bad xs) Room.BadCode (Room.Bytes (length (text_of xs)))

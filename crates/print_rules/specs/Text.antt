@@ -7,7 +7,6 @@ use Rattle.oplist.specs.Ops.{record_ops}
 use Rattle.answers.specs.Settled.{Outcome, keeps}
 use Rattle.answers.specs.declared.Refusal.TheVariants.{ShortRecord, BadCode, NoRoom}
 use Rattle.answers.specs.declared.Count.{Count}
-use Rattle.answers.specs.declared.Count.TheVariants as Count
 use Rattle.ops.specs.Ops.{letter_of}
 use Rattle.decimal.specs.Decimal.{decimal}
 

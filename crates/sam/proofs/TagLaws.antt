@@ -11,14 +11,14 @@ use borrow.Author.Tests.{lt-ltb, le-ltb, ltb-true, ltb-false, eq-eqb, ne_eqb, eq
 use Rattle.lists.proofs.Absurd.{false_true}
 use Rattle.sam.specs.Op.{len_of, code_of, op_of}
 use Rattle.sam.specs.Record.{byte_at, le32}
-use Rattle.sam.specs.Tags.{number_size, array_size, value_size, tag_size, tag_at, Ends, Breaks, Then, tags_behind, tags_of, is_op_array, array_count, is_placeholder}
+use Rattle.sam.specs.Tags.{number_size, array_size, value_size, tag_size, tag_at, Ends, Breaks, Then, tags_behind, tags_of, is_placeholder}
 
 -- ---- bytes and numbers behind a place
 
 pub byte : (b : List ℕ) (at i k : ℕ) → at + i ≡ k → byte_at (drop at b) i ≡ byte_at b k
 byte b at i k e = get_or-drop at b i 0 ∙ ap (byte_at b) e
 
-same_number : (a b c d a' b' c' d' : ℕ) → a ≡ a' → b ≡ b' → c ≡ c' → d ≡ d' → a + 256 * b + 65536 * c + 16777216 * d ≡ a' + 256 * b' + 65536 * c' + 16777216 * d'
+pub same_number : (a b c d a' b' c' d' : ℕ) → a ≡ a' → b ≡ b' → c ≡ c' → d ≡ d' → a + 256 * b + 65536 * c + 16777216 * d ≡ a' + 256 * b' + 65536 * c' + 16777216 * d'
 same_number a b c d a' b' c' d' p q r s = omega arith
 
 pub number : (b : List ℕ) (at i k : ℕ) → at + i ≡ k → le32 (drop at b) i ≡ le32 b k
@@ -40,17 +40,13 @@ unfolding array_size
 array_is s h e = simp (le-ltb (length s) 5 h, ne_eqb (number_size (byte_at s 0)) 0 e)
 
 -- an array has its type and its count
-array_least : (s : List ℕ) → 0 < array_size s → 5 ≤ array_size s
+pub array_least : (s : List ℕ) → 0 < array_size s → 5 ≤ array_size s
 array_least s h = go (ltb (length s) 5) refl (eqb (number_size (byte_at s 0)) 0) refl
   where
     go : (t : Bool) → ltb (length s) 5 ≡ t → (u : Bool) → eqb (number_size (byte_at s 0)) 0 ≡ u → 5 ≤ array_size s
     go true p u q = let z = array_short s (ltb-true (length s) 5 p) in absurd (omega arith)
     go false p true q = let z = array_other s (ltb-false (length s) 5 p) (eqb-true (number_size (byte_at s 0)) 0 q) in absurd (omega arith)
     go false p false q = let z = array_is s (ltb-false (length s) 5 p) (eqb-false (number_size (byte_at s 0)) 0 q) in omega arith
-
-four : number_size 73 ≡ 4
-unfolding number_size
-four = refl
 
 -- ---- a tag
 
@@ -98,45 +94,9 @@ module _ (s : List ℕ) where
         let e : length (take (tag_size s - 3) (drop 3 s)) ≡ tag_size s - 3 = length-take-le (tag_size s - 3) (drop 3 s) (omega arith) in
         omega arith
 
-    value-byte : (i k : ℕ) → 3 + i ≡ k → k < tag_size s → byte_at (tag_at s).value i ≡ byte_at s k
+    pub value-byte : (i k : ℕ) → 3 + i ≡ k → k < tag_size s → byte_at (tag_at s).value i ≡ byte_at s k
     unfolding tag_at
     value-byte i k e g = get_or-take (tag_size s - 3) (drop 3 s) i 0 (omega arith) ∙ byte s 3 i k e
-
-    -- an array in a tag: its type, its count
-    pub array-fits : byte_at s 2 ≡ 66 → 8 ≤ tag_size s
-    unfolding value_size
-    array-fits e =
-        let w = whole h in
-        let v : value_size (byte_at s 2) (drop 3 s) ≡ array_size (drop 3 s) = ap (λ (k : ℕ). value_size k (drop 3 s)) e in
-        let a = array_least (drop 3 s) (omega arith) in
-        omega arith
-
-    pub count-is : byte_at s 2 ≡ 66 → array_count (tag_at s) ≡ le32 s 4
-    count-is e =
-        let f = array-fits e in
-        same_number _ _ _ _ _ _ _ _ (value-byte 1 4 refl (omega arith)) (value-byte 2 5 refl (omega arith)) (value-byte 3 6 refl (omega arith)) (value-byte 4 7 refl (omega arith))
-
-    pub no-array : (byte_at s 2 ≡ 66 → ⊥) → is_op_array (tag_at s) ≡ false
-    unfolding is_op_array tag_at
-    no-array f = simp (ne_eqb (byte_at s 2) 66 f)
-
-    pub array-of-ops : byte_at s 2 ≡ 66 → (t : Bool) → eqb (byte_at s 3) 73 ≡ t → is_op_array (tag_at s) ≡ t
-    unfolding is_op_array tag_at
-    array-of-ops e t f = let a = array-fits e in simp (eq-eqb (byte_at s 2) 66 e) (ap (λ (k : ℕ). eqb k 73) (value-byte 0 3 refl (omega arith)) ∙ f)
-
-    -- an array of ops in a tag
-    pub ops_size : byte_at s 2 ≡ 66 → byte_at s 3 ≡ 73 → tag_size s ≡ 8 + 4 * le32 s 4
-    unfolding value_size
-    ops_size e f =
-        let w = whole h in
-        let r = array-fits e in
-        let l = length-drop 3 s in
-        let n = number s 3 1 4 refl in
-        let k : number_size (byte_at (drop 3 s) 0) ≡ 4 = ap number_size (byte s 3 0 3 refl ∙ f) ∙ four in
-        let v : value_size (byte_at s 2) (drop 3 s) ≡ array_size (drop 3 s) = ap (λ (k : ℕ). value_size k (drop 3 s)) e in
-        let a : array_size (drop 3 s) ≡ 5 + 4 * le32 (drop 3 s) 1 =
-        array_is (drop 3 s) (omega arith) (λ z. omega arith) ∙ ap (λ (j : ℕ). 5 + j * le32 (drop 3 s) 1) k in
-        omega arith
 
 -- ---- the tags of bytes
 

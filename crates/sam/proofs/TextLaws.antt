@@ -7,8 +7,8 @@ use borrow.Author.Tests.{le-leb, leb-true}
 use Rattle.lists.proofs.Absurd.{never}
 use Rattle.sam.specs.Text.{Digit, is_digit}
 
-pub is_digit : (b : ℕ) → Digit b → is_digit b ≡ true
-is_digit b d = rw (le-leb 48 b d.least, le-leb b 57 d.most)
+pub digit_is : (b : ℕ) → Digit b → is_digit b ≡ true
+digit_is b d = rw (le-leb 48 b d.least, le-leb b 57 d.most)
 
 pub a_digit : (b : ℕ) → is_digit b ≡ true → Digit b
 a_digit b e = go (leb 48 b) refl (leb b 57) refl e

@@ -1,4 +1,6 @@
 // 32-bit signed numbers: two's complement, checked and saturating sums. No other crate does signed arithmetic.
+#![tactic(auto)]
+
 ghost use Rattle.std.specs.Prelude.{◌≡◌, ◌<◌, ◌+ℤ◌, ◌-ℤ◌};
 ghost use Rattle.signed.specs.Equal.{eqℤ};
 ghost use Rattle.signed.specs.Whole.{twos32, twos64, bits32, raised, natural, side_of, checked, clamp32};

@@ -12,7 +12,8 @@ use Rattle.lists.specs.Lists.{Each}
 use Rattle.sam.specs.Record.{byte_at, le32, seq_len_of, ops_end, ops_in, tags_start, uint32, op_bytes}
 use Rattle.sam.specs.Tags.{number_size, tag_size, tags_behind, tags_of, Tag, tag_at, Breaks, Then, is_cg, is_op_array, is_placeholder}
 use Rattle.sam.specs.TagBytes.{Proper, array, bytes_of, all_bytes}
-use Rattle.sam.proofs.TagLaws.{whole, value-length, ops_size}
+use Rattle.sam.proofs.TagLaws.{whole, value-length}
+use Rattle.sam.proofs.TagArrayLaws.{ops_size}
 use Rattle.sam.proofs.PartLaws.{length_op_bytes, read_ops}
 use Rattle.oplist.specs.Ops.{most_long_ops, ops_of, record_ops}
 use Rattle.oplist.proofs.OpsLaws.{in_is}

@@ -9,7 +9,8 @@ use lib.Seq.{drop-drop}
 use borrow.Author.Tests.{lt-ltb, le-ltb, eq-eqb, ne_eqb}
 use Rattle.sam.specs.Record.{byte_at, le32}
 use Rattle.sam.specs.Tags.{tag_size, tag_at, tags_of, is_cg, array_count}
-use Rattle.sam.proofs.TagLaws.{value-length, count-is, no-array, array-of-ops, tags_end, tags_break, tags_then}
+use Rattle.sam.proofs.TagLaws.{value-length, tags_end, tags_break, tags_then}
+use Rattle.sam.proofs.TagArrayLaws.{count-is, no-array, array-of-ops}
 use Rattle.oplist.specs.Ops.{most_long_ops}
 use Rattle.answers.specs.declared.Refusal.TheVariants.{TooManyOps, BadTags, OtherCg}
 use Rattle.tag_rules.specs.Long.{list_in, first_cg}

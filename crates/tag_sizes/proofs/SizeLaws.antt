@@ -1,5 +1,5 @@
 -- What the code computes at a place is the size of what stands at the front of the bytes behind it.
-use Prim.Native.Nat.{ℕ, zero, suc, ◌+◌, ◌*◌, ◌≤◌, ◌<◌}
+use Prim.Native.Nat.{ℕ, ◌+◌, ◌*◌, ◌≤◌, ◌<◌}
 use mathlib.Core.Path.{◌≡◌, refl, sym, ap, ◌∙◌}
 use mathlib.Core.List.{List}
 use native.Mathlib.Omega.{arith}
@@ -33,15 +33,6 @@ array_at b at w n h p q f =
     ap (λ (k : ℕ). 5 + k * n) e
     ∙ ap (λ (k : ℕ). 5 + number_size (byte_at (drop at b) 0) * k) (q ∙ sym (number b at 1 (at + 1) refl))
     ∙ sym (array_is (drop at b) (simp length-drop (omega arith)) (λ z. f (e ∙ z)))
-
--- a number of numbers is small
-pub product : (w n : ℕ) → w ≤ 4 → n ≤ 4294967295 → w * n ≤ 17179869180
-product zero n h k = omega arith
-product (suc zero) n h k = omega arith
-product (suc (suc zero)) n h k = omega arith
-product (suc (suc (suc zero))) n h k = omega arith
-product (suc (suc (suc (suc zero)))) n h k = omega arith
-product (suc (suc (suc (suc (suc w))))) n h k = absurd (omega arith)
 
 -- ---- a tag's value
 

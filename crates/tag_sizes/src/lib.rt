@@ -1,4 +1,6 @@
 // Document 02, item 1: the sizes of tags, by their types. An inner crate of the reader of a record's true op list.
+#![tactic(auto)]
+
 ghost use Rattle.std.specs.Prelude.{◌≡◌, ◌+◌, ◌≤◌, ◌<◌, length, drop};
 ghost use Rattle.sam.specs.Tags.{number_size, to_nul, array_size, value_size, tag_size};
 

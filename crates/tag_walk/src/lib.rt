@@ -1,4 +1,6 @@
 // Document 02, item 1: the walk over tags, up to the first CG, and the list in it. An inner crate of the reader of a record's true op list.
+#![tactic(auto)]
+
 ghost use Rattle.std.specs.Prelude.{◌≡◌, ◌+◌, ◌≤◌, ◌<◌, length, drop};
 ghost use Rattle.sam.specs.Tags.{tag_size, tag_at, tags_of, is_cg};
 ghost use Rattle.tag_rules.specs.Long.{list_in, first_cg};

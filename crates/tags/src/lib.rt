@@ -1,5 +1,7 @@
 // Document 02, item 1: the reader of a record's true op list. It walks the tags only behind a placeholder, up to the first CG, and writes nothing. An inner crate:
 // `true_cigar` has the calls over the list that it finds.
+#![tactic(auto)]
+
 ghost use Rattle.std.specs.Prelude.{◌≡◌, ◌≤◌, length};
 ghost use Rattle.sam.specs.Record.{ops_start, op_count_of, ops_end, seq_len_of};
 ghost use Rattle.sam.specs.Tags.{is_placeholder};

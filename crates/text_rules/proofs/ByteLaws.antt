@@ -5,7 +5,7 @@ use mathlib.Core.Bool.{true, false, or-true}
 use borrow.Author.Tests.{lt-ltb, le-ltb, eq-eqb, ne_eqb}
 use Rattle.sam.specs.Op.{letter_code}
 use Rattle.sam.specs.Text.{is_digit}
-use Rattle.text_rules.specs.Text.{Effect, Effect.Number, Effect.Letter, Effect.Bad, effect_of}
+use Rattle.text_rules.specs.Text.{Effect, effect_of}
 
 module _ (num b : ℕ) where
   pub byte_digit : is_digit b ≡ true → num * 10 + (b - 48) ≤ 268435455 → effect_of num b ≡ Effect.Number (num * 10 + (b - 48))

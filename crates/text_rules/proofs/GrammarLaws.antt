@@ -10,15 +10,15 @@ use borrow.Author.Tests.{ltb-false, eqb-false}
 use Rattle.lists.proofs.EachLaws.{each_map}
 use Rattle.lists.proofs.Absurd.{never}
 use Rattle.sam.specs.Op.{len_of, op_of, letters, letter_code}
-use Rattle.sam.specs.Text.{Digit, Digits, value, Spells, Spells.end, Spells.op}
+use Rattle.sam.specs.Text.{Digit, Digits, value, Spells}
 use Rattle.sam.specs.Text.{is_digit}
-use Rattle.text_rules.specs.Text.{Effect, Effect.Number, Effect.Letter, Effect.Bad, effect_of, on_effect, row_from, is_row, ops_from, text_ops}
+use Rattle.text_rules.specs.Text.{Effect, effect_of, on_effect, row_from, is_row, ops_from, text_ops}
 use Rattle.text_rules.specs.Valid.{valid_mapped}
 use Rattle.text_rules.specs.Strict.{strict}
 use Rattle.lists.specs.Lists.{Each}
 use Rattle.text_rules.specs.Meaning.{MappedText}
 use Rattle.sam.proofs.LetterLaws.{letter-code, letter_digit, code_letter}
-use Rattle.sam.proofs.TextLaws.{is_digit, a_digit}
+use Rattle.sam.proofs.TextLaws.{digit_is, a_digit}
 use Rattle.text_rules.proofs.ByteLaws.{byte_digit, byte_letter}
 use Rattle.text_rules.proofs.ValidLaws.{split_and, valid-mapped, mapped_valid}
 
@@ -33,10 +33,10 @@ run_row : (ds : List ℕ) (b num : ℕ) (some : Bool) (s : List ℕ) → Digits 
     → (row_from num some ((b ∷ ds) ++ s) ≡ row_from (value num (b ∷ ds)) true s) × (ops_from num ((b ∷ ds) ++ s) ≡ ops_from (value num (b ∷ ds)) s)
 unfolding value row_from ops_from
 run_row [] b num some s h m =
-    let n = byte_digit num b (is_digit b h.0) m in
+    let n = byte_digit num b (digit_is b h.0) m in
     (rw n, rw n)
 run_row (d ∷ ds) b num some s h m =
-    let n = byte_digit num b (is_digit b h.0) (omega (arith, m, value_ge (d ∷ ds) (num * 10 + (b - 48)) h.1)) in
+    let n = byte_digit num b (digit_is b h.0) (omega (arith, m, value_ge (d ∷ ds) (num * 10 + (b - 48)) h.1)) in
     let r = run_row ds d (num * 10 + (b - 48)) true s h.1 m in
     (rw n r.0, rw n r.1)
 

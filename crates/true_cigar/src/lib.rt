@@ -1,5 +1,7 @@
 // Document 02, item 1: a record's true op list, which may stand in its tag CG: the part of the record that holds it, and the calls that read it. Each is the walk that
 // reads a record's own list, over the list that `tags` finds.
+#![tactic(auto)]
+
 ghost use Rattle.std.specs.Prelude.{◌≡◌};
 ghost use Rattle.answers.specs.Settled.{Settled};
 ghost use Rattle.true_rules.specs.True.{true_part, true_part_refusal, true_ops, true_printed, true_lengths};

@@ -1,5 +1,7 @@
 // Document 02, item 1: the ends of a record's true op list, which may stand in its tag CG: its unclipped position, and clipping at either end. Each is what is made of a
 // record's own list, over the list that `tags` finds.
+#![tactic(auto)]
+
 ghost use Rattle.std.specs.Prelude.{◌≡◌};
 ghost use Rattle.answers.specs.Settled.{Settled};
 ghost use Rattle.true_rules.specs.True.{true_unclipped, true_start, true_end};

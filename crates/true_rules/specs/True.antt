@@ -4,21 +4,17 @@ use Rattle.sam.specs.Record.{is_short, pos_of, flags_of, is_unmapped, is_reverse
 use Rattle.answers.specs.declared.Refusal.{Refusal}
 use Rattle.answers.specs.declared.Refusal.TheVariants.{ShortRecord}
 use Rattle.answers.specs.declared.Count.{Count}
-use Rattle.answers.specs.declared.Count.TheVariants as Count
 use Rattle.answers.specs.Settled.{Outcome, keeps}
 use Rattle.tag_rules.specs.Long.{true_list, part_of, refusal_of, read_from}
 use Rattle.copied_ops.specs.Copied.{copied_ops}
 use Rattle.print_rules.specs.Text.{printed_ops}
 use Rattle.length_rules.specs.Lengths.{list_lengths}
 use Rattle.length_rules.specs.declared.Lengths.{Lengths}
-use Rattle.length_rules.specs.declared.Lengths.TheVariants as Lengths
 use Rattle.tag_rules.specs.declared.TrueList.TheVariants.{At}
 use Rattle.ends_rules.specs.Ends.{unclipped_by}
 use Rattle.ends_rules.specs.declared.Unclipped.{Unclipped}
-use Rattle.ends_rules.specs.declared.Unclipped.TheVariants as Unclipped
 use Rattle.clip_rules.specs.Answer.{clipped_into, without_count}
 use Rattle.clip_rules.specs.declared.Clipped.{Clipped}
-use Rattle.clip_rules.specs.declared.Clipped.TheVariants as Clipped
 
 -- `true_cigar_raw_bytes`: "the part of the record holding the list", and the number beside it
 abbrev pub true_part : List ℕ → List ℕ

@@ -1,4 +1,6 @@
 // Document 01, module 7: unclipped ends of a record. Positions are counted from 0 in records, and from 1 in answers.
+#![tactic(auto)]
+
 ghost use Rattle.std.specs.Prelude.{◌≡◌, []};
 ghost use Rattle.oplist.specs.Ops.{ops_of};
 ghost use Rattle.ends_rules.specs.Ends.{to_place0, as_unclipped, unclipped_by, unclipped_of, unclipped_from};

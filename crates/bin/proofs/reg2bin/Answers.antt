@@ -1,0 +1,28 @@
+use mathlib.Core.Path.{◌≡◌, ap, sym, ◌∙◌}
+use mir.Syntax.{w32}
+use mir.Val.{to_z, of_z}
+use mir.Facts.{to_z-of_z}
+use lib.IntN.{pos, ◌-ℤ◌}
+use Rattle.signed.specs.Whole.{checked}
+use Rattle.answers.specs.declared.Nat.TheVariants.{Number}
+use Rattle.bin_rules.specs.Bin.{bin_to, reg2bin}
+use borrow.Author.Rules.{rules}
+use Rattle.bin.proofs.reg2bin.Goals as goal
+
+pub returns-in-Number : goal.returns-in-Number
+unfolding reg2bin bin_to
+returns-in-Number c =
+    let told : c.checked_sub.result ≡ checked (c.args.end -ℤ pos 1) =
+    simp (to_z-of_z c.ranges.end) at c.checked_sub.ensures
+    in
+    let r : to_z w32 (of_z w32 c.in-Number.last) ≡ c.in-Number.last = search rules in
+    let e : to_z w32 (of_z w32 c.args.beg.0) ≡ c.args.beg.0 = search rules in
+    simp (sym (told) ∙ c.in-Number.is) (ap Number (simp (e, r) at c.bin_of.ensures))
+
+pub returns-in-Over : goal.returns-in-Over
+unfolding reg2bin bin_to
+returns-in-Over c =
+    let told : c.checked_sub.result ≡ checked (c.args.end -ℤ pos 1) =
+    simp (to_z-of_z c.ranges.end) at c.checked_sub.ensures
+    in
+    simp (sym (told) ∙ c.in-Over.is)

@@ -1,0 +1,18 @@
+-- Refusal 1 is the test's, and the rest is that of the end, over the record's ops.
+use mathlib.Core.Path.{ap}
+use mathlib.Core.Bool.{false}
+use borrow.Author.Tests.{lt-ltb, le-ltb}
+use Rattle.answers.proofs.Unique.{settled, resettled}
+use Rattle.clip_rules.specs.Answer.{clipped_record, without_count}
+use Rattle.clip_rules.proofs.AnswerLaws.{own_limit}
+use Rattle.clip.proofs.clip_cigar_end.Goals as goal
+
+pub returns-then-bam-lt32 : goal.returns-then-bam-lt32
+unfolding clipped_record
+returns-then-bam-lt32 c =
+    settled (simp (lt-ltb _ _ c.if-bam-lt32.true))
+
+pub returns : goal.returns
+unfolding clipped_record
+returns c =
+    simp (le-ltb _ _ c.if-bam-lt32.false) (resettled (ap without_count (own_limit _ _ c.args.amount false c.args.out.now _ c.count-limit.ensures.0 (c.of_record-list.ensures.by_index _))) c.clip_end.ensures)

@@ -1,0 +1,29 @@
+use mathlib.Core.Path.{◌≡◌, sym, ap, ◌∙◌}
+use mir.Facts.{to_z-of_z}
+use Rattle.answers.specs.declared.Nat.TheVariants.{Number}
+use Rattle.csi_rules.specs.Csi.{region_of, bin_in, csi_bin}
+use Rattle.csi.proofs.Calls.{found}
+use Rattle.csi.proofs.csi_reg2bin.Goals as goal
+
+pub bin_up-requires : goal.bin_up-requires
+bin_up-requires c =
+    let told : c.region_of.result ≡ region_of c.args.beg c.args.end c.args.min_shift c.args.depth =
+    simp (to_z-of_z c.ranges.beg, to_z-of_z c.ranges.end) at c.region_of.ensures
+    in
+    found c.args.beg c.args.end _ _ _ _ (sym (told) ∙ c.in-Over.is)
+
+pub returns-in-Over : goal.returns-in-Over
+unfolding csi_bin
+returns-in-Over c =
+    let told : c.region_of.result ≡ region_of c.args.beg c.args.end c.args.min_shift c.args.depth =
+    simp (to_z-of_z c.ranges.beg, to_z-of_z c.ranges.end) at c.region_of.ensures
+    in
+    ap Number c.bin_up.ensures ∙ sym (ap (bin_in c.args.min_shift c.args.depth) (sym (told) ∙ c.in-Over.is))
+
+pub returns-in-Refused : goal.returns-in-Refused
+unfolding csi_bin
+returns-in-Refused c =
+    let told : c.region_of.result ≡ region_of c.args.beg c.args.end c.args.min_shift c.args.depth =
+    simp (to_z-of_z c.ranges.beg, to_z-of_z c.ranges.end) at c.region_of.ensures
+    in
+    sym (ap (bin_in c.args.min_shift c.args.depth) (sym (told) ∙ c.in-Refused.is))

@@ -1,0 +1,12 @@
+-- `mate_text::mate_unclipped_5prime_1based` meets its contract: the definition at the test's two answers.
+use borrow.Author.Rules.{rules}
+use Rattle.mate_text.specs.Mate.{mate_five_prime, mate_unclipped1}
+use Rattle.mate_text.proofs.mate_unclipped_5prime_1based.Goals as goal
+
+pub returns-then-reverse : goal.returns-then-reverse
+unfolding mate_unclipped1 mate_five_prime
+returns-then-reverse c = search rules
+
+pub returns : goal.returns
+unfolding mate_unclipped1 mate_five_prime
+returns c = search rules

@@ -1,0 +1,6 @@
+-- The mask is the table.
+use Rattle.ops.proofs.CodeLaws.{query_bit}
+use Rattle.ops.proofs.consumes_query.Goals as goal
+
+pub returns : goal.returns
+returns c = query_bit c.args.op

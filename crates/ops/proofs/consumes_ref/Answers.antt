@@ -1,0 +1,6 @@
+-- The mask is the table.
+use Rattle.ops.proofs.CodeLaws.{ref_bit}
+use Rattle.ops.proofs.consumes_ref.Goals as goal
+
+pub returns : goal.returns
+returns c = ref_bit c.args.op

@@ -1,0 +1,24 @@
+-- The two bytes of the name.
+use Prim.Native.Nat.{◌+◌}
+use mathlib.Core.Path.{refl}
+use native.Mathlib.Omega.{arith}
+use lib.ListN.{drop}
+use borrow.Author.Tests.{eq-eqb, ne_eqb}
+use Rattle.sam.specs.Tags.{tag_at, is_cg}
+use Rattle.sam.proofs.TagLaws.{byte, whole}
+use Rattle.tag_walk.proofs.is_cg.Goals as goal
+
+pub returns-then-b-at-ne67 : goal.returns-then-b-at-ne67
+unfolding is_cg tag_at
+returns-then-b-at-ne67 c =
+    simp (byte c.args.b.now c.args.at 0 c.args.at (omega arith), ne_eqb _ 67 c.if-b-at-ne67.true)
+
+pub bounds-b-at-2 : goal.bounds-b-at-2
+bounds-b-at-2 c =
+    let w = whole (drop c.args.at c.args.b.now) c.requires.nonzero in
+    omega (arith, w.0, c.requires.b_in_bounds)
+
+pub returns : goal.returns
+unfolding is_cg tag_at
+returns c =
+    simp (byte c.args.b.now c.args.at 0 c.args.at (omega arith), eq-eqb _ 67 c.if-b-at-ne67.false, byte c.args.b.now c.args.at 1 (c.args.at + 1) refl)
