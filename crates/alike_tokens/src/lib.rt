@@ -1,4 +1,6 @@
 // Document 01, module 5: an op of a text whose number of digits is foreseen. An inner crate of the strict reader.
+#![tactic(auto)]
+
 ghost use Rattle.std.specs.Prelude.{◌≡◌, true, ◌+◌, ◌≤◌, ◌<◌, length};
 ghost use Rattle.tokens.specs.InnerToken.{ShortAt, Lettered};
 

@@ -7,7 +7,7 @@ use native.Mathlib.Omega.{arith}
 use lib.Dec.{ltb, eqb}
 use lib.ListN.{length, drop, length-append, length-drop}
 use lib.Seq.{drop-append-le, drop-drop}
-use borrow.Author.Tests.{lt-ltb, le-ltb, ltb-true, ltb-false, eq-eqb, eqb-true, eqb-false}
+use borrow.Author.Tests.{lt-ltb, le-ltb, ltb-true, ltb-false, eq-eqb, eqb-true}
 use Rattle.lists.proofs.Absurd.{never}
 use Rattle.sam.specs.Record.{byte_at, le32}
 use Rattle.little_endian.proofs.FrontLaws.{front_number}
@@ -113,9 +113,6 @@ part_records (Names (suc n)) s e = absurd (omega (arith, eqb-true (suc n) 0 e))
 
 -- ---- places
 
-pub some_left : (part : HeadPart) (left : ℕ) → part ≡ Names left → is_records part ≡ false → 1 ≤ left
-some_left part left e h = omega (arith, eqb-false left 0 (sym (ap is_records e) ∙ h))
-
 pub ready_skip : (p : HeadPlace) (n : ℕ) → is_ready p n ≡ true → 0 < p.skip → 0 < n
 ready_skip p n e h = ltb-true 0 n (simp (lt-ltb 0 p.skip h) at e)
 
@@ -151,9 +148,6 @@ begun_records p s b = go (ltb 0 p.skip) refl b
         ap (λ (k : ℕ). past_bytes k (from_part p.part) s) z ∙ past_none (from_part p.part) s ∙ part_records p.part s b
 
 -- ---- blocks
-
-pub gone_start : (s : List ℕ) (p : HeadPlace) → HeadGone s p (record { used = 0; place = p })
-gone_start s p = record { within = omega arith; same = λ ys. refl }
 
 pub gone_turn : (s : List ℕ) (p q : HeadPlace) (used : ℕ) (r : Step) → HeadGone s p (record { used = used; place = q }) → HeadGone (drop used s) q r
     → HeadGone s p (record { used = used + r.used; place = r.place })

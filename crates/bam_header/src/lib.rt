@@ -1,10 +1,12 @@
 // The SAM specification's section 4.2: where the records of a BAM stream begin, found block by block wherever the stream is cut. An inner crate of the program `bam_to_cgr`.
+#![tactic(auto)]
+
 ghost use Rattle.std.specs.Prelude.{◌≡◌, true, false, List, ℕ, ◌<◌, min, length};
 ghost use Rattle.bam_header.specs.Header.{is_bam, texted};
 ghost use Rattle.bam_header.specs.Inner.{is_records, from_place, behind_number, is_ready, is_begun, HeadGone, HeadWent};
 
 // What comes next in a head: the size of its text, the number of its references, or the references that are left, each behind its name's size.
-#[derive(Drop)]
+#[derive(Clone, Copy)]
 pub enum HeadPart {
     TextSize,
     Count,
@@ -12,14 +14,14 @@ pub enum HeadPart {
 }
 
 // Where a head was left: so many bytes are to be skipped before that part.
-#[derive(Drop)]
+#[derive(Clone, Copy)]
 pub struct HeadPlace {
     pub skip: u64,
     pub part: HeadPart,
 }
 
 // How far a block of input went: the bytes used, and the place behind them.
-#[derive(Drop)]
+#[derive(Clone, Copy)]
 pub struct Step {
     pub used: usize,
     pub place: HeadPlace,

@@ -1,4 +1,6 @@
 // How the lengths of an op list cross the C border. An inner crate of the static libraries `exports` and `exports_long`.
+#![tactic(auto)]
+
 ghost use Rattle.std.specs.Prelude.{◌≡◌};
 ghost use Rattle.length_rules.specs.Lengths.{tell_lengths};
 ghost use Rattle.border.specs.Border.{lengths_of};

@@ -1,4 +1,6 @@
 // How the answers of the unclipped position, clipping, lookup, the overhang by text and the blocks cross the C border. An inner crate of the static library `exports_reads`.
+#![tactic(auto)]
+
 ghost use Rattle.std.specs.Prelude.{◌≡◌};
 ghost use Rattle.bed_rules.specs.Bed.{tell_bed};
 ghost use Rattle.ends_rules.specs.Ends.{tell_unclipped};

@@ -1,4 +1,6 @@
 // How the receiving check's answer crosses the C border. An inner crate of the static library `exports_records`.
+#![tactic(auto)]
+
 ghost use Rattle.std.specs.Prelude.{◌≡◌};
 ghost use Rattle.receive_rules.specs.Receiving.{part_number, tell_received};
 ghost use Rattle.border.specs.Border.{count_of};

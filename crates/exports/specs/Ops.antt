@@ -3,7 +3,6 @@ use Rattle.std.specs.Prelude.{ℕ, pos}
 use Rattle.answers.specs.Answers.{Told, answered, refused, some, none}
 use Rattle.kinds.specs.Kinds.{letter_of_kind, new_op}
 use Rattle.kinds.specs.declared.NewOp.{NewOp}
-use Rattle.kinds.specs.declared.NewOp.TheVariants as NewOp
 use Rattle.kinds.specs.declared.KindFound.{KindFound}
 use Rattle.kinds.specs.declared.KindFound.TheVariants.{Kind, Nothing}
 

@@ -1,4 +1,6 @@
 // The static library, fourth part: clipped records and the receiving check, as include/cigar.h declares them.
+#![tactic(auto)]
+
 ghost use Rattle.std.specs.Prelude.{◌≡◌};
 ghost use Rattle.answers.specs.Answers.{tell_count};
 ghost use Rattle.answers.specs.Settled.{Settled};

@@ -21,17 +21,13 @@ use Rattle.answers.specs.declared.Refusal.{Refusal}
 use Rattle.answers.specs.declared.Refusal.TheVariants.{ShortRecord, AreaOverrun, Overflow}
 use Rattle.answers.specs.declared.Pos1.{Pos1}
 use Rattle.answers.specs.declared.Int.{Int}
-use Rattle.answers.specs.declared.Int.TheVariants as Int
 use Rattle.answers.specs.declared.Nat.{Nat}
-use Rattle.answers.specs.declared.Nat.TheVariants as Nat
 use Rattle.answers.specs.declared.Count.{Count}
-use Rattle.answers.specs.declared.Count.TheVariants as Count
 use Rattle.decimal.specs.Decimal.{decimal}
 use Rattle.print_rules.specs.Text.{text_of, printed}
 use Rattle.length_rules.specs.Lengths.{as_int, checked_ref_length}
 use Rattle.ends_rules.specs.Ends.{unclipped_of, tell_unclipped}
 use Rattle.ends_rules.specs.declared.Unclipped.{Unclipped}
-use Rattle.ends_rules.specs.declared.Unclipped.TheVariants as Unclipped
 use Rattle.bin_rules.specs.Bin.{record_bin}
 use Rattle.put_text.specs.Puts.{Put, signed_decimal}
 use Rattle.put_text.proofs.PutLaws.{put_then, put_as, put_dropped}
@@ -63,12 +59,6 @@ unmapped_shown = refl
 
 pub no_ops_shown : or_dot Unclipped.NoOps ≡ 46 ∷ []
 no_ops_shown = refl
-
-pub no_place : (u : Unclipped) → ((p : Pos1) → u ≡ Unclipped.At p → ⊥) → 46 ∷ [] ≡ or_dot u
-no_place (Unclipped.At p) h = absurd (h p refl)
-no_place Unclipped.Unmapped h = refl
-no_place Unclipped.NoOps h = refl
-no_place (Unclipped.Refused r) h = refl
 
 -- ---- the text, where a part of memory was printed into
 

@@ -14,7 +14,6 @@ use Rattle.lists.specs.Lists.{splice, sum_of}
 use Rattle.lists.specs.Runs.{holds}
 use Rattle.signed.specs.Whole.{checked}
 use Rattle.signed.specs.declared.Sum.{Sum}
-use Rattle.signed.specs.declared.Sum.TheVariants as Sum
 use Rattle.sam.specs.Op.{ref_len, query_len}
 use Rattle.sam.specs.Record.{ops_end, pos_of, flags_of, is_unmapped, is_reverse, is_short}
 use Rattle.oplist.specs.Ops.{record_ops}
@@ -23,16 +22,13 @@ use Rattle.answers.specs.Settled.{Outcome, keeps}
 use Rattle.answers.specs.declared.Refusal.{Refusal}
 use Rattle.answers.specs.declared.Refusal.TheVariants.{ShortRecord, AreaOverrun, Overflow, NoRoom, BadCode}
 use Rattle.answers.specs.declared.Int.{Int}
-use Rattle.answers.specs.declared.Int.TheVariants as Int
 use Rattle.answers.specs.declared.Nat.TheVariants as Nat
 use Rattle.answers.specs.declared.Count.{Count}
-use Rattle.answers.specs.declared.Count.TheVariants as Count
 use Rattle.print_rules.specs.Text.{text_of, any_bad, printed}
 use Rattle.length_rules.specs.Lengths.{as_int, checked_ref_length, record_query_length}
 use Rattle.ends_rules.specs.Sums.{◌⊕◌}
 use Rattle.ends_rules.specs.Ends.{plus_one, five_prime, has_no_ops, as_unclipped, unclipped_at, unclipped_of, tell_unclipped}
 use Rattle.ends_rules.specs.declared.Unclipped.{Unclipped}
-use Rattle.ends_rules.specs.declared.Unclipped.TheVariants as Unclipped
 use Rattle.bin_rules.specs.Bin.{bin_to, reg2bin, bin_up_to, span_of, record_bin, bin_from}
 use Rattle.line_rules.specs.Line.{text_room, text_told, refs_told, five_told, bin_told, order, first_of, refusal_of}
 

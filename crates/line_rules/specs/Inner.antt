@@ -5,14 +5,11 @@ use Rattle.sam.specs.Op.{query_len}
 use Rattle.sam.specs.Record.{seq_len_of}
 use Rattle.oplist.specs.Ops.{record_ops}
 use Rattle.answers.specs.declared.Int.{Int}
-use Rattle.answers.specs.declared.Int.TheVariants as Int
 use Rattle.answers.specs.declared.Nat.{Nat}
-use Rattle.answers.specs.declared.Nat.TheVariants as Nat
 use Rattle.answers.specs.declared.Count.TheVariants as Count
 use Rattle.length_rules.specs.Lengths.{checked_ref_length}
 use Rattle.ends_rules.specs.Ends.{unclipped_of}
 use Rattle.ends_rules.specs.declared.Unclipped.{Unclipped}
-use Rattle.ends_rules.specs.declared.Unclipped.TheVariants as Unclipped
 use Rattle.bin_rules.specs.Bin.{record_bin}
 use Rattle.decimal.specs.Decimal.{decimal}
 use Rattle.print_rules.specs.Text.{text_of, printed}
@@ -20,9 +17,7 @@ use Rattle.put_text.specs.Puts.{Put, signed_decimal}
 use Rattle.line_rules.specs.Line.{text_room, or_star, or_dot, length_mark}
 use Rattle.line_rules.specs.declared.LineRow.{LineRow}
 use Rattle.line_rules.specs.declared.Figures.{Figures}
-use Rattle.line_rules.specs.declared.Figures.TheVariants as Figures
 use Rattle.line_rules.specs.declared.Text.{Text}
-use Rattle.line_rules.specs.declared.Text.TheVariants as Text
 
 -- the figures with the bin, or why there is none
 abbrev pub with_bin : ℤ → ℕ → Unclipped → Nat → ℕ → Figures

@@ -12,7 +12,6 @@ use Rattle.print_rules.specs.Text.{text_of, printed}
 use Rattle.length_rules.specs.Lengths.{checked_ref_length, record_query_length}
 use Rattle.ends_rules.specs.Ends.{unclipped_of, tell_unclipped}
 use Rattle.ends_rules.specs.declared.Unclipped.{Unclipped}
-use Rattle.ends_rules.specs.declared.Unclipped.TheVariants as Unclipped
 use Rattle.bin_rules.specs.Bin.{record_bin}
 use Rattle.put_text.specs.Puts.{signed_decimal}
 

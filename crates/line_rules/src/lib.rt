@@ -1,4 +1,6 @@
 // Document 01, section Program: what the line of a record is, and what the functions of `report_line` come to: definitions and proofs. No function stands here.
+#![tactic(auto)]
+
 use answers::Refusal;
 use ends_rules::Unclipped;
 

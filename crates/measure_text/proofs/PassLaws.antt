@@ -27,7 +27,6 @@ use Rattle.measure_text.specs.declared.SoFar.{SoFar}
 use Rattle.measure_text.specs.declared.Took.{Took}
 use Rattle.measure_text.specs.declared.Took.TheVariants.{More, Stop}
 use Rattle.parsed_rules.specs.declared.Measured.{Measured}
-use Rattle.parsed_rules.specs.declared.Measured.TheVariants as Measured
 use Rattle.tokens.proofs.TextLaws.{at-end}
 use Rattle.validity.proofs.StageLaws.{ref_b, class_ref, long_class, short_class, wrong_accept, valid_run}
 

@@ -8,7 +8,6 @@ use Rattle.measure_text.specs.declared.SoFar.{SoFar}
 use Rattle.measure_text.specs.declared.Took.{Took}
 use Rattle.measure_text.specs.declared.Took.TheVariants.{More, Stop}
 use Rattle.parsed_rules.specs.declared.Measured.{Measured}
-use Rattle.parsed_rules.specs.declared.Measured.TheVariants as Measured
 
 -- the reference bases of an op of this class
 abbrev pub ref_bases_of : Class → ℕ → ℕ

@@ -1,4 +1,6 @@
 // Document 01, module 5: the measuring pass of the strict reader, and the ops of a text written. An inner crate of the overhang by text.
+#![tactic(auto)]
+
 ghost use Rattle.std.specs.Prelude.{◌≡◌, ◌+◌, ◌≤◌, ◌<◌, min, length, take};
 ghost use Rattle.lists.specs.Lists.{splice};
 ghost use Rattle.text_rules.specs.Text.{text_ops};

@@ -1,4 +1,6 @@
 // Document 01, module 10: the query bases that a read has past its mate, over op lists wherever they lie.
+#![tactic(auto)]
+
 ghost use Rattle.std.specs.Prelude.{◌≡◌, ◌+◌, ◌-◌, ◌≤◌, ◌<◌, cond, false, ◌&&◌, ltb, length};
 ghost use Rattle.lists.specs.Lists.{facing, sum_of};
 ghost use Rattle.sam.specs.Op.{code_of, is_query, ref_len};

@@ -1,4 +1,6 @@
 // Document 01, module 10: the positions between a read and its mate, each step within an i32. An inner crate of the overhang.
+#![tactic(auto)]
+
 ghost use Rattle.std.specs.Prelude.{◌≡◌, ◌+◌, ◌-◌, ◌≤◌, ◌<◌, min, false, pos, ◌+ℤ◌, ◌-ℤ◌, leb};
 ghost use Rattle.std.specs.Int.Signed.{lt_z};
 ghost use Rattle.signed.specs.Whole.{raised, clamp32};
@@ -8,7 +10,7 @@ ghost use Rattle.overhang_rules.specs.InnerSides.{short_of, meet_at, clip_gap, r
 use answers::Pos1;
 
 // Where an alignment lies: its first and last position, and its reference bases.
-#[derive(Drop)]
+#[derive(Clone, Copy)]
 pub struct Extent {
     pub start: Pos1,
     pub end: Pos1,

@@ -25,10 +25,6 @@ differ e p q = cc
 pub of_places : (b : Bool) (xs ys : List ℕ) {p q m l : ℤ} {n : ℕ} → n ≡ overhang_of b p xs m ys → p ≡ q → m ≡ l → n ≡ overhang_of b q xs l ys
 of_places b xs ys e f g = cc
 
--- of equal lists
-pub of_lists : (b : Bool) (p m : ℤ) {x xs y ys : List ℕ} {n : ℕ} → n ≡ overhang_of b p x m y → x ≡ xs → y ≡ ys → n ≡ overhang_of b p xs m ys
-of_lists b p m e f g = cc
-
 -- the later of two positions is at or after each
 later_over : (p m t : ℤ) → SFits w32 p → SFits w32 m → t ≡ later_of p m → (raised p ≤ raised t) × (raised m ≤ raised t)
 later_over p m t f g z = rw z (go (lt_z p m) refl)

@@ -7,7 +7,6 @@ use Rattle.signed.specs.Whole.{natural, clamp32}
 use Rattle.sam.specs.Op.{query_len, ref_len}
 use Rattle.answers.specs.declared.Refusal.TheVariants.{TooManyOps}
 use Rattle.answers.specs.declared.Count.{Count}
-use Rattle.answers.specs.declared.Count.TheVariants as Count
 use Rattle.oplist.specs.Ops.{most_ops}
 use Rattle.overhang_rules.specs.Reach.{bases_up_to, soft_clip}
 

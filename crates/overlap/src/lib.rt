@@ -1,4 +1,6 @@
 // Document 01, module 10: the query bases that a record has past its mate, by the mate's ops or its record.
+#![tactic(auto)]
+
 ghost use Rattle.std.specs.Prelude.{◌≡◌, ◌≤◌, length};
 ghost use Rattle.oplist.specs.Ops.{ops_of};
 ghost use Rattle.overlap_rules.specs.Overlap.{both_places, placed_pair, is_over, bases_at, overhang_at, pair_overhang, past_mate_cigar, past_mate_record};

@@ -13,14 +13,11 @@ use Rattle.lists.proofs.Absurd.{never}
 use Rattle.signed.specs.Whole.{clamp32}
 use Rattle.signed.specs.declared.Sum.{Sum}
 use Rattle.sam.specs.Op.{ref_len}
-use Rattle.sam.specs.Record.{pos_of, flags_of, mate_pos_of, is_reverse}
+use Rattle.sam.specs.Record.{pos_of, mate_pos_of}
 use Rattle.answers.specs.Settled.{keeps}
-use Rattle.answers.specs.declared.Pos1.{Pos1}
 use Rattle.answers.specs.declared.Refusal.TheVariants.{ShortRecord, TooManyOps, Overflow, NoRoom}
 use Rattle.answers.specs.declared.Flag.{Flag}
-use Rattle.answers.specs.declared.Flag.TheVariants as Flag
 use Rattle.answers.specs.declared.Count.{Count}
-use Rattle.answers.specs.declared.Count.TheVariants as Count
 use Rattle.oplist.specs.Ops.{most_ops, record_ops}
 use Rattle.ends_rules.specs.Ends.{plus_one}
 use Rattle.text_rules.specs.Text.{text_ops}
@@ -28,14 +25,10 @@ use Rattle.text_rules.specs.Valid.{valid_mapped}
 use Rattle.text_rules.specs.Strict.{strict}
 use Rattle.parsed_rules.specs.Parsed.{measured_text}
 use Rattle.parsed_rules.specs.declared.Measured.{Measured}
-use Rattle.parsed_rules.specs.declared.Measured.TheVariants as Measured
 use Rattle.parsed_rules.proofs.ParsedLaws.{ops_bad, ops_some}
 use Rattle.pairs_rules.specs.Pairs.{is_fr_with_mate, is_primary_fr}
-use Rattle.overhang_rules.specs.Overhang.{overhang_of}
 use Rattle.overlap_rules.specs.declared.PairPlaces.{PairPlaces}
-use Rattle.overlap_rules.specs.declared.PairPlaces.TheVariants as PairPlaces
 use Rattle.overlap_rules.specs.declared.Overhang.{Overhang}
-use Rattle.overlap_rules.specs.declared.Overhang.TheVariants as Overhang
 use Rattle.overlap_rules.specs.Overlap.{both_places, placed_pair, is_over, bases_at, overhang_at, pair_overhang, is_fr_by, past_mate_cigar, past_mate_record, list_left, pair_list_left, past_mate_text}
 use Rattle.overlap_rules.specs.InnerOverlap.{is_no}
 
@@ -49,10 +42,6 @@ module _ (fr : Bool) (b : List ℕ) (m : ℤ) where
   pub together : {r : PairPlaces} {x y : Sum} → fr ≡ true → x ≡ plus_one (record { 0 = pos_of b }) → y ≡ plus_one (record { 0 = m }) → r ≡ both_places x y → r ≡ placed_pair fr b m
   unfolding placed_pair
   together e p q h = simp e (rw (← p, ← q) h)
-
-module _ {r : ℕ} (b ys : List ℕ) (p : Pos1) (m : Pos1) where
-  pub bases_are : {f : Bool} {xs zs : List ℕ} → f ≡ is_reverse (flags_of b) → xs ≡ record_ops b → zs ≡ ys → r ≡ overhang_of f p.0 xs m.0 zs → r ≡ bases_at (PairPlaces.At p m) b ys
-  bases_are e x z h = rw (← e, ← x, ← z) h
 
 module _ (p : PairPlaces) (b ys : List ℕ) where
   pub over : is_over p ≡ true → Count.Refused Overflow ≡ overhang_at p b ys

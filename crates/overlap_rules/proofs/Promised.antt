@@ -14,9 +14,7 @@ use Rattle.answers.specs.Settled.{Outcome, keeps}
 use Rattle.answers.specs.declared.Refusal.{Refusal}
 use Rattle.answers.specs.declared.Refusal.TheVariants.{ShortRecord, TooManyOps, Overflow, NoRoom}
 use Rattle.answers.specs.declared.Count.{Count}
-use Rattle.answers.specs.declared.Count.TheVariants as Count
 use Rattle.answers.specs.declared.Flag.{Flag}
-use Rattle.answers.specs.declared.Flag.TheVariants as Flag
 use Rattle.oplist.specs.Ops.{most_ops, record_ops}
 use Rattle.text_rules.specs.Text.{text_ops}
 use Rattle.text_rules.specs.Valid.{valid_mapped}
@@ -25,9 +23,7 @@ use Rattle.pairs_rules.specs.Pairs.{is_primary_fr}
 use Rattle.overhang_rules.specs.Overhang.{overhang_of, bases_extending}
 use Rattle.overhang_rules.proofs.Most.{overhang_most}
 use Rattle.overlap_rules.specs.declared.PairPlaces.{PairPlaces}
-use Rattle.overlap_rules.specs.declared.PairPlaces.TheVariants as PairPlaces
 use Rattle.overlap_rules.specs.declared.Overhang.{Overhang}
-use Rattle.overlap_rules.specs.declared.Overhang.TheVariants as Overhang
 use Rattle.overlap_rules.specs.Bound.{Within, WithinText}
 use Rattle.overlap_rules.specs.Overlap.{placed_pair, is_over, bases_at, overhang_at, pair_overhang, is_fr_by, past_mate_cigar, past_mate_record, list_left, pair_list_left, past_mate_text}
 

@@ -1,9 +1,7 @@
 -- Document 01, module 10: "An overhang never exceeds the read's query length." Of an answer, that it is at most so many; a refusal has no overhang.
 use Rattle.std.specs.Prelude.{ℕ, ◌≤◌}
 use Rattle.answers.specs.declared.Count.{Count}
-use Rattle.answers.specs.declared.Count.TheVariants as Count
 use Rattle.overlap_rules.specs.declared.Overhang.{Overhang}
-use Rattle.overlap_rules.specs.declared.Overhang.TheVariants as Overhang
 
 abbrev pub Within : Count → ℕ → Type 0
 Within (Count.Number n) most = n ≤ most

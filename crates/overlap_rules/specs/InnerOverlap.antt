@@ -1,7 +1,6 @@
 -- What the calls on records ask of a pair test before they look at the mate's list.
 use Rattle.std.specs.Prelude.{Bool, false, not}
 use Rattle.answers.specs.declared.Flag.{Flag}
-use Rattle.answers.specs.declared.Flag.TheVariants as Flag
 
 -- the pair test answers no
 abbrev pub is_no : Flag → Bool

@@ -4,16 +4,13 @@ use Rattle.std.specs.Prelude.{ℕ, Bool, true, false, cond, not, List, [], ◌�
 use Rattle.lists.specs.Lists.{sum_of, splice}
 use Rattle.signed.specs.Whole.{clamp32}
 use Rattle.signed.specs.declared.Sum.{Sum}
-use Rattle.signed.specs.declared.Sum.TheVariants as Sum
 use Rattle.sam.specs.Op.{ref_len}
 use Rattle.sam.specs.Record.{pos_of, flags_of, mate_pos_of, is_reverse, is_short}
 use Rattle.answers.specs.Answers.{Told, answered, refused}
 use Rattle.answers.specs.Settled.{Outcome, keeps}
 use Rattle.answers.specs.declared.Refusal.TheVariants.{ShortRecord, TooManyOps, Overflow, NoRoom}
 use Rattle.answers.specs.declared.Count.{Count}
-use Rattle.answers.specs.declared.Count.TheVariants as Count
 use Rattle.answers.specs.declared.Flag.{Flag}
-use Rattle.answers.specs.declared.Flag.TheVariants as Flag
 use Rattle.oplist.specs.Ops.{most_ops, record_ops}
 use Rattle.ends_rules.specs.Ends.{plus_one}
 use Rattle.text_rules.specs.Text.{text_ops}
@@ -22,9 +19,7 @@ use Rattle.text_rules.specs.Strict.{strict}
 use Rattle.pairs_rules.specs.Pairs.{is_fr_with_mate, is_primary_fr}
 use Rattle.overhang_rules.specs.Overhang.{overhang_of}
 use Rattle.overlap_rules.specs.declared.PairPlaces.{PairPlaces}
-use Rattle.overlap_rules.specs.declared.PairPlaces.TheVariants as PairPlaces
 use Rattle.overlap_rules.specs.declared.Overhang.{Overhang}
-use Rattle.overlap_rules.specs.declared.Overhang.TheVariants as Overhang
 
 -- of an FR pair, the read's and the mate's place counted from 1; either sum may overflow
 abbrev pub both_places : Sum → Sum → PairPlaces

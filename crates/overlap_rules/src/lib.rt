@@ -1,8 +1,10 @@
 // Document 01, module 10: what the overhang of a record past its mate is, and that it never exceeds the query length: definitions and proofs. No function stands here.
+#![tactic(auto)]
+
 use answers::{Pos1, Refusal};
 
 // Where a read and its mate lie, counted from 1; or they are no FR pair, or a place overflows.
-#[derive(Drop)]
+#[derive(Clone, Copy)]
 pub enum PairPlaces {
     Apart,
     At(Pos1, Pos1),

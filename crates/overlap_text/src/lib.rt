@@ -1,4 +1,6 @@
 // Document 01, module 10: the query bases that a record has past its mate, by a text of the mate's ops.
+#![tactic(auto)]
+
 ghost use Rattle.std.specs.Prelude.{◌≡◌, ◌≤◌, length};
 ghost use Rattle.answers.specs.Settled.{Settled};
 ghost use Rattle.oplist.specs.Ops.{most_ops};

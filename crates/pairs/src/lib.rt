@@ -1,4 +1,6 @@
 // Document 01, module 10: the pair tests. `fr_with_mate` and `primary_fr` are inner: their callers have tested that each record has 32 bytes.
+#![tactic(auto)]
+
 ghost use Rattle.std.specs.Prelude.{◌≡◌, Bool, true, ◌≤◌, pos, length};
 ghost use Rattle.std.specs.Bool.{xor};
 ghost use Rattle.std.specs.Int.Signed.{le_z};

@@ -11,7 +11,6 @@ use Rattle.sam.specs.Record.{pos_of, flags_of, mate_pos_of, template_len_of, is_
 use Rattle.answers.specs.declared.Refusal.{Refusal}
 use Rattle.answers.specs.declared.Int.TheVariants as Int
 use Rattle.answers.specs.declared.Flag.{Flag}
-use Rattle.answers.specs.declared.Flag.TheVariants as Flag
 use Rattle.length_rules.specs.Lengths.{checked_ref_length}
 use Rattle.pairs_rules.specs.Pairs.{is_opposite, start_of, last_of, starts_before_end, mate_starts_before, fr_by, are_opposite, is_primary_fr, fr_pair, primary_fr_pair}
 

@@ -14,7 +14,6 @@ use Rattle.signed.specs.Whole.{raised}
 use Rattle.signed.proofs.Halves.{up, dn, plus, minus, leℤ, gtℤ, raise_fact}
 use Rattle.sam.specs.Record.{ref_id_of, flags_of, mate_ref_id_of, is_paired, is_unmapped, is_mate_unmapped, is_reverse, is_mate_reverse}
 use Rattle.answers.specs.declared.Flag.{Flag}
-use Rattle.answers.specs.declared.Flag.TheVariants as Flag
 use Rattle.pairs_rules.specs.Pairs.{both_mapped, is_opposite, start_of, last_of, mate_starts_before, fr_by, is_fr, are_opposite, is_primary_fr}
 
 pub first_true : (a b : Bool) → a ≡ true → not b ≡ xor a b
@@ -53,9 +52,6 @@ module _ (b : List ℕ) (f : ℕ) (e : f ≡ flags_of b) where
       → r ≡ xor x y → r ≡ is_opposite b
   unfolding is_opposite
   strands r x y p q s t u v = simp (sym e, p, q, s, sym t, sym u) v
-
-  pub reverse_is : {t : Bool} → t ≡ is_reverse f → t ≡ true → is_reverse (flags_of b) ≡ true
-  reverse_is r p = ap is_reverse (sym e) ∙ sym r ∙ p
 
   pub fr_forward : (forward : Bool) → is_opposite b ≡ true → is_reverse f ≡ false → Flag.Is forward ≡ fr_by forward b
   unfolding fr_by

@@ -8,9 +8,7 @@ use Rattle.signed.specs.Equal.{eqℤ}
 use Rattle.sam.specs.Record.{ref_id_of, pos_of, flags_of, mate_ref_id_of, mate_pos_of, template_len_of, is_paired, is_unmapped, is_mate_unmapped, is_reverse, is_mate_reverse, is_short}
 use Rattle.answers.specs.declared.Refusal.TheVariants.{ShortRecord}
 use Rattle.answers.specs.declared.Int.{Int}
-use Rattle.answers.specs.declared.Int.TheVariants as Int
 use Rattle.answers.specs.declared.Flag.{Flag}
-use Rattle.answers.specs.declared.Flag.TheVariants as Flag
 use Rattle.length_rules.specs.Lengths.{checked_ref_length}
 
 -- "both mapped", by a record's flag

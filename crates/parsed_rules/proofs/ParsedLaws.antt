@@ -20,7 +20,6 @@ use Rattle.text_rules.specs.Valid.{valid_mapped}
 use Rattle.text_rules.specs.Strict.{strict}
 use Rattle.parsed_rules.specs.Parsed.{measured_text, parsed}
 use Rattle.parsed_rules.specs.declared.Measured.{Measured}
-use Rattle.parsed_rules.specs.declared.Measured.TheVariants as Measured
 
 -- ---- the reader
 

@@ -7,11 +7,9 @@ use Rattle.oplist.specs.Ops.{most_ops}
 use Rattle.answers.specs.Settled.{Outcome, keeps}
 use Rattle.answers.specs.declared.Refusal.TheVariants.{NotACigar, TooManyOps, NoRoom}
 use Rattle.answers.specs.declared.Count.{Count}
-use Rattle.answers.specs.declared.Count.TheVariants as Count
 use Rattle.text_rules.specs.Text.{text_ops}
 use Rattle.text_rules.specs.Strict.{strict}
 use Rattle.parsed_rules.specs.declared.Measured.{Measured}
-use Rattle.parsed_rules.specs.declared.Measured.TheVariants as Measured
 
 -- the measuring pass: the ops of a valid mapped CIGAR, and its reference length, saturated
 unfoldable pub measured_text : List ℕ → Measured

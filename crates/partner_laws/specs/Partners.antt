@@ -8,7 +8,6 @@ use Rattle.answers.specs.declared.Count.TheVariants.{Number}
 use Rattle.lookup_rules.specs.Lookup.{Answer, At, Nothing, Refused}
 use Rattle.lookup_rules.specs.Meaning.{InBounds}
 use Rattle.lookup_rules.specs.declared.Found.{Found}
-use Rattle.lookup_rules.specs.declared.Found.TheVariants as Found
 use Rattle.clip_rules.specs.declared.Clipped.{Clipped}
 use Rattle.clip_rules.specs.declared.Clipped.TheVariants.{Done}
 use Rattle.clip_laws.specs.Demand3.{Clipper}

@@ -10,13 +10,9 @@ use Rattle.lists.proofs.Absurd.{never}
 use Rattle.sam.specs.Record.{pos_of, flags_of, mate_pos_of, is_reverse, is_short}
 use Rattle.answers.specs.declared.Refusal.TheVariants.{ShortRecord}
 use Rattle.answers.specs.declared.Int.{Int}
-use Rattle.answers.specs.declared.Int.TheVariants as Int
 use Rattle.answers.specs.declared.Nat.{Nat}
-use Rattle.answers.specs.declared.Nat.TheVariants as Nat
 use Rattle.answers.specs.declared.Flag.{Flag}
-use Rattle.answers.specs.declared.Flag.TheVariants as Flag
 use Rattle.answers.specs.declared.Place1.{Place1}
-use Rattle.answers.specs.declared.Place1.TheVariants as Place1
 use Rattle.length_rules.specs.Lengths.{checked_ref_length}
 use Rattle.ends_rules.specs.Ends.{end_at, alignment_end}
 use Rattle.bin_rules.specs.Bin.{bin_from, record_bin}

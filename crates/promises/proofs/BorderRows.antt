@@ -13,7 +13,6 @@ use Rattle.signed.specs.declared.Sum.TheVariants as Sum
 use Rattle.answers.specs.declared.Pos1.{Pos1}
 use Rattle.answers.specs.declared.Place1.TheVariants as Place1
 use Rattle.answers.specs.declared.Int.{Int}
-use Rattle.answers.specs.declared.Int.TheVariants as Int
 use Rattle.answers.specs.declared.Refusal.{Refusal}
 use Rattle.answers.specs.declared.Refusal.TheVariants.{ShortRecord}
 use Rattle.sam.specs.Record.{pos_of}

@@ -9,7 +9,6 @@ use lib.Dec.{ltb, eqb}
 use lib.Signed.{lt_z}
 use Rattle.lists.specs.Lists.{sum_of}
 use Rattle.signed.specs.declared.Sum.{Sum}
-use Rattle.signed.specs.declared.Sum.TheVariants as Sum
 use Rattle.sam.specs.Columns.{Over, Base, Gap, Off}
 use Rattle.sam.specs.Op.{ref_len}
 use Rattle.sam.specs.Record.{pos_of, flags_of, is_unmapped, is_reverse, is_short}

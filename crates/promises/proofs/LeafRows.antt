@@ -14,15 +14,11 @@ use Rattle.oplist.specs.Ops.{most_ops, record_ops}
 use Rattle.answers.specs.Answers.{Told, answered, tell_int, tell_nat, tell_count, tell_place0}
 use Rattle.answers.specs.declared.Refusal.TheVariants.{ShortRecord, AreaOverrun, TooManyOps, Overflow, NoRoom, BadLength}
 use Rattle.answers.specs.declared.Int.{Int}
-use Rattle.answers.specs.declared.Int.TheVariants as Int
 use Rattle.answers.specs.declared.Nat.{Nat}
-use Rattle.answers.specs.declared.Nat.TheVariants as Nat
 use Rattle.answers.specs.declared.Place0.TheVariants as Place0
 use Rattle.answers.specs.declared.Count.{Count}
-use Rattle.answers.specs.declared.Count.TheVariants as Count
 use Rattle.fields.specs.Fields.{int_field, nat_field, pos_field, cigar_area, cigar_part, tell_area}
 use Rattle.fields.specs.declared.Area.{Area}
-use Rattle.fields.specs.declared.Area.TheVariants as Area
 use Rattle.kinds.specs.Kinds.{kind_of, from_op_type, tell_kind, new_op, tell_op}
 use Rattle.copied_ops.specs.Copied.{get_ops}
 use Rattle.kinds.specs.declared.CigarKind.{CigarKind}
@@ -30,7 +26,6 @@ use Rattle.kinds.specs.declared.KindFound.TheVariants.{Kind, Nothing}
 use Rattle.kinds.specs.declared.NewOp.TheVariants as NewOp
 use Rattle.length_rules.specs.Lengths.{as_int, ref_length_up_to, query_length_up_to, ref_length, query_length, saturated_length, checked_ref_length, record_query_length, lengths_with, record_lengths, tell_lengths}
 use Rattle.length_rules.specs.declared.Lengths.{Lengths}
-use Rattle.length_rules.specs.declared.Lengths.TheVariants as Lengths
 use Rattle.bin_rules.specs.Bin.{bin_to, reg2bin, span_of, bin_up_to, record_bin, with_bin, set_bin, bin_from}
 use Rattle.promises.specs.Table.{Row, ◌when◌, Gives, GivesKept, GivesFilled}
 use Rattle.promises.specs.Rows.{over, any_outside, refs_of, record_rows, ops_rows, new_rows, list_rows, length_rows, checked_rows, lengths_rows, region_rows, bin_rows}

@@ -13,9 +13,7 @@ use Rattle.answers.specs.Answers.{Told, number_of}
 use Rattle.answers.specs.declared.Refusal.{Refusal}
 use Rattle.answers.specs.declared.Refusal.TheVariants.{AreaOverrun, Overflow}
 use Rattle.answers.specs.declared.Int.{Int}
-use Rattle.answers.specs.declared.Int.TheVariants as Int
 use Rattle.answers.specs.declared.Flag.{Flag}
-use Rattle.answers.specs.declared.Flag.TheVariants as Flag
 use Rattle.length_rules.specs.Lengths.{as_int, checked_ref_length}
 use Rattle.pairs_rules.specs.Pairs.{is_opposite, starts_before_end, mate_starts_before, fr_by, is_fr, are_opposite, is_primary_fr}
 use Rattle.promises.specs.Table.{Row, ◌when◌, first, only, Gives}

@@ -20,7 +20,6 @@ use Rattle.copied_ops.specs.Copied.{copied_ops}
 use Rattle.print_rules.specs.Text.{any_bad, text_of, printed_ops}
 use Rattle.length_rules.specs.Lengths.{list_lengths, lengths_with, long_ref_length, long_query_length, tell_lengths}
 use Rattle.length_rules.specs.declared.Lengths.{Lengths}
-use Rattle.length_rules.specs.declared.Lengths.TheVariants as Lengths
 use Rattle.lookup_rules.specs.Lookup.{long_looked, tell_found}
 use Rattle.ends_rules.specs.Ends.{unclipped_by, tell_unclipped}
 use Rattle.ends_rules.specs.declared.Unclipped.TheVariants as Unclipped

@@ -16,7 +16,6 @@ use Rattle.answers.specs.declared.Refusal.TheVariants.{ShortRecord, TooManyOps, 
 use Rattle.answers.specs.declared.Count.TheVariants as Count
 use Rattle.answers.proofs.Numbers.{not-zero}
 use Rattle.answers.specs.declared.Flag.{Flag}
-use Rattle.answers.specs.declared.Flag.TheVariants as Flag
 use Rattle.ends_rules.specs.Sums.{both}
 use Rattle.ends_rules.specs.Ends.{plus_one}
 use Rattle.oplist.specs.Ops.{most_ops, record_ops}

@@ -19,7 +19,6 @@ use Rattle.answers.specs.Answers.{tell_count, number_of}
 use Rattle.answers.specs.declared.Refusal.{Refusal}
 use Rattle.answers.specs.declared.Refusal.TheVariants.{ShortRecord, AreaOverrun, Overflow, NoRoom, TooLong, AmountBeyond, QueryDiffers, CountOver}
 use Rattle.answers.specs.declared.Nat.{Nat}
-use Rattle.answers.specs.declared.Nat.TheVariants as Nat
 use Rattle.answers.specs.declared.Count.TheVariants.{Number}
 use Rattle.length_rules.specs.Lengths.{as_int}
 use Rattle.bin_rules.specs.Bin.{bin_to, reg2bin, span_of, bin_up_to, bin_from}

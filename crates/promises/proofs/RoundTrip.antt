@@ -9,14 +9,14 @@ use lib.Dec.{eqb}
 use lib.ListN.{get_or}
 use borrow.Author.Tests.{le-ltb, eqb-true, eqb-false}
 use Rattle.sam.specs.Op.{len_of, code_of, op_of, letters}
-use Rattle.sam.specs.Text.{Digits, value, Spells, Spells.end, Spells.op}
+use Rattle.sam.specs.Text.{Digits, value, Spells}
 use Rattle.ops.specs.Ops.{letter_of}
 use Rattle.decimal.specs.Decimal.{decimal}
 use Rattle.print_rules.specs.Text.{op_text, text_of, any_bad}
 use Rattle.decimal.proofs.Meaning.{decimal_one, decimal_more}
 use Rattle.print_rules.proofs.GrammarLaws.{print_spells}
 use Rattle.sam.proofs.LetterLaws.{letter_digit}
-use Rattle.sam.proofs.TextLaws.{is_digit}
+use Rattle.sam.proofs.TextLaws.{digit_is}
 use Rattle.sam.specs.Text.{is_digit}
 use Rattle.text_rules.specs.Text.{text_ops}
 use Rattle.text_rules.specs.Valid.{valid_mapped}
@@ -53,12 +53,12 @@ module _ (letter : ℕ) (rest : List ℕ) (no : is_digit letter ≡ false) where
   kept_run : (ds : List ℕ) → Digits ds → without_zeros true (ds ++ (letter ∷ rest)) ≡ ds ++ (letter ∷ without_zeros false rest)
   unfolding without_zeros
   kept_run [] d = rw no
-  kept_run (b ∷ ds) d = rw (is_digit b d.0) (ap (λ (l : List ℕ). b ∷ l) (kept_run ds d.1))
+  kept_run (b ∷ ds) d = rw (digit_is b d.0) (ap (λ (l : List ℕ). b ∷ l) (kept_run ds d.1))
 
   zero_run : (ds : List ℕ) → Digits ds → 0 < value 0 ds → without_zeros false (ds ++ (letter ∷ rest)) ≡ decimal (value 0 ds) ++ (letter ∷ without_zeros false rest)
   unfolding without_zeros value
   zero_run [] d h = absurd (omega arith)
-  zero_run (b ∷ ds) d h = rw (is_digit b d.0) (go (eqb b 48) refl (zero_run ds d.1))
+  zero_run (b ∷ ds) d h = rw (digit_is b d.0) (go (eqb b 48) refl (zero_run ds d.1))
     where
       go : (t : Bool) → eqb b 48 ≡ t → (0 < value 0 ds → without_zeros false (ds ++ (letter ∷ rest)) ≡ decimal (value 0 ds) ++ (letter ∷ without_zeros false rest))
           → cond t (without_zeros false (ds ++ (letter ∷ rest))) (b ∷ without_zeros true (ds ++ (letter ∷ rest))) ≡ decimal (value (0 * 10 + (b - 48)) ds) ++ (letter ∷ without_zeros false rest)

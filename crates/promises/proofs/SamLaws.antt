@@ -22,7 +22,7 @@ use Rattle.letters.specs.Letters.{entry_of}
 use Rattle.letters.proofs.Table as Table
 use Rattle.answers.specs.declared.Nat.TheVariants.{Number}
 use Rattle.print_rules.specs.Text.{any_bad, text_of}
-use Rattle.print_rules.proofs.GrammarLaws as Printed
+use Rattle.print_rules.proofs.CigarLaws as Printed
 use Rattle.text_rules.specs.Text.{text_ops}
 use Rattle.text_rules.specs.Valid.{valid_mapped}
 use Rattle.text_rules.specs.Strict.{strict}

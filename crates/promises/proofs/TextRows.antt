@@ -10,7 +10,6 @@ use Rattle.oplist.specs.Ops.{most_ops, record_ops}
 use Rattle.answers.specs.Answers.{tell_count, tell_flag}
 use Rattle.answers.specs.declared.Refusal.TheVariants.{ShortRecord, TooManyOps, NotACigar, NoRoom, BadCode}
 use Rattle.answers.specs.declared.Count.{Count}
-use Rattle.answers.specs.declared.Count.TheVariants as Count
 use Rattle.answers.specs.declared.Flag.TheVariants as Flag
 use Rattle.print_rules.specs.Text.{any_bad, text_of, printed}
 use Rattle.text_rules.specs.Text.{text_ops}

@@ -9,19 +9,16 @@ use lib.IntN.{ℤ, pos, ◌+ℤ◌, ◌-ℤ◌}
 use lib.ListN.{length}
 use Rattle.lists.proofs.Absurd.{false_true}
 use Rattle.signed.specs.declared.Sum.{Sum}
-use Rattle.signed.specs.declared.Sum.TheVariants as Sum
 use Rattle.sam.specs.Columns.{columns, refs}
 use Rattle.sam.specs.Record.{is_short, pos_of, flags_of, is_unmapped, is_reverse}
 use Rattle.oplist.specs.Ops.{record_ops}
 use Rattle.clip_run_rules.specs.Clips.{leading_clips, clips_after_reference}
 use Rattle.answers.specs.declared.Pos1.{Pos1}
 use Rattle.answers.specs.declared.Int.{Int}
-use Rattle.answers.specs.declared.Int.TheVariants as Int
 use Rattle.answers.specs.declared.Refusal.TheVariants.{ShortRecord}
 use Rattle.answers.proofs.Numbers.{not-zero}
 use Rattle.ends_rules.specs.Ends.{plus_one, five_prime, has_no_ops, as_unclipped, unclipped_at, unclipped_of, tell_unclipped}
 use Rattle.ends_rules.specs.declared.Unclipped.{Unclipped}
-use Rattle.ends_rules.specs.declared.Unclipped.TheVariants as Unclipped
 use Rattle.ends_rules.proofs.CaseLaws as Cases
 use Rattle.ends_rules.proofs.Meaning as Ends
 use Rattle.promises.specs.Table.{first, refuses}

@@ -7,7 +7,6 @@ use Rattle.sam.specs.Op.{ref_len, query_len}
 use Rattle.sam.specs.Record.{seq_len_of, pos_of, tags_start}
 use Rattle.oplist.specs.Ops.{record_ops}
 use Rattle.answers.specs.declared.Nat.{Nat}
-use Rattle.answers.specs.declared.Nat.TheVariants as Nat
 use Rattle.bin_rules.specs.Bin.{span_of}
 use Rattle.clip_rules.specs.Answer.{clipped_ops}
 use Rattle.record_rules.specs.Written.{Change, new_record}

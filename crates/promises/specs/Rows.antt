@@ -22,7 +22,6 @@ use Rattle.ends_rules.specs.Tails.{greatest_run}
 use Rattle.ends_rules.specs.Ends.{has_no_ops}
 use Rattle.clip_rules.specs.Answer.{clipped_ops}
 use Rattle.answers.specs.declared.Flag.{Flag}
-use Rattle.answers.specs.declared.Flag.TheVariants as Flag
 use Rattle.pairs_rules.specs.Pairs.{is_opposite, is_fr_with_mate, are_opposite, is_primary_fr}
 use Rattle.promises.specs.Table.{Row, ◌when◌, only}
 

@@ -2,18 +2,15 @@
 -- answers are folded back to its numbers".
 use Rattle.std.specs.Prelude.{ℕ, ◌≡◌, Bool, true, false, cond, ◌||◌, List, ltb, eqb, ℤ, pos, ◌+ℤ◌, ◌-ℤ◌, length}
 use Rattle.signed.specs.declared.Sum.{Sum}
-use Rattle.signed.specs.declared.Sum.TheVariants as Sum
 use Rattle.sam.specs.Columns.{columns, refs}
 use Rattle.sam.specs.Record.{is_short, pos_of, flags_of, is_unmapped, is_reverse, op_count_of, ops_end}
 use Rattle.oplist.specs.Ops.{record_ops}
 use Rattle.clip_run_rules.specs.Clips.{leading_clips, clips_after_reference}
 use Rattle.answers.specs.declared.Pos1.{Pos1}
 use Rattle.answers.specs.declared.Int.{Int}
-use Rattle.answers.specs.declared.Int.TheVariants as Int
 use Rattle.answers.specs.declared.Refusal.TheVariants.{ShortRecord, Overflow}
 use Rattle.ends_rules.specs.Ends.{plus_one, five_prime}
 use Rattle.ends_rules.specs.declared.Unclipped.{Unclipped}
-use Rattle.ends_rules.specs.declared.Unclipped.TheVariants as Unclipped
 use Rattle.promises.specs.Table.{refuses}
 use Rattle.promises.specs.Rows.{unclipped_rows}
 

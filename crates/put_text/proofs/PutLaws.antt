@@ -1,18 +1,14 @@
 -- What is put behind what was put is put with it; a run of stores is put; decimal is as many digits as there are.
 use Prim.Native.Nat.{ℕ, suc, ◌+◌, ◌-◌, ◌≤◌, ◌<◌}
 use mathlib.Core.Path.{◌≡◌, refl, sym, ap, ◌∙◌, subst}
-use mathlib.Core.Bool.{true, false}
 use mathlib.Core.List.{List, [], ◌∷◌, ◌++◌, append_assoc, append-nil}
 use native.Mathlib.Omega.{arith}
 use lib.IntN.{ℤ, pos, negsuc, nat_abs}
-use lib.ListN.{length, take, drop, get_or, set, length-append}
+use lib.ListN.{length, take, drop, length-append}
 use lib.Seq.{sets, sets-eq, length-sets, take_at, take-take, length-take-le}
-use lib.Signed.{lt_z}
-use borrow.Author.Tests.{ltb-true}
 use mir.Syntax.{w32}
 use mir.Val.{SFits}
-use Rattle.lists.proofs.Absurd.{never}
-use Rattle.lists.proofs.Walks.{step, done}
+use Rattle.lists.proofs.Walks.{done}
 use Rattle.signed.specs.Whole.{raised}
 use Rattle.decimal.specs.Decimal.{decimal}
 use Rattle.decimal.specs.Inner.{Width, last_digits}
@@ -27,10 +23,6 @@ put_then {a} {b} {c} {at} {m} {r} vs ws p q =
       head =
           ap (λ (k : ℕ). take k c) n ∙ q.head ∙ ap (λ (k : ℕ). take k b ++ ws) p.next ∙ ap (λ (l : List ℕ). l ++ ws) p.head ∙ append_assoc (take at a) vs ws;
     }
-
--- nothing is put
-pub put_none : (d : List ℕ) (at : ℕ) → Put d at [] at d
-put_none d at = record { next = omega arith; same = refl; head = ap (λ (k : ℕ). take k d) {x = at + 0} {y = at} (omega arith) ∙ sym (append-nil (take at d)) }
 
 -- of what was put only the memory before it is wanted
 pub put_dropped : {d d' : List ℕ} {at r : ℕ} (vs : List ℕ) → at ≤ length d → Put d at vs r d' → Put d at [] at d'
@@ -74,14 +66,6 @@ unfolding signed_decimal
 signed_is (pos n) = refl
 signed_is (negsuc n) = ap (λ (k : ℕ). 45 ∷ decimal k) {x = suc n} {y = n + 1} (omega arith)
 
-pub sign_minus : (z : ℤ) → lt_z z (pos 0) ≡ true → 45 ∷ [] ≡ sign_of z
-sign_minus (pos n) e = absurd (omega (arith, ltb-true n 0 e))
-sign_minus (negsuc n) e = refl
-
-pub sign_none : (z : ℤ) → lt_z z (pos 0) ≡ false → [] ≡ sign_of z
-sign_none (pos n) e = refl
-sign_none (negsuc n) e = never (cc)
-
 pub abs_low : (z : ℤ) → SFits w32 z → raised z < 2147483648 → 2147483648 - raised z ≡ nat_abs z
 unfolding raised
 abs_low (pos n) f h = absurd (omega arith)
@@ -92,12 +76,7 @@ unfolding raised
 abs_high (pos n) h = omega arith
 abs_high (negsuc n) h = absurd (omega arith)
 
--- a turn of the loop that puts a word, and its end
+-- the end of the loop that puts a word
 module _ (word d : List ℕ) (at i : ℕ) where
-  pub word_turn : i < length word → sets (set d (at + i) (get_or word i 0)) (at + (i + 1)) (drop (i + 1) word) ≡ sets d (at + i) (drop i word)
-  word_turn h =
-      ap (λ (k : ℕ). sets (set d (at + i) (get_or word i 0)) k (drop (i + 1) word)) {x = at + (i + 1)} {y = suc (at + i)} (omega arith)
-      ∙ sym (ap (sets d (at + i)) (step word i (get_or word i 0) refl h))
-
   pub word_done : length word ≤ i → sets d (at + i) (drop i word) ≡ d
   word_done h = ap (sets d (at + i)) (done word i h)

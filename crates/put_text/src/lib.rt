@@ -1,4 +1,6 @@
 // Numbers and words, put into lent memory from a place on; each call answers the place behind what it put. An inner crate.
+#![tactic(auto)]
+
 ghost use Rattle.std.specs.Prelude.{◌≡◌, ◌+◌, ◌≤◌, length, nat_abs, [], ◌∷◌};
 ghost use Rattle.decimal.specs.Decimal.{decimal};
 ghost use Rattle.put_text.specs.Puts.{Put, sign_of, signed_decimal};

@@ -13,7 +13,7 @@ use Rattle.lists.specs.Lists.{splice}
 use Rattle.sam.specs.Op.{code_of, op_of}
 use Rattle.text_rules.specs.Text.{is_row, text_ops}
 use Rattle.text_rules.specs.Strict.{strict}
-use Rattle.tokens.specs.InnerToken.{OpAt, NoneAt}
+use Rattle.tokens.specs.InnerToken.{OpAt}
 use Rattle.tokens.proofs.TextLaws.{at-end}
 use Rattle.validity.specs.InnerClass.{Class, Class.Reference, Class.Other, Class.Soft, Class.Hard, Class.Unknown}
 use Rattle.validity.specs.InnerStages.{code_class, class_of, step_of, accept_of, is_wrong, is_inner_class, stage_after}
@@ -52,9 +52,6 @@ stored d n o xs rest e = go (ltb n (length d)) refl ∙ ap (λ (k : ℕ). sets (
 -- ---- the way on
 
 module _ (s : List ℕ) where
-  pub stay : (p : Stage) (n i : ℕ) (d : List ℕ) → i ≤ length s → Onward s p n i d p n i d
-  stay p n i d h = record { ahead = omega arith; inside = h; few = omega arith; room = refl; row = refl; number = refl; stage = refl; stores = refl }
-
   pub on_from : (p q r : Stage) (n m k i j l : ℕ) (d e f : List ℕ) → Onward s p n i d q m j e → Onward s q m j e r k l f → Onward s p n i d r k l f
   on_from p q r n m k i j l d e f x y = record {
     ahead = omega (arith, x.ahead, y.ahead);
@@ -95,9 +92,6 @@ module _ (s : List ℕ) where
         ap (λ (t : Stage). is_row (drop i s) && accept_of t) op-stage
         ∙ ap (λ (b : Bool). is_row (drop i s) && b) (wrong_accept (step_of p (code_class code)) (text_ops (drop next s)) w)
         ∙ and-false (is_row (drop i s))
-
-  pub none_taken : (p : Stage) (i : ℕ) → NoneAt s i → taken_from s p i ≡ false
-  none_taken p i n = rw n.row refl
 
   pub same_taken : (p q : Stage) (n m i j : ℕ) (d e : List ℕ) → Onward s p n i d q m j e → taken_from s p i ≡ taken_from s q j
   same_taken p q n m i j d e x = rw (x.row, x.stage) refl

@@ -8,9 +8,7 @@ use Rattle.validity.specs.InnerStages.{stage_after, accept_of}
 use Rattle.validity.specs.declared.Stage.{Stage}
 use Rattle.read_text.specs.declared.Reached.{Reached}
 use Rattle.read_text.specs.declared.Reach.{Reach}
-use Rattle.read_text.specs.declared.Reach.TheVariants as Reach
 use Rattle.read_text.specs.declared.Counted.{Counted}
-use Rattle.read_text.specs.declared.Counted.TheVariants as Counted
 
 -- from stage p at place i of the text s, with n ops of it in d, the reader came to stage q at place j, with m ops of it in e: what is left there is what was left here
 pub record Onward (s : List ℕ) (p : Stage) (n i : ℕ) (d : List ℕ) (q : Stage) (m j : ℕ) (e : List ℕ) : Type 0 where

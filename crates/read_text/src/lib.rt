@@ -1,4 +1,6 @@
 // Document 01, module 5: a text's ops read once, into lent memory. An inner crate of the strict reader.
+#![tactic(auto)]
+
 ghost use Rattle.std.specs.Prelude.{◌≡◌, ◌*◌, ◌≤◌, length, set};
 ghost use Rattle.validity.specs.declared.Stage.TheVariants.{Good};
 ghost use Rattle.read_text.specs.InnerRead.{Onward, Stretched, ReadTo};
@@ -7,7 +9,7 @@ use tokens::Token;
 use validity::Stage;
 
 // The ops read so far: their stage, how many they are, and the place after them.
-#[derive(Drop)]
+#[derive(Clone, Copy)]
 pub struct Reached {
     pub stage: Stage,
     pub n: usize,

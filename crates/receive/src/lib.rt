@@ -1,5 +1,7 @@
 // Document 02, item 14: whether a received record is the one that item 8 would write of the record that was sent. The received record is compared with the plan, part by part;
 // nothing is written.
+#![tactic(auto)]
+
 ghost use Rattle.std.specs.Prelude.{◌≡◌, ◌+◌, ◌≤◌, length};
 ghost use Rattle.sam.specs.Record.{name_len_of, op_count_of, seq_len_of, tags_start};
 ghost use Rattle.record_rules.specs.Clipping.{clipped_fate};

@@ -1,4 +1,6 @@
 // Whether a received record's header is the one of a plan: number by number where the plan has a new one, and as the bytes stand where they stay. An inner crate of the receiving check.
+#![tactic(auto)]
+
 ghost use Rattle.std.specs.Prelude.{◌≡◌, Bool, ◌||◌, ◌++◌, ◌≤◌, ◌<◌, length};
 ghost use Rattle.sam.specs.Record.{uint32};
 ghost use Rattle.sam.specs.Parts.{part, uint16};

@@ -1,4 +1,6 @@
 // Comparing a stretch of a received record with what would be written there: by walks of the shape of those that write. An inner crate of the receiving check.
+#![tactic(auto)]
+
 ghost use Rattle.std.specs.Prelude.{◌≡◌, ◌&&◌, [], ◌∷◌, ◌++◌, reverse, ◌+◌, ◌-◌, ◌*◌, ◌/◌, ◌%◌, ◌≤◌, eqb, length, take, drop};
 ghost use Rattle.sam.specs.Bases.{bases_of, packed};
 ghost use Rattle.sam.specs.Record.{ops_in, op_bytes};

@@ -20,7 +20,7 @@ use Rattle.record_rules.proofs.PlanLaws.{ops_lie}
 use Rattle.record_rules.proofs.PartLaws.{bases_left}
 use Rattle.receive_rules.specs.Receiving.{same, same_header, compared, weighed}
 use Rattle.receive_rules.specs.InnerCompared.{behind_ops, behind_header}
-use Rattle.receive_rules.specs.declared.Part.TheVariants.{Header, Name, Ops, Bases, Qualities, Tags}
+use Rattle.receive_rules.specs.declared.Part.TheVariants.{Header, Ops, Bases, Qualities, Tags}
 use Rattle.receive_rules.specs.declared.Received.{Received}
 use Rattle.receive_rules.specs.declared.Received.TheVariants.{Accepted, Differs, Refused}
 
@@ -77,9 +77,6 @@ module _ (g b : List ℕ) (from n : ℕ) (t : Bool) (e : t ≡ same (bases_part 
       tail-same f k l = simp (sym e ∙ f, sym h ∙ k, sym i ∙ l)
 
 module _ (g b : List ℕ) (c : Change) (t : Bool) (e : t ≡ same (name_part g) (new_name b c)) where
-  pub name_differs : t ≡ false → Differs Name ≡ behind_header g b c
-  name_differs f = simp (sym e ∙ f)
-
   module _ (u : Bool) (h : u ≡ same (ops_part g) (new_ops b c)) where
     pub ops-differ : t ≡ true → u ≡ false → Differs Ops ≡ behind_header g b c
     ops-differ f k = simp (sym e ∙ f, sym h ∙ k)

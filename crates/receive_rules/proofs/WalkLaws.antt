@@ -23,14 +23,7 @@ bytes_turn g b at from j h k =
     let m = length-drop from b in
     same_turn (drop at g) (drop from b) j (get_or g (at + j) 0) (get_or b (from + j) 0) (sym (get_or-drop at g j 0)) (sym (get_or-drop from b j 0)) (omega arith) (omega arith)
 
--- two ends of one length
-pub rest-is : (g b : List ℕ) (at from n : ℕ) → n ≡ length b - from → length g - at ≡ n → same (take n (drop at g)) (take n (drop from b)) ≡ same (drop at g) (drop from b)
-rest-is g b at from n e f =
-    let l = length-drop at g in
-    let m = length-drop from b in
-    ap (λ (x : List ℕ). same x (take n (drop from b))) (take_all n (drop at g) (omega arith)) ∙ ap (same (drop at g)) (take_all n (drop from b) (omega arith))
-
--- and of two
+-- two ends that are not of one length
 pub rest_differs : (g b : List ℕ) (at from : ℕ) → (length g - at ≡ length b - from → ⊥) → same (drop at g) (drop from b) ≡ false
 rest_differs g b at from h =
     let l = length-drop at g in
@@ -68,11 +61,6 @@ module _ (g bs : List ℕ) (at from n : ℕ) (f : at + (n + 1) / 2 ≤ length g)
 
   abbrev whole : Bool
   whole = same (take ((n + 1) / 2) (drop at g)) (packed (take n (drop from bs)))
-
-  pub bases_even : n % 2 ≡ 0 → pairs ≡ whole
-  bases_even e =
-      ap (λ (k : ℕ). same (take k (drop at g)) (packed (take (2 * (n / 2)) (drop from bs)))) {x = n / 2} {y = (n + 1) / 2} (omega arith)
-      ∙ ap (λ (k : ℕ). same (take ((n + 1) / 2) (drop at g)) (packed (take k (drop from bs)))) {x = 2 * (n / 2)} {y = n} (omega arith)
 
   pub bases_odd : n % 2 ≡ 1 → (pairs && eqb (get_or g (at + n / 2) 0) (get_or bs (from + n - 1) 0 * 16 + 0)) ≡ whole
   unfolding same

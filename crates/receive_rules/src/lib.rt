@@ -1,4 +1,6 @@
 // Document 02, item 14: what the receiving check answers: definitions and proofs. No function stands here.
+#![tactic(auto)]
+
 use answers::Refusal;
 
 // The parts of a record, in the order in which they are compared.

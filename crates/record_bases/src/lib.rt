@@ -1,4 +1,6 @@
 // Bases packed two to a byte, from any base on: read, shifted by one, and written. An inner crate.
+#![tactic(auto)]
+
 ghost use Rattle.std.specs.Prelude.{◌≡◌, ◌+◌, ◌*◌, ◌/◌, ◌%◌, ◌≤◌, ◌<◌, length, get_or, take, drop};
 ghost use Rattle.lists.specs.Lists.{splice};
 ghost use Rattle.sam.specs.Bases.{bases_of, packed};

@@ -1,4 +1,6 @@
 // What stands before and behind the ops of a clipped record: the header and the name; bases, qualities and tags. An inner crate.
+#![tactic(auto)]
+
 ghost use Rattle.std.specs.Prelude.{◌≡◌, ◌++◌, ◌+◌, ◌-◌, ◌/◌, ◌≤◌, length};
 ghost use Rattle.lists.specs.Lists.{splice};
 ghost use Rattle.sam.specs.Record.{name_len_of, seq_len_of, tags_start};

@@ -1,4 +1,6 @@
 // Document 02, item 8, planning: what a plan of ops leaves of a record, its number of ops and its bases, and the count. An inner crate.
+#![tactic(auto)]
+
 ghost use Rattle.std.specs.Prelude.{◌≡◌, cond, [], ◌∷◌, ◌+◌, ◌-◌, ◌≤◌, ◌<◌, length, take};
 ghost use Rattle.lists.specs.Lists.{facing, sum_of};
 ghost use Rattle.sam.specs.Op.{query_len};

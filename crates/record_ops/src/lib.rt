@@ -1,4 +1,6 @@
 // The ops of a clipped record, stored: those put in place by their numbers, in the order of the end, the others as bytes. An inner crate.
+#![tactic(auto)]
+
 ghost use Rattle.std.specs.Prelude.{◌≡◌, [], ◌∷◌, ◌++◌, reverse, ◌+◌, ◌-◌, ◌*◌, ◌≤◌, length, take, drop};
 ghost use Rattle.lists.specs.Lists.{splice};
 ghost use Rattle.sam.specs.Record.{ops_in, op_bytes};

@@ -8,8 +8,6 @@ use lib.ListN.{length, get_or, take, drop, set, length-drop}
 use lib.Seq.{get_or-drop, take-suc, take-suc-set, take-add, take-append_seam, drop-append-add, drop-drop, length-take-le}
 use Rattle.lists.specs.Lists.{splice}
 use Rattle.lists.proofs.ListLaws.{splice_append, length_splice}
-use Rattle.sam.specs.Record.{le32, ops_in, uint32, op_bytes}
-use Rattle.sam.proofs.PartLaws.{ops_stand}
 
 -- one turn of holding a list's elements
 pub hold_turn : (l s : List ℕ) (from i : ℕ) → i < length l → from + i < length s → take i l ≡ take i (drop from s) → take (i + 1) (set l i (get_or s (from + i) 0)) ≡ take (i + 1) (drop from s)
@@ -78,8 +76,3 @@ two_blocks d d₁ d₂ s at from j m k n e h₁ h₂ f g p q =
     ∙ ap (λ (l : List ℕ). splice l (at + m) (take k (drop (from + m) s))) p
     ∙ block_written d s at from m k j h₁ (omega arith) (omega arith) (omega arith)
     ∙ ap (λ (i : ℕ). splice d at (take i (drop from s))) e
-
--- four bytes as they stand are those of their number
-pub four_stand : (d d₁ s : List ℕ) (at from x : ℕ) → ((i : ℕ) → get_or s i 0 < 256) → from + 4 ≤ length s → x ≡ le32 s from → d₁ ≡ splice d at (uint32 x) → d₁ ≡ splice d at (take 4 (drop from s))
-unfolding op_bytes ops_in
-four_stand d d₁ s at from x w h e p = p ∙ ap (λ (n : ℕ). splice d at (uint32 n)) e ∙ ap (splice d at) (sym (ops_stand s from 1 w h))

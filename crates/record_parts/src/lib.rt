@@ -1,4 +1,6 @@
 // The parts of a record: where they begin, bytes copied as they stand, and numbers stored. An inner crate.
+#![tactic(auto)]
+
 ghost use Rattle.std.specs.Prelude.{◌≡◌, ◌+◌, ◌≤◌, ◌<◌, length, take, drop};
 ghost use Rattle.lists.specs.Lists.{splice};
 ghost use Rattle.sam.specs.Parts.{uint16};

@@ -1,4 +1,6 @@
 // Document 02, item 8, planning: what becomes of a record that is clipped. Nothing is written; whoever writes or compares a clipped record goes by the plan.
+#![tactic(auto)]
+
 ghost use Rattle.std.specs.Prelude.{◌≡◌, cond, ◌+◌, ◌≤◌, ◌<◌, pos, ◌+ℤ◌, length};
 ghost use Rattle.lists.specs.Lists.{sum_of};
 ghost use Rattle.signed.specs.Whole.{checked};

@@ -14,7 +14,6 @@ use mir.Val.{SFits}
 use Rattle.lists.specs.Lists.{Each, sum_of}
 use Rattle.signed.specs.Whole.{bits32, checked}
 use Rattle.signed.specs.declared.Sum.{Sum}
-use Rattle.signed.specs.declared.Sum.TheVariants as Sum
 use Rattle.signed.proofs.Ranges.{checked_number}
 use Rattle.sam.specs.Op.{ref_len}
 use Rattle.sam.specs.Record.{name_len_of, seq_len_of, pos_of, quals_start, ops_end, tags_start, uint32, op_bytes}
@@ -23,9 +22,7 @@ use Rattle.sam.specs.Parts.{part, bases_part, quals_part, record_bases, uint16}
 use Rattle.sam.proofs.BaseLaws.{base_below, packed_byte}
 use Rattle.oplist.specs.Ops.{record_ops}
 use Rattle.answers.specs.declared.Nat.{Nat}
-use Rattle.answers.specs.declared.Nat.TheVariants as Nat
 use Rattle.answers.specs.declared.Int.{Int}
-use Rattle.answers.specs.declared.Int.TheVariants as Int
 use Rattle.length_rules.specs.Lengths.{as_int, checked_ref_length}
 use Rattle.bin_rules.specs.Bin.{low16, bin_of, bin_to, reg2bin, span_of, bin_up_to, bin_from, record_bin}
 use Rattle.clip_rules.specs.Answer.{clipped_ops}

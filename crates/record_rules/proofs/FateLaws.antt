@@ -10,13 +10,11 @@ use borrow.Author.Tests.{ltb-true, ltb-false}
 use Rattle.lists.specs.Lists.{sum_of}
 use Rattle.signed.specs.Whole.{checked}
 use Rattle.signed.specs.declared.Sum.{Sum}
-use Rattle.signed.specs.declared.Sum.TheVariants as Sum
 use Rattle.sam.specs.Op.{len_of, ref_len, query_len}
 use Rattle.sam.specs.Record.{seq_len_of, pos_of, tags_start}
 use Rattle.oplist.specs.Ops.{record_ops}
 use Rattle.answers.specs.declared.Refusal.{Refusal}
 use Rattle.answers.specs.declared.Nat.{Nat}
-use Rattle.answers.specs.declared.Nat.TheVariants as Nat
 use Rattle.clip_rules.specs.Answer.{clipped_ops, is_beyond}
 use Rattle.record_rules.specs.Written.{Change}
 use Rattle.record_rules.specs.Clipping.{most_record_ops, differs, new_len, first_kept, start_count, bin_at, Fate, Refuses, Becomes, binned, placed, counted, clipped_fate}

@@ -3,7 +3,7 @@ use Prim.Native.Nat.{ℕ, ◌+◌, ◌-◌, ◌≤◌, ◌<◌}
 use mathlib.Core.Path.{◌≡◌, refl, sym, ap, ◌∙◌}
 use mathlib.Core.Bool.{Bool, true, false, cond}
 use mathlib.Core.Logic.{inl, inr}
-use mathlib.Core.List.{List, [], ◌∷◌, ◌++◌, reverse}
+use mathlib.Core.List.{List, [], ◌∷◌, ◌++◌}
 use native.Mathlib.Omega.{arith}
 use borrow.Author.Tests.{lt-ltb, le-ltb, le-leb}
 use lib.IntN.{ℤ, pos, ◌+ℤ◌}
@@ -14,7 +14,6 @@ use Rattle.lists.proofs.ListLaws.{length_facing}
 use Rattle.lists.proofs.Sums.{sum-append, sum_facing}
 use Rattle.signed.specs.Whole.{checked}
 use Rattle.signed.specs.declared.Sum.{Sum}
-use Rattle.signed.specs.declared.Sum.TheVariants as Sum
 use Rattle.sam.specs.Op.{len_of, code_of, is_ref, ref_len, query_len}
 use Rattle.sam.specs.Record.{seq_len_of, pos_of, ops_start, ops_end, op_count_of, ops_in, tags_start}
 use Rattle.oplist.specs.Ops.{record_ops}
@@ -24,7 +23,6 @@ use Rattle.answers.proofs.Unique.{settled, outcome}
 use Rattle.answers.specs.declared.Refusal.{Refusal}
 use Rattle.answers.specs.declared.Refusal.TheVariants.{ShortRecord, AreaOverrun, Overflow, NoRoom, TooLong, AmountBeyond, QueryDiffers, CountOver}
 use Rattle.answers.specs.declared.Nat.{Nat}
-use Rattle.answers.specs.declared.Nat.TheVariants as Nat
 use Rattle.answers.specs.declared.Int.TheVariants as Int
 use Rattle.length_rules.specs.Lengths.{as_int}
 use Rattle.bin_rules.specs.Bin.{bin_from}
@@ -67,14 +65,6 @@ module _ (start : Bool) (xs : List ℕ) (p : Plan) where
       let d = length-drop p.skip (facing start xs) in
       let l = length_facing start xs in
       omega arith
-
--- the ops that are left, from either end
-pub planned_start : (start : Bool) (xs : List ℕ) (p : Plan) → start ≡ true → take p.heads (p.first ∷ (p.second ∷ [])) ++ drop p.skip xs ≡ planned_ops start xs p
-planned_start start xs p e = rw e
-
-pub planned_end : (start : Bool) (xs : List ℕ) (p : Plan) → start ≡ false
-    → reverse (take p.heads (p.first ∷ (p.second ∷ [])) ++ drop p.skip (reverse xs)) ≡ planned_ops start xs p
-planned_end start xs p e = rw e
 
 module _ (xs : List ℕ) (start : Bool) (amount : ℕ) (p : Plan) (P : PlanIs (facing start xs) amount p.skip p.heads p.first p.second p.lost) where
   pub planned_is : planned_ops start xs p ≡ clipped_ops xs amount start

@@ -4,7 +4,6 @@ use Rattle.std.specs.Int.Signed.{lt_z}
 use Rattle.lists.specs.Lists.{splice, sum_of}
 use Rattle.signed.specs.Whole.{checked}
 use Rattle.signed.specs.declared.Sum.{Sum}
-use Rattle.signed.specs.declared.Sum.TheVariants as Sum
 use Rattle.sam.specs.Op.{len_of, ref_len, query_len}
 use Rattle.sam.specs.Record.{is_short, seq_len_of, pos_of, tags_start}
 use Rattle.oplist.specs.Ops.{record_ops}
@@ -12,7 +11,6 @@ use Rattle.answers.specs.Settled.{Outcome, keeps}
 use Rattle.answers.specs.declared.Refusal.{Refusal}
 use Rattle.answers.specs.declared.Refusal.TheVariants.{ShortRecord, AreaOverrun, Overflow, NoRoom, TooLong, AmountBeyond, QueryDiffers, CountOver}
 use Rattle.answers.specs.declared.Nat.{Nat}
-use Rattle.answers.specs.declared.Nat.TheVariants as Nat
 use Rattle.answers.specs.declared.Count.{Count}
 use Rattle.length_rules.specs.Lengths.{as_int}
 use Rattle.bin_rules.specs.Bin.{bin_from}

@@ -1,9 +1,11 @@
 // Document 02, item 8: what the clipped record is, and what planning it comes to: definitions and proofs. No function stands here.
+#![tactic(auto)]
+
 use answers::Refusal;
 use clip_rules::Plan;
 
 // How a record changes: the plan of its ops, their number, the new position, bin and l_seq, the first base and quality that stay, and the count.
-#[derive(Drop)]
+#[derive(Clone, Copy)]
 pub struct RecordPlan {
     pub ops: Plan,
     pub n: u32,

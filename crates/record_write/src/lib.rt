@@ -1,4 +1,6 @@
 // Document 02, item 8: the clipped record, written whole. `record_plan` says what becomes of a record, and nothing is written before its plan is made.
+#![tactic(auto)]
+
 ghost use Rattle.std.specs.Prelude.{◌≡◌, Bool, true, false, ◌≤◌, length};
 ghost use Rattle.answers.specs.Settled.{Settled};
 ghost use Rattle.lists.specs.Lists.{splice};

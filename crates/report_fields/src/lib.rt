@@ -1,4 +1,6 @@
 // Document 01, section Program: fields of a record's line, of its lengths and of its position, and the last one put. An inner crate of the program.
+#![tactic(auto)]
+
 ghost use Rattle.std.specs.Prelude.{◌≡◌, [], ◌∷◌, ◌+◌, ◌≤◌, length};
 ghost use Rattle.line_rules.specs.Line.{or_dot, tabbed, length_mark};
 ghost use Rattle.put_text.specs.Puts.{Put};

@@ -1,4 +1,6 @@
 // Document 01, section Program: the line that stands for a record, written into lent memory. An inner crate of the program.
+#![tactic(auto)]
+
 ghost use Rattle.std.specs.Prelude.{◌≡◌, ◌+◌, ◌≤◌, length};
 ghost use Rattle.answers.specs.Answers.{number_of};
 ghost use Rattle.line_rules.specs.Line.{tabbed, refused_fields, line_of};

@@ -1,4 +1,6 @@
 // Document 01, section Program: the frames of a stream, and the lines of the records that are at hand. An inner crate of the program.
+#![tactic(auto)]
+
 ghost use Rattle.std.specs.Prelude.{◌≡◌, ◌+◌, ◌≤◌, length};
 ghost use Rattle.put_text.specs.Puts.{Put};
 ghost use Rattle.stream_rules.specs.Stream.{is_marked, next_in, so_far, closing, closing_word};

@@ -6,16 +6,15 @@ use mathlib.Core.Logic.{◌⊎◌, inl, inr}
 use mathlib.Core.List.{List, [], ◌++◌, append_assoc, append-nil}
 use native.Mathlib.Omega.{arith}
 use lib.Dec.{ltb, eqb}
-use lib.ListN.{length, take, drop, length-append, length-take, length-drop}
+use lib.ListN.{length, take, drop, length-append, length-drop}
 use lib.Seq.{drop-append-le, take-append-le, drop-drop, take-take, length-take-le}
 use borrow.Author.Tests.{lt-ltb, le-ltb, ne_eqb, eqb-true, ltb-true, ltb-false}
 use Rattle.lists.proofs.Absurd.{never}
-use Rattle.lists.proofs.Walks.{done}
 use Rattle.sam.specs.Record.{le32}
 use Rattle.little_endian.proofs.FrontLaws.{front_number}
 use Rattle.line_rules.specs.Line.{line_of}
 use Rattle.put_text.specs.Puts.{Put}
-use Rattle.stream_rules.specs.Stream.{next_in, so_far, closing, last_word, Reports, Reports.line, Reports.over, Reports.short, Reports.none}
+use Rattle.stream_rules.specs.Stream.{next_in, so_far, closing, last_word, Reports}
 use Rattle.stream_rules.specs.Inner.{Gone, Went, goes_on}
 use Rattle.stream_rules.specs.declared.NextFrame.{NextFrame}
 use Rattle.stream_rules.specs.declared.NextFrame.TheVariants.{Record, TooLong, CutShort, End, More}
@@ -123,18 +122,6 @@ no_more whole s h e = go whole h (eqb (length s) 0) refl (ltb (length s) 4) refl
     go false (inr k) false o false p false q false r f = never (cc)
 
 -- ---- lines that were put
-
-pub gone_start : (s : List ℕ) (records : ℕ) (d : List ℕ) (at : ℕ) → at ≤ 131072 → Gone s records d at 0 records at d
-gone_start s records d at h = record {
-  within = omega arith;
-  counted = omega arith;
-  from = omega arith;
-  upto = h;
-  same = refl;
-  kept = refl;
-  earned = λ l. omega arith;
-  lines = λ b ys t p. subst (λ (l : List ℕ). Reports b records (s ++ ys) (l ++ t)) (sym (done (take at d) at (simp length-take (omega arith)))) p;
-}
 
 -- the record at place used of s
 module _ (s : List ℕ) (used size : ℕ) (e : next_in (drop used s) ≡ Record size) where

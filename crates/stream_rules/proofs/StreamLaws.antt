@@ -8,7 +8,7 @@ use native.Mathlib.Omega.{arith}
 use lib.ListN.{length, take, drop, length-drop}
 use Rattle.lists.proofs.Absurd.{never}
 use Rattle.line_rules.specs.Line.{line_of}
-use Rattle.stream_rules.specs.Stream.{is_marked, next_in, closing, last_word, Reports, Reports.line, Reports.over, Reports.short, Reports.none, bad_input, Prints}
+use Rattle.stream_rules.specs.Stream.{is_marked, next_in, closing, last_word, Reports, bad_input, Prints}
 use Rattle.stream_rules.specs.declared.NextFrame.{NextFrame}
 use Rattle.stream_rules.specs.declared.NextFrame.TheVariants.{Record, TooLong, CutShort, End, More}
 use Rattle.stream_rules.proofs.FrameLaws.{record_fits, no_more}

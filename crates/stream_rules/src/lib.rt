@@ -1,6 +1,8 @@
 // Document 01, section Program: what is printed of a stream, wherever it is cut into blocks: definitions and proofs. No function stands here.
 // What comes next in a stream: a record of so many bytes behind its size, one of the ways to end, or more of it has to be read first.
-#[derive(Drop)]
+#![tactic(auto)]
+
+#[derive(Clone, Copy)]
 pub enum NextFrame {
     Record(usize),
     TooLong,

@@ -1,4 +1,6 @@
 // Document 01, module 5: the strict reader of CIGAR text.
+#![tactic(auto)]
+
 ghost use Rattle.std.specs.Prelude.{◌≡◌, ◌*◌, ◌≤◌, length, take};
 ghost use Rattle.lists.specs.Lists.{splice};
 ghost use Rattle.answers.specs.Settled.{Settled};
@@ -8,7 +10,7 @@ ghost use Rattle.parsed_rules.specs.Parsed.{parsed};
 use answers::{Count, Refusal};
 use read_text::Counted;
 
-// Copies the first n ops, two at a time: of a loop that copies one at a time the compiler makes a call of C's `memcpy`, and the libraries need no other library.
+// Copies the first n ops, two at a time: of a loop that copies one at a time the compiler makes a call of C's `memcpy`.
 fn copy(ops: &[u32], n: usize, out: &mut [u32])
     requires { (n ≤ length ops.now) × (n ≤ length out.old) }
     ensures { out.new ≡ splice out.old 0 (take n ops.now) }
@@ -59,18 +61,34 @@ fn in_two(text: &[u8], out: &mut [u32]) -> Count
     Count::Number(written as u64)
 }
 
-// The ops that a text stands for, in the first places of out. A text of at most 1,024 bytes is read once, into at most 2 KiB of the stack, which is filled with
-// 1M (filled with 0 it would be by a call of C's `memset`). Refusals 5, 3 and 6.
+// The ops of a text of at most 64 bytes, by way of memory of this function's own.
+fn by_few(text: &[u8], out: &mut [u32]) -> Count
+    requires { length text.now ≤ 64 }
+    ensures { Settled (parsed text.now out.old) result out.new }
+{
+    let mut few = [16u32; 32];
+    by_copy(text, &mut few, out)
+}
+
+// The same of at most 1,024 bytes. Apart, since a function's memory is filled with 0 where it is entered, this one by a call of C's `memset`.
+fn by_some(text: &[u8], out: &mut [u32]) -> Count
+    requires { length text.now ≤ 1024 }
+    ensures { Settled (parsed text.now out.old) result out.new }
+{
+    let mut some = [16u32; 512];
+    by_copy(text, &mut some, out)
+}
+
+// The ops that a text stands for, in the first places of out. A text of at most 1,024 bytes is read once, into at most 2 KiB of the stack. Refusals
+// 5, 3 and 6.
 pub fn parse_cigar_string_ops(text: &[u8], out: &mut [u32]) -> Count
     ensures { Settled (parsed text.now out.old) result out.new }
 {
     if text.len() <= 64 {
-        let mut few = [16u32; 32];
-        return by_copy(text, &mut few, out);
+        return by_few(text, out);
     }
     if text.len() <= 1024 {
-        let mut some = [16u32; 512];
-        return by_copy(text, &mut some, out);
+        return by_some(text, out);
     }
     in_two(text, out)
 }

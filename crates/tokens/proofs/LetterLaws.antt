@@ -7,10 +7,9 @@ use native.Mathlib.Omega.{arith}
 use lib.ListN.{length, get_or}
 use Rattle.sam.specs.Op.{letter_code}
 use Rattle.sam.specs.Text.{is_digit}
-use Rattle.text_rules.specs.Text.{effect_of, Effect, Effect.Number, Effect.Letter}
+use Rattle.text_rules.specs.Text.{effect_of, Effect}
 use Rattle.tokens.specs.InnerToken.{OpAt, ShortAt, Lettered}
 use Rattle.tokens.specs.declared.Token.{Token}
-use Rattle.tokens.specs.declared.Token.TheVariants as Token
 use Rattle.sam.proofs.LetterLaws.{letter_digit, code_letter}
 use Rattle.sam.proofs.TextLaws.{a_digit}
 use Rattle.text_rules.proofs.ByteLaws.{byte_digit, byte_letter}

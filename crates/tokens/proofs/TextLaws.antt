@@ -10,7 +10,7 @@ use borrow.Author.Tests.{lt-ltb, le-ltb}
 use Rattle.lists.proofs.Walks.{step, done}
 use Rattle.sam.specs.Op.{op_of}
 use Rattle.tokens.specs.InnerToken.{OpAt, NoneAt}
-use Rattle.text_rules.specs.Text.{Effect, Effect.Number, Effect.Letter, Effect.Bad, effect_of, row_from, ops_from}
+use Rattle.text_rules.specs.Text.{Effect, effect_of, row_from, ops_from}
 
 -- ---- one byte on
 

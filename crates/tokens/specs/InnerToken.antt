@@ -3,7 +3,6 @@ use Rattle.std.specs.Prelude.{ℕ, ◌+◌, ◌≤◌, ◌<◌, ◌≡◌, false
 use Rattle.sam.specs.Op.{op_of, letter_code}
 use Rattle.text_rules.specs.Text.{row_from, ops_from}
 use Rattle.tokens.specs.declared.Token.{Token}
-use Rattle.tokens.specs.declared.Token.TheVariants as Token
 
 -- an op of the text s from place i on
 pub record OpAt (s : List ℕ) (i len code next : ℕ) : Type 0 where

@@ -1,4 +1,6 @@
 // Document 01, module 5: an op of a text, read from a place on. An inner crate of the strict reader.
+#![tactic(auto)]
+
 ghost use Rattle.std.specs.Prelude.{◌≡◌, cond, ◌+◌, ◌≤◌, ◌<◌, length};
 ghost use Rattle.sam.specs.Text.{is_digit};
 ghost use Rattle.tokens.specs.InnerToken.{TokenAt, ShortAt};

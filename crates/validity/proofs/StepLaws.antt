@@ -8,9 +8,9 @@ use Rattle.lists.proofs.Absurd.{never}
 use Rattle.lists.proofs.Tables.{below_same}
 use Rattle.sam.specs.Op.{is_ref}
 use Rattle.validity.specs.InnerClass.{Class, Class.Reference, Class.Other, Class.Soft, Class.Hard, Class.Unknown}
-use Rattle.validity.specs.InnerStages.{code_class, is_inner_class, is_past, step_of, accept_of}
+use Rattle.validity.specs.InnerStages.{code_class, is_inner_class, step_of}
 use Rattle.validity.specs.declared.Stage.{Stage}
-use Rattle.validity.specs.declared.Stage.TheVariants.{Start, AfterHard, Inner, Good, EndSoft, EndHard, Wrong}
+use Rattle.validity.specs.declared.Stage.TheVariants.{Wrong}
 use Rattle.validity.proofs.StageLaws.{has_is, ref_b, soft_b, hard_b, class_ref, class_soft, class_hard, step_unknown}
 
 -- the mask of the inner codes
@@ -22,38 +22,6 @@ inner_bit c h = below_same (λ d. eqb (463 / 2 ^ d % 2) 1) (λ d. is_inner_class
 
 abbrev pub inner_by : Bool → Class
 inner_by reference = cond reference Reference Other
-
-pub past_inner : (p : Stage) (b : Bool) → is_past p ≡ true → Wrong ≡ step_of p (inner_by b)
-past_inner Start b e = never (cc)
-past_inner AfterHard b e = never (cc)
-past_inner Inner b e = never (cc)
-past_inner Good b e = never (cc)
-past_inner EndSoft true e = refl
-past_inner EndSoft false e = refl
-past_inner EndHard b e = refl
-past_inner Wrong b e = refl
-
-pub good_inner : (p : Stage) (b : Bool) → is_past p ≡ false → accept_of p ≡ true → Good ≡ step_of p (inner_by b)
-good_inner Start b e f = never (cc)
-good_inner AfterHard b e f = never (cc)
-good_inner Inner b e f = never (cc)
-good_inner Good true e f = refl
-good_inner Good false e f = refl
-good_inner EndSoft b e f = never (cc)
-good_inner EndHard b e f = never (cc)
-good_inner Wrong b e f = never (cc)
-
-pub first_inner : (p : Stage) (b : Bool) → is_past p ≡ false → accept_of p ≡ false → cond b Good Inner ≡ step_of p (inner_by b)
-first_inner Start true e f = refl
-first_inner Start false e f = refl
-first_inner AfterHard true e f = refl
-first_inner AfterHard false e f = refl
-first_inner Inner true e f = refl
-first_inner Inner false e f = refl
-first_inner Good b e f = never (cc)
-first_inner EndSoft b e f = never (cc)
-first_inner EndHard b e f = never (cc)
-first_inner Wrong b e f = never (cc)
 
 -- ---- which class a code has
 

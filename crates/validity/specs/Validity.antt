@@ -3,7 +3,6 @@ use Rattle.std.specs.Prelude.{ℕ, cond, List, length, ltb}
 use Rattle.oplist.specs.Ops.{most_ops}
 use Rattle.answers.specs.declared.Refusal.TheVariants.{TooManyOps}
 use Rattle.answers.specs.declared.Flag.{Flag}
-use Rattle.answers.specs.declared.Flag.TheVariants as Flag
 use Rattle.text_rules.specs.Valid.{valid_mapped}
 
 unfoldable pub validity : List ℕ → Flag

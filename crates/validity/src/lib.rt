@@ -1,4 +1,6 @@
 // Document 01, module 5: whether an op list is a valid mapped CIGAR, by one walk over it.
+#![tactic(auto)]
+
 ghost use Rattle.std.specs.Prelude.{◌≡◌, cond};
 ghost use Rattle.sam.specs.Op.{code_of};
 ghost use Rattle.oplist.specs.Ops.{ops_of};
@@ -12,7 +14,7 @@ use oplist::Ops;
 
 // How far the ops so far have got in H? S? inner S? H?: at the start, after H, past the leading clips without a reference op (`Inner`) or with one
 // (`Good`), after the S or the H at the end. `Wrong`: they are no valid mapped CIGAR, whatever follows.
-#[derive(Drop)]
+#[derive(Clone, Copy)]
 pub enum Stage {
     Start,
     AfterHard,

@@ -1,0 +1,17 @@
+-- One test after another, and then the overhang by the pair test.
+use mathlib.Core.List.{[]}
+use Rattle.overlap_rules.proofs.CallLaws.{record_short, mate_short, record_is}
+use Rattle.overlap.proofs.num_bases_extending_past_mate_vs_mate_raw.Goals as goal
+
+pub returns-then-rec-lt32 : goal.returns-then-rec-lt32
+returns-then-rec-lt32 c =
+    record_short _ _ c.if-rec-lt32.true
+
+pub returns-then-mate-lt32 : goal.returns-then-mate-lt32
+returns-then-mate-lt32 c =
+    mate_short _ _ c.if-rec-lt32.false c.if-mate-lt32.true
+
+pub returns : goal.returns
+returns c =
+    record_is c.args.rec.now c.args.mate.now c.if-rec-lt32.false c.if-mate-lt32.false c.primary_fr-fr.ensures c.own_place-place.ensures
+    (c.of_record.ensures.by_index []) c.pair_overhang.ensures

@@ -1,0 +1,52 @@
+-- The pass decides each refusal before anything is written; the pair test then says what is left.
+use mathlib.Core.Path.{◌≡◌, sym, ap, ◌∙◌}
+use mir.Syntax.{w32}
+use mir.Val.{to_z, of_z}
+use Rattle.answers.proofs.Unique.{settled, resettled}
+use Rattle.answers.specs.declared.Flag.{Flag}
+use Rattle.text_rules.specs.Text.{text_ops}
+use Rattle.parsed_rules.specs.Parsed.{measured_text}
+use Rattle.parsed_rules.specs.declared.Measured.TheVariants as Measured
+use Rattle.pairs_rules.specs.Pairs.{is_fr_with_mate}
+use Rattle.overlap_rules.specs.Overlap.{pair_list_left, past_mate_text}
+use Rattle.overlap_rules.proofs.CallLaws.{text_count, text_short, text-bad, text-many, text-left}
+use borrow.Author.Rules.{rules}
+use Rattle.overlap_text.proofs.num_bases_extending_past_mate_text_raw.Goals as goal
+
+pub returns-then-bam-lt32 : goal.returns-then-bam-lt32
+returns-then-bam-lt32 c =
+    settled (text_short _ _ _ c.if-bam-lt32.true)
+
+pub returns-in_default : goal.returns-in_default
+returns-in_default c =
+    settled (text-bad _ _ _ c.if-bam-lt32.false (sym c.measure.ensures ∙ c.in_default.is))
+
+pub returns-then-n : goal.returns-then-n
+returns-then-n c =
+    let measured : measured_text c.args.text.now ≡ Measured.Ops c.in-Ops.n c.in-Ops.span =
+    sym c.measure.ensures ∙ c.in-Ops.is
+    in
+    settled (text-many _ _ _ c.if-bam-lt32.false _ _ (measured) c.if-n.true)
+
+pub list_left-requires : goal.list_left-requires
+list_left-requires c =
+    let measured : measured_text c.args.text.now ≡ Measured.Ops c.in-Ops.n c.in-Ops.span =
+    sym c.measure.ensures ∙ c.in-Ops.is
+    in
+    (search rules, text_count _ _ _ (measured), c.if-n.false)
+
+pub returns-in-Refused : goal.returns-in-Refused
+returns-in-Refused c =
+    let w : to_z w32 (of_z w32 c.in-Ops.span) ≡ c.in-Ops.span = search rules in
+    let left : (fr : Flag) → c.fr_with_mate.result ≡ fr → past_mate_text c.args.bam.now c.args.text.now c.args.out.now ≡ pair_list_left fr c.args.bam.now (text_ops c.args.text.now) c.args.out.now =
+    λ fr e. text-left c.args.bam.now c.args.text.now c.args.out.now c.if-bam-lt32.false _ _ (sym c.measure.ensures ∙ c.in-Ops.is) fr c.if-n.false (sym e ∙ c.fr_with_mate.ensures ∙ ap (is_fr_with_mate c.args.bam.now) w)
+    in
+    settled (left (Flag.Refused c.in-Refused.why) c.in-Refused.is)
+
+pub returns-in-Is : goal.returns-in-Is
+returns-in-Is c =
+    let w : to_z w32 (of_z w32 c.in-Ops.span) ≡ c.in-Ops.span = search rules in
+    let left : (fr : Flag) → c.fr_with_mate.result ≡ fr → past_mate_text c.args.bam.now c.args.text.now c.args.out.now ≡ pair_list_left fr c.args.bam.now (text_ops c.args.text.now) c.args.out.now =
+    λ fr e. text-left c.args.bam.now c.args.text.now c.args.out.now c.if-bam-lt32.false _ _ (sym c.measure.ensures ∙ c.in-Ops.is) fr c.if-n.false (sym e ∙ c.fr_with_mate.ensures ∙ ap (is_fr_with_mate c.args.bam.now) w)
+    in
+    resettled (left (Flag.Is c.in-Is.fr) c.in-Is.is) c.list_left.ensures

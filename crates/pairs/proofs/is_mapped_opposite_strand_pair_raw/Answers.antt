@@ -1,0 +1,16 @@
+-- The one test, and then the rule.
+use mathlib.Core.Path.{ap}
+use borrow.Author.Tests.{lt-ltb, le-ltb}
+use Rattle.answers.specs.declared.Flag.TheVariants.{Is}
+use Rattle.pairs_rules.specs.Pairs.{opposite_pair}
+use Rattle.pairs.proofs.is_mapped_opposite_strand_pair_raw.Goals as goal
+
+pub returns-then-bam-lt32 : goal.returns-then-bam-lt32
+unfolding opposite_pair
+returns-then-bam-lt32 c =
+    simp (lt-ltb _ _ c.if-bam-lt32.true)
+
+pub returns : goal.returns
+unfolding opposite_pair
+returns c =
+    simp (le-ltb _ _ c.if-bam-lt32.false) (ap Is c.opposite.ensures)

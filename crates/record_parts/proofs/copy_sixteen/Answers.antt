@@ -1,0 +1,21 @@
+-- First the bytes are held, then those that are held stand in out.
+use Prim.Native.Nat.{ℕ, ◌+◌}
+use mathlib.Core.Path.{refl, sym, ap, ◌∙◌}
+use mathlib.Core.List.{List}
+use native.Mathlib.Omega.{arith}
+use lib.ListN.{get_or, set, length-set}
+use Rattle.lists.proofs.ListLaws.{splice_nil}
+use Rattle.lists.proofs.Splices.{put_turn}
+use Rattle.record_parts.proofs.copy_sixteen.Goals as goal
+
+pub loop-j-init : goal.loop-j-init
+loop-j-init c =
+    (omega arith, sym (splice_nil _ _), refl)
+
+pub loop-j-preserved : goal.loop-j-preserved
+loop-j-preserved c = (
+  omega arith,
+  ap (λ (l : List ℕ). set l (c.args.at + c.loop-j.j) (get_or c.loop-i.held c.loop-j.j 0)) c.loop-j.invariant.1
+      ∙ put_turn c.args.out.now c.loop-i.held c.args.at c.loop-j.j _ refl (omega arith) (omega arith),
+  simp length-set c.loop-j.invariant.2,
+)

@@ -1,0 +1,83 @@
+-- What each call ensures; the first that refuses decides.
+use Prim.Native.Nat.{ℕ, ◌≤◌}
+use mathlib.Core.Path.{◌≡◌, refl, sym, ap, ◌∙◌}
+use native.Mathlib.Omega.{arith}
+use lib.IntN.{pos}
+use lib.ListN.{length}
+use mir.Facts.{to_z_pos}
+use mir.Syntax.{w32}
+use mir.Val.{to_z}
+use Rattle.lists.specs.Lists.{sum_of}
+use Rattle.sam.specs.Op.{ref_len, query_len}
+use Rattle.sam.specs.Record.{ops_end}
+use Rattle.oplist.specs.Ops.{record_ops}
+use Rattle.oplist.proofs.OpsLaws.{lies, overruns}
+use Rattle.length_rules.specs.Lengths.{checked_ref_length}
+use Rattle.answers.specs.declared.Int.TheVariants as Int
+use Rattle.line_rules.specs.Inner.{row_of}
+use Rattle.line_rules.proofs.LineLaws.{refs_overrun, refs_over, refs_are, figures_are, row-past}
+use Rattle.report_line.proofs.row_of.Goals as goal
+
+pub returns-then-not-inside : goal.returns-then-not-inside
+unfolding row_of
+returns-then-not-inside c =
+    let h = overruns c.args.rec.now c.of_record-list.result c.of_record-list.ensures.at_value _ c.inside.ensures (c.if-not-inside.true) in
+    sym (figures_are c.args.rec.now _ _ _ _ _ (refs_overrun c.args.rec.now c.requires h) refl refl refl refl)
+
+pub returns-then-total-gt2147483647 : goal.returns-then-total-gt2147483647
+unfolding row_of
+returns-then-total-gt2147483647 c =
+    let within : ops_end c.args.rec.now ≤ length c.args.rec.now =
+    lies c.args.rec.now c.of_record-list.result c.of_record-list.ensures.at_value _ c.inside.ensures (c.if-not-inside.false)
+    in
+    let refs-told : c.sums-total.result.refs ≡ sum_of ref_len (record_ops c.args.rec.now) =
+    c.sums-total.ensures.refs_value.0 ∙ ap (sum_of ref_len) (c.of_record-list.ensures.by_index _)
+    in
+    sym (figures_are c.args.rec.now _ _ _ _ _ (refs_over c.args.rec.now c.requires (within) (omega (arith, c.if-total-gt2147483647.true, refs-told))) refl refl refl refl)
+
+pub returns-in-Refused : goal.returns-in-Refused
+unfolding row_of
+returns-in-Refused c =
+    let within : ops_end c.args.rec.now ≤ length c.args.rec.now =
+    lies c.args.rec.now c.of_record-list.result c.of_record-list.ensures.at_value _ c.inside.ensures (c.if-not-inside.false)
+    in
+    let refs-told : c.sums-total.result.refs ≡ sum_of ref_len (record_ops c.args.rec.now) =
+    c.sums-total.ensures.refs_value.0 ∙ ap (sum_of ref_len) (c.of_record-list.ensures.by_index _)
+    in
+    let refs-kept : checked_ref_length c.args.rec.now ≡ Int.Number (pos c.sums-total.result.refs) =
+    refs_are c.args.rec.now c.requires (within) (omega (arith, c.if-total-gt2147483647.false, refs-told)) ∙ ap (λ (n : ℕ). Int.Number (pos n)) (sym (refs-told))
+    in
+    sym (figures_are c.args.rec.now _ _ _ _ _ (refs-kept) refl (sym c.unclipped_5prime_from_raw_bam-five.ensures ∙ c.in-Refused.is) refl refl)
+
+pub returns-in-Refused-bin_from_raw_bam : goal.returns-in-Refused-bin_from_raw_bam
+returns-in-Refused-bin_from_raw_bam c =
+    let within : ops_end c.args.rec.now ≤ length c.args.rec.now =
+    lies c.args.rec.now c.of_record-list.result c.of_record-list.ensures.at_value _ c.inside.ensures (c.if-not-inside.false)
+    in
+    let refs-told : c.sums-total.result.refs ≡ sum_of ref_len (record_ops c.args.rec.now) =
+    c.sums-total.ensures.refs_value.0 ∙ ap (sum_of ref_len) (c.of_record-list.ensures.by_index _)
+    in
+    let refs-kept : checked_ref_length c.args.rec.now ≡ Int.Number (pos c.sums-total.result.refs) =
+    refs_are c.args.rec.now c.requires (within) (omega (arith, c.if-total-gt2147483647.false, refs-told)) ∙ ap (λ (n : ℕ). Int.Number (pos n)) (sym (refs-told))
+    in
+    row-past _ _ _ _ _ (λ r e. c.in_default.not-Refused r e)
+    ∙ sym (figures_are c.args.rec.now _ _ _ _ _ (refs-kept) refl (sym c.unclipped_5prime_from_raw_bam-five.ensures) (sym c.bin_from_raw_bam.ensures ∙ c.in-Refused-bin_from_raw_bam.is) refl)
+
+pub returns-in-Number : goal.returns-in-Number
+returns-in-Number c =
+    let within : ops_end c.args.rec.now ≤ length c.args.rec.now =
+    lies c.args.rec.now c.of_record-list.result c.of_record-list.ensures.at_value _ c.inside.ensures (c.if-not-inside.false)
+    in
+    let refs-told : c.sums-total.result.refs ≡ sum_of ref_len (record_ops c.args.rec.now) =
+    c.sums-total.ensures.refs_value.0 ∙ ap (sum_of ref_len) (c.of_record-list.ensures.by_index _)
+    in
+    let refs-kept : checked_ref_length c.args.rec.now ≡ Int.Number (pos c.sums-total.result.refs) =
+    refs_are c.args.rec.now c.requires (within) (omega (arith, c.if-total-gt2147483647.false, refs-told)) ∙ ap (λ (n : ℕ). Int.Number (pos n)) (sym (refs-told))
+    in
+    let query-told : sum_of query_len (record_ops c.args.rec.now) ≡ c.sums-total.result.query =
+    sym (c.sums-total.ensures.refs_value.1 ∙ ap (sum_of query_len) (c.of_record-list.ensures.by_index _))
+    in
+    let z : to_z w32 c.sums-total.result.refs ≡ pos c.sums-total.result.refs = to_z_pos w32 (omega (arith, c.if-total-gt2147483647.false)) in
+    simp (z, c.length_mark-mark.ensures)
+    (row-past _ _ _ _ _ (λ r e. c.in_default.not-Refused r e)
+    ∙ sym (figures_are c.args.rec.now _ _ _ _ _ (refs-kept) (query-told) (sym c.unclipped_5prime_from_raw_bam-five.ensures) (sym c.bin_from_raw_bam.ensures ∙ c.in-Number.is) (sym c.u32_at.ensures)))
