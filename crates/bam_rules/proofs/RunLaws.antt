@@ -19,7 +19,7 @@ use Rattle.bam_header.specs.Inner.{from_place, is_begun}
 use Rattle.bam_header.specs.declared.HeadPlace.{HeadPlace}
 use Rattle.bam_header.proofs.HeadLaws.{begun_records}
 use Rattle.bam_header.specs.Converted.{cgr_mark, converted}
-use Rattle.bam_rules.specs.Run.{left, BamTurn, read_in, behind_of, due_bytes, behind_all, head_start, BamRan, BamRan.starts, BamRan.turns, BamCame, Wrote, Wrote.ended, Wrote.refused}
+use Rattle.bam_rules.specs.Run.{left, BamTurn, read_in, due_bytes, behind_all, head_start, BamRan, BamRan.starts, BamRan.turns, BamCame, Wrote, Wrote.ended, Wrote.refused}
 use Rattle.bam_rules.specs.declared.BamState.{BamState}
 
 -- ---- the magic
@@ -90,16 +90,6 @@ module _ {s r : BamState} {block block' : List ℕ} (t : BamTurn s block r block
 -- the state behind the writes
 relieved_begun : (r : BamState) → is_begun r.place ≡ true → behind_all r ≡ record { place = r.place; have = r.have; used = r.have; failed = r.failed; ended = r.ended; marked = true }
 relieved_begun r e = simp e
-
--- by one write or two
-pub behind_mark : (s : BamState) → s.marked ≡ false → behind_of s ≡ record { place = s.place; have = s.have; used = s.used; failed = s.failed; ended = s.ended; marked = true }
-behind_mark s m = simp m
-
-pub behind_left : (s : BamState) → s.marked ≡ true → is_begun s.place ≡ true → behind_of s ≡ behind_all s
-behind_left s m e = simp (m, e)
-
-pub behind_both : (s : BamState) → is_begun s.place ≡ true → behind_of (behind_of s) ≡ behind_all s
-behind_both s e = simp e
 
 pub relieved_not : (r : BamState) → is_begun r.place ≡ false → behind_all r ≡ r
 relieved_not r e = simp e
@@ -194,7 +184,7 @@ pub record BamAlong (turns : ℕ) (s : BamState) (block : List ℕ) : Type 0 whe
   pub fits : s.have ≤ 65536
   pub room : s.have < s.used + 65536
 
-pub along_start : {r : Read} {p : HeadPlace} {block : List ℕ} (f : First 4 r block) → r.have ≤ 65536 → is_bam (take r.have block) ≡ true → ((ys : List ℕ) → from_place p ys ≡ texted ys)
+unfoldable pub along_start : {r : Read} {p : HeadPlace} {block : List ℕ} (f : First 4 r block) → r.have ≤ 65536 → is_bam (take r.have block) ≡ true → ((ys : List ℕ) → from_place p ys ≡ texted ys)
     → BamAlong 0 (head_start p r.have) block
 along_start {r} {block = block} f h m next =
     let l = long (take r.have block) m in
@@ -202,13 +192,13 @@ along_start {r} {block = block} f h m next =
     record { read = f.read; written = []; ran = starts f.gathers m next; on = refl; paid = omega arith; within = omega arith; fits = h; room = omega arith }
 
 -- the writes leave the rest of the state as it was, and room for a read
-record Relieved (r q : BamState) : Type 0 where
-  ended : q.ended ≡ r.ended
-  have : q.have ≡ r.have
-  within : q.used ≤ q.have
-  room : q.have < q.used + 65536
+pub record Relieved (r q : BamState) : Type 0 where
+  pub ended : q.ended ≡ r.ended
+  pub have : q.have ≡ r.have
+  pub within : q.used ≤ q.have
+  pub room : q.have < q.used + 65536
 
-relieved : (r : BamState) (block : List ℕ) → (is_begun r.place ≡ false → length (take r.have block) < r.used + 4) → r.used ≤ r.have → r.have ≤ length block → Relieved r (behind_all r)
+pub relieved : (r : BamState) (block : List ℕ) → (is_begun r.place ≡ false → length (take r.have block) < r.used + 4) → r.used ≤ r.have → r.have ≤ length block → Relieved r (behind_all r)
 relieved r block short low high = go (is_begun r.place) refl
   where
     go : (b : Bool) → is_begun r.place ≡ b → Relieved r (behind_all r)
@@ -216,7 +206,7 @@ relieved r block short low high = go (is_begun r.place) refl
     go false e = subst (λ (q : BamState). Relieved r q) (sym (relieved_not r e)) (record { ended = refl; have = refl; within = low; room = omega (arith, short e, length-take-le r.have block high) })
 
 module _ {s s₁ s₂ : BamState} {block block₁ : List ℕ} (n : ℕ) (a : BamAlong n s block) (t : BamTurn s block s₁ block₁) (e : s₂ ≡ behind_all s₁) (low : s₁.used ≤ s₁.have) (high : s₁.have ≤ 65536) (within : s₁.have ≤ length block₁) where
-  pub along_on : s₂.ended ≡ false → BamAlong (n + 1) s₂ block₁
+  unfoldable pub along_on : s₂.ended ≡ false → BamAlong (n + 1) s₂ block₁
   along_on on =
       let k : Relieved s₁ s₂ = subst (λ (q : BamState). Relieved s₁ q) (sym e) (relieved s₁ block₁ t.went.short low within) in
       let g = fill_grows t.filled (sym k.ended ∙ on) in
@@ -232,7 +222,7 @@ module _ {s s₁ s₂ : BamState} {block block₁ : List ℕ} (n : ℕ) (a : Bam
         room = k.room;
       }
 
-  pub along_off : s₂.ended ≡ true → BamCame s₂ block₁
+  unfoldable pub along_off : s₂.ended ≡ true → BamCame s₂ block₁
   along_off off = record {
     read = a.read ++ read_in s s₁ block₁;
     written = a.written ++ due_bytes s₁ block₁;
@@ -240,5 +230,5 @@ module _ {s s₁ s₂ : BamState} {block block₁ : List ℕ} (n : ℕ) (a : Bam
     last = λ h. never (cc);
   }
 
-pub along_last : {s : BamState} {block : List ℕ} (n : ℕ) → 140737488355328 ≤ n → BamAlong n s block → BamCame s block
+unfoldable pub along_last : {s : BamState} {block : List ℕ} (n : ℕ) → 140737488355328 ≤ n → BamAlong n s block → BamCame s block
 along_last n h a = record { read = a.read; written = a.written; ran = a.ran; last = λ e. omega (arith, a.paid) }

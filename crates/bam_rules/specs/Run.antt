@@ -1,5 +1,5 @@
--- A run of the program, turn by turn, over the bytes that its reads gave and the bytes that it handed to be written. The kit's contracts say nothing of a file's bytes. So it is assumed, and not proved,
--- what `blocks` says of a read, and that what is handed to `write_all` is written where it answers true.
+-- A run of the program, turn by turn, over the bytes that its reads gave and the bytes that it handed to be written. That the input gave these and the output took these is proved of every input and
+-- output that say their bytes (`Tied`, of `blocks`). Standard input and output don't say: of them it is assumed, and not proved.
 use Rattle.std.specs.Prelude.{ℕ, ◌+◌, ◌-◌, ◌≤◌, ◌<◌, ◌≡◌, true, false, cond, List, [], ◌++◌, length, take, drop}
 use Rattle.blocks.specs.Fill.{Filled, Gathers, First}
 use Rattle.blocks.specs.declared.Read.{Read}

@@ -1,14 +1,18 @@
 // What a turn of the program `bam_to_cgr` writes: the mark, and what is left behind it. An inner crate of that program.
+#![tactic(auto)]
+
 ghost use Rattle.std.specs.Prelude.{◌≡◌, true, ◌≤◌, length};
 ghost use Rattle.bam_header.specs.Inner.{is_begun};
 ghost use Rattle.bam_header.specs.Converted.{cgr_mark};
-ghost use Rattle.bam_rules.specs.Run.{used_behind, behind_of};
+ghost use Rattle.bam_rules.specs.Run.{used_behind, behind_of, left};
+ghost use Rattle.std.specs.Io.KnownBytes.{Appends};
 ghost use Rattle.bam_writes.specs.InnerPart.{part_of};
 
 use bam_rules::BamState;
+use std::io;
 
 // The state behind a write, and whether it went well.
-#[derive(Drop)]
+#[derive(Clone, Copy)]
 pub struct BamBehind {
     pub state: BamState,
     pub ok: bool,
@@ -47,12 +51,13 @@ fn behind_part(s: BamState) -> BamState
 }
 
 // Hands over what is due first, the mark or what is left behind it; the state behind it comes from here alone.
-pub fn write(s: BamState, block: &[u8], part: &[u8]) -> BamBehind
+pub fn write<W: io::Write>(to: &mut W, s: BamState, block: &[u8], part: &[u8]) -> BamBehind
     requires place_value { is_begun s.place ≡ true }
     requires part_value { part.now ≡ part_of s block.now }
-    ensures { result.state ≡ behind_of s }
+    ensures state { result.state ≡ behind_of s }
+    ensures bytes { result.ok ≡ true → Appends (W.contents to.old) (W.contents to.new) (part_of s block.now) }
 {
-    let ok = io::write_all(1, part);
+    let ok = to.write_all(part).is_ok();
     let state = behind_part(s);
     BamBehind {
         state: state,
@@ -61,13 +66,14 @@ pub fn write(s: BamState, block: &[u8], part: &[u8]) -> BamBehind
 }
 
 // What is left, behind the mark.
-pub fn write_left(s: BamState, block: &[u8]) -> BamBehind
+pub fn write_left<W: io::Write>(to: &mut W, s: BamState, block: &[u8]) -> BamBehind
     requires place_value { is_begun s.place ≡ true }
     requires marked_value { s.marked ≡ true }
     requires used_le_have { (s.used ≤ s.have) × (s.have ≤ length block.now) }
-    ensures { result.state ≡ behind_of s }
+    ensures state { result.state ≡ behind_of s }
+    ensures bytes { result.ok ≡ true → Appends (W.contents to.old) (W.contents to.new) (left s block.now) }
 {
     let used = s.used;
     let have = s.have;
-    write(s, block, &block[used..have])
+    write(to, s, block, &block[used..have])
 }

@@ -1,17 +1,17 @@
 -- Bytes that are moved to the front, one by one; and what a read did.
 use Prim.Native.Nat.{ℕ, zero, suc, ◌+◌, ◌-◌, ◌≤◌, ◌<◌}
-use mathlib.Core.Path.{◌≡◌, refl, sym, ap, ◌∙◌}
+use mathlib.Core.Path.{◌≡◌, refl, sym, ap, subst, ◌∙◌}
 use mathlib.Core.Bool.{Bool, true, false}
 use mathlib.Core.Logic.{◌⊎◌, inl, inr}
 use mathlib.Core.List.{List, [], ◌∷◌, ◌++◌}
 use native.Mathlib.Omega.{arith}
 use lib.Dec.{eqb}
-use lib.IntN.{ℤ, pos}
+use lib.IntN.{ℤ, pos, negsuc}
 use lib.Signed.{lt_z}
 use lib.ListN.{length, take, drop, get_or, set, length-drop, length-set, take-append-drop}
-use lib.Seq.{take-take, drop-drop, get_or-drop, take-suc, take-suc-set, drop-set-lt, take-nil}
-use Rattle.io.specs.Counts.{clamp_len}
-use Rattle.blocks.specs.Fill.{Filled, given, Gathers, Gathers.starts, Gathers.reads}
+use lib.Seq.{take-take, take-append-le, drop-drop, drop_at, get_or-drop, length-take-le, take-suc, take-suc-set, drop-set-lt, take-nil}
+use borrow.Author.Tests.{le-ltb}
+use Rattle.blocks.specs.Fill.{clamp_len, Filled, given, Gathers, Gathers.starts, Gathers.reads}
 use Rattle.blocks.specs.declared.Read.{Read}
 
 -- ---- bytes that are moved to the front
@@ -28,12 +28,6 @@ pub record Moved (b₀ : List ℕ) (used : ℕ) (b : List ℕ) (i : ℕ) : Type 
   pub same : length b ≡ length b₀
   pub front : take (i - used) b ≡ take (i - used) (drop used b₀)
   pub rest : drop i b ≡ drop i b₀
-
-pub moved_none : (b : List ℕ) (used : ℕ) → Moved b used b used
-moved_none b used = record { same = refl; front = ap (λ (k : ℕ). take k b) z ∙ sym (ap (λ (k : ℕ). take k (drop used b)) z); rest = refl }
-  where
-    z : used - used ≡ 0
-    z = omega arith
 
 pub moved_one : (b₀ b : List ℕ) (used i : ℕ) → Moved b₀ used b i → used ≤ i → i < length b → Moved b₀ used (set b (i - used) (get_or b i 0)) (i + 1)
 moved_one b₀ b used i m h k =
@@ -74,6 +68,28 @@ filled block block' have got n room bad e q f l k = record {
   same = l;
   kept = k;
 }
+
+-- it gave n bytes
+pub filled_some : (block new block' : List ℕ) (have n : ℕ) → n ≤ length new → length new ≡ length block - have → length block' ≡ length block
+    → take have block' ≡ take have block → Filled block have (record { have = have + n; none = eqb n 0; failed = false }) block'
+filled_some block new block' have n h q l k = filled block block' have (pos n) n (length new) false (omega (arith, h)) q (sym (le-ltb n 0 (omega arith))) l k
+
+-- it failed
+pub filled_none : (block block' : List ℕ) (have room : ℕ) → room ≡ length block - have → length block' ≡ length block → take have block' ≡ take have block
+    → Filled block have (record { have = have; none = true; failed = true }) block'
+filled_none block block' have room q l k =
+    subst (λ (m : ℕ). Filled block have (record { have = m; none = true; failed = true }) block') {x = have + 0} {y = have} (omega arith)
+    (filled block block' have (negsuc 0) 0 room true refl q refl l k)
+
+-- the bytes that it gave stand behind those at hand
+pub given_read : (block new block' : List ℕ) (have n : ℕ) → n ≤ length new → have ≤ length block → (rest : List ℕ) → block' ≡ take have block ++ (new ++ rest)
+    → drop have (take (have + n) block') ≡ take n new
+given_read block new block' have n h k rest e =
+    drop-take have (have + n) block'
+    ∙ ap (λ (m : ℕ). take m (drop have block')) {x = have + n - have} {y = n} (omega arith)
+    ∙ ap (λ (l : List ℕ). take n (drop have l)) e
+    ∙ ap (take n) (drop_at (take have block) (new ++ rest) have (length-take-le have block k))
+    ∙ take-append-le n new rest h
 
 module _ {block block' : List ℕ} {have : ℕ} {r : Read} (f : Filled block have r block') where
   pub fill_more : have ≤ r.have

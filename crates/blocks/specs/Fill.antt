@@ -1,9 +1,13 @@
--- One read of standard input, behind the bytes at hand. The kit's contracts say nothing of a file's bytes. So it is assumed, and not proved, that a read puts the next bytes there, as many as it
--- answers, and that where there is room it answers 0 only at the end of the input, and below 0 only where it failed.
-use Rattle.std.specs.Prelude.{ℕ, ◌+◌, ◌-◌, ◌≤◌, ◌≡◌, false, List, [], ◌++◌, eqb, ℤ, pos, length, take, drop}
+-- One read of an input, behind the bytes at hand: as many bytes as it answers stand there, and where there is room it answers 0 only at the end of the input, and below 0 only where it failed. That these
+-- are the input's next bytes is proved of every input that says which bytes it has left (std's `remaining`). Standard input doesn't say, so of it this is assumed, and not proved.
+use Rattle.std.specs.Prelude.{ℕ, ◌+◌, ◌-◌, ◌≤◌, ◌≡◌, false, List, [], ◌++◌, eqb, ℤ, pos, negsuc, min, length, take, drop}
 use Rattle.std.specs.Int.Signed.{lt_z}
-use Rattle.io.specs.Counts.{clamp_len}
 use Rattle.blocks.specs.declared.Read.{Read}
+
+-- what a read answered, below 0 where it failed, brought into `0..=most`
+abbrev pub clamp_len : ℤ → ℕ → ℕ
+clamp_len (pos k) most = min k most
+clamp_len (negsuc k) most = 0
 
 -- what is known of it: so many bytes were at hand, there is room for so many more, and the read answered `got`
 abbrev pub read_of : ℕ → ℕ → ℤ → Read

@@ -8,7 +8,6 @@ use native.Mathlib.Omega.{arith}
 use lib.Dec.{leb}
 use lib.ListN.{length, take, drop, length-append, length-drop, take-append-drop}
 use lib.Seq.{take-take, length-take-le, drop-append-le}
-use borrow.Author.Tests.{leb-true}
 use Rattle.lists.proofs.Absurd.{never}
 use Rattle.blocks.specs.Fill.{Gathers, First}
 use Rattle.blocks.specs.declared.Read.{Read}
@@ -45,15 +44,6 @@ due_first s out = go s.going (leb s.put 65280)
 -- at the end it is all
 pub due_last : (s : State) → s.going ≡ false → due_of s ≡ s.put
 due_last s e = ap (λ (g : Bool). cond g (cond (leb s.put 65280) 0 s.put) s.put) e
-
--- and there is room for a line again
-pub due_low : (s : State) → s.put - due_of s ≤ 65280
-due_low s = go s.going (leb s.put 65280) refl
-  where
-    go : (g l : Bool) → leb s.put 65280 ≡ l → s.put - cond g (cond l 0 s.put) s.put ≤ 65280
-    go true true p = omega (arith, leb-true s.put 65280 p)
-    go true false p = omega arith
-    go false l p = omega arith
 
 module _ {s s₁ s₂ : State} {block block₁ block₂ out out₁ : List ℕ} (f : Refilled s block s₁ block₁) (w : Turned s₁ block₁ out s₂ block₂ out₁) where
   waited : waiting s₂ out₁ ≡ waiting s out ++ added s₁ s₂ out₁
@@ -131,26 +121,29 @@ pub record Along (turns : ℕ) (s : State) (block out : List ℕ) : Type 0 where
   pub on : s.going ≡ true
   pub paid : turns + s.have ≤ 2 * length read
 
-pub along_start : {s : State} {r : Read} {block block₁ : List ℕ} (out : List ℕ) (f : First 5 r block) → is_marked (take r.have block) ≡ true → take (r.have - 5) block₁ ≡ take (r.have - 5) (drop 5 block)
+unfoldable pub along_start : {s : State} {r : Read} {block block₁ : List ℕ} (out : List ℕ) (f : First 5 r block) → is_marked (take r.have block) ≡ true → take (r.have - 5) block₁ ≡ take (r.have - 5) (drop 5 block)
     → s ≡ begun (r.have - 5) → Along 0 s block₁ out
 along_start {r = r} {block} {block₁} out f m moved e =
-    let l : length f.read ≡ r.have = ap length (sym (gathered f.gathers)) ∙ length-take-le r.have block f.within in
-    subst (λ (q : State). Along 0 q block₁ out) (sym e) (record { read = f.read; written = []; ran = starts f.gathers m moved; on = refl; paid = omega arith })
+    let l : length f.read ≡ r.have = ap length (sym (gathered f.gathers)) ∙ length-take-le r.have block f.within in record {
+      read = f.read;
+      written = [];
+      ran = subst (λ (q : State). Ran f.read [] q block₁ out) (sym e) (starts f.gathers m moved);
+      on = ap (λ (q : State). q.going) e;
+      paid = omega (arith, ap (λ (q : State). q.have) e, l);
+    }
 
 module _ {s s₁ s₂ r : State} {block block₁ block₂ out out₁ : List ℕ} (n : ℕ) (a : Along n s block out) (f : Refilled s block s₁ block₁) (w : Turned s₁ block₁ out s₂ block₂ out₁) (e : r ≡ relieved_of s₂) where
-  pub along_on : r.going ≡ true → s₂.have ≤ s₁.have → s₁.have ≤ length block₁ → Along (n + 1) r block₂ out₁
+  unfoldable pub along_on : r.going ≡ true → s₂.have ≤ s₁.have → s₁.have ≤ length block₁ → Along (n + 1) r block₂ out₁
   along_on g less fits =
-      let h : s₂.going ≡ true = sym (ap (λ (q : State). q.going) e) ∙ g in
-      subst (λ (q : State). Along (n + 1) q block₂ out₁) (sym e)
-      (record {
+      let h : s₂.going ≡ true = sym (ap (λ (q : State). q.going) e) ∙ g in record {
         read = a.read ++ read_behind s s₁ block₁;
         written = a.written ++ take (due_of s₂) out₁;
-        ran = turns a.ran a.on f w;
-        on = h;
-        paid = simp length-append (turn_paid n (length a.read) f w h less fits a.paid);
-      })
+        ran = subst (λ (q : State). Ran (a.read ++ read_behind s s₁ block₁) (a.written ++ take (due_of s₂) out₁) q block₂ out₁) (sym e) (turns a.ran a.on f w);
+        on = g;
+        paid = simp length-append (omega (arith, ap (λ (q : State). q.have) e, turn_paid n (length a.read) f w h less fits a.paid));
+      }
 
-  pub along_off : r.going ≡ false → Came r block₂ out₁
+  unfoldable pub along_off : r.going ≡ false → Came r block₂ out₁
   along_off g = record {
     read = a.read ++ read_behind s s₁ block₁;
     written = a.written ++ take (due_of s₂) out₁;
@@ -158,7 +151,7 @@ module _ {s s₁ s₂ r : State} {block block₁ block₂ out out₁ : List ℕ}
     last = λ h. never (cc);
   }
 
-pub along_last : {s : State} {block out : List ℕ} (n : ℕ) → 140737488355328 ≤ n → Along n s block out → Came s block out
+unfoldable pub along_last : {s : State} {block out : List ℕ} (n : ℕ) → 140737488355328 ≤ n → Along n s block out → Came s block out
 along_last n h a = record { read = a.read; written = a.written; ran = a.ran; last = λ e. omega (arith, a.paid) }
 
 -- ---- a whole stream

@@ -1,9 +1,10 @@
--- A run of the program, turn by turn, over the bytes that its reads gave and the bytes that it handed to be written. The kit's contracts say nothing of a file's bytes. So it is assumed, and not proved,
--- what `blocks` says of a read, and that what is handed to `write_all` is written where it answers true.
-use Rattle.std.specs.Prelude.{ℕ, ◌-◌, ◌≤◌, ◌<◌, ◌≡◌, Bool, true, false, cond, ◌⊎◌, List, [], ◌++◌, leb, length, take, drop}
+-- A run of the program, turn by turn, over the bytes that its reads gave and the bytes that it handed to be written. That the input gave these and the output took these is proved of every input and
+-- output that say their bytes (`Tied`, of `blocks`). Standard input and output don't say: of them it is assumed, and not proved.
+use Rattle.std.specs.Prelude.{ℕ, ◌-◌, ◌≤◌, ◌<◌, ◌≡◌, Bool, true, false, cond, ◌⊎◌, List, [], ◌++◌, leb, length, take, drop, Option, IfSome}
+use Rattle.std.specs.Io.KnownBytes.{Appends}
 use Rattle.blocks.specs.Fill.{Filled, Gathers}
 use Rattle.blocks.specs.declared.Read.{Read}
-use Rattle.stream_rules.specs.Stream.{is_marked, Reports}
+use Rattle.stream_rules.specs.Stream.{is_marked, Reports, Prints}
 use Rattle.report_rules.specs.declared.State.{State}
 
 -- the bytes at hand stand in front of the block, and those that wait to be written in front of the output
@@ -72,3 +73,7 @@ pub record Came (s : State) (block out : List ℕ) : Type 0 where
   pub written : List ℕ
   pub ran : Ran read written s block out
   pub last : s.going ≡ true → 70368744177664 ≤ length read
+
+-- What a whole run does to an output that says its bytes, by an input that says them: of the stream that the input has, what is printed is written behind what the output held.
+abbrev pub Printed : Option (List ℕ) → Option (List ℕ) → Option (List ℕ) → Type 0
+Printed before held holds = IfSome before (λ stream. (printed : List ℕ) × Prints stream printed × Appends held holds printed)

@@ -1,20 +1,27 @@
 // The turns of the program `report`, each a read and lines that are put; `report_writes` writes them, and `report_rules` says what they come to. An inner crate of that program.
-ghost use Rattle.std.specs.Prelude.{◌≡◌, ◌+◌, ◌≤◌, ◌<◌, length};
+#![tactic(auto)]
+
+ghost use Rattle.std.specs.Prelude.{◌≡◌, true, false, ◌+◌, ◌≤◌, ◌<◌, length};
 ghost use Rattle.stream_rules.specs.Stream.{last_word};
-ghost use Rattle.report_rules.specs.Run.{Refilled, Turned};
+ghost use Rattle.report_rules.specs.Run.{Refilled, read_behind, Turned};
+ghost use Rattle.std.specs.Io.KnownBytes.{Consumes, IsAtEnd};
 
 use report_rules::State;
+use std::io;
 use stream_rules::NextFrame;
 
 // The most bytes that a record and its size take: with so many at hand none has to be read.
 const ENOUGH: usize = 32772;
 
 // Reads behind the bytes at hand, unless a whole record is there or nothing is left.
-pub fn refill(s: State, block: &mut [u8]) -> State
+pub fn refill<R: io::Read>(input: &mut R, s: State, block: &mut [u8]) -> State
     requires value { 65536 ≡ length block.old }
     requires have_bound { s.have ≤ 65536 }
     ensures refilled { Refilled s block.old result block.new }
     ensures have_bound_2 { result.have ≤ 65536 }
+    ensures bytes { Consumes (R.remaining input.old) (R.remaining input.new) (read_behind s result block.new) }
+    ensures end { (s.whole ≡ true → s.failed ≡ false → IsAtEnd (R.remaining input.old)) → result.whole ≡ true → result.failed ≡ false
+        → IsAtEnd (R.remaining input.new) }
 {
     let have = s.have;
     if ENOUGH <= have {
@@ -23,7 +30,7 @@ pub fn refill(s: State, block: &mut [u8]) -> State
     if s.whole {
         return s;
     }
-    let r = blocks::fill(block, have);
+    let r = blocks::fill(input, block, have);
     State {
         have: r.have,
         whole: r.none,

@@ -1,11 +1,15 @@
 // What waits to be written between two turns of the program `report`: how much of it is due, and its write. An inner crate of that program.
-ghost use Rattle.std.specs.Prelude.{◌≡◌, ◌≤◌, length, take};
+#![tactic(auto)]
+
+ghost use Rattle.std.specs.Prelude.{◌≡◌, ◌≤◌, true, length, take};
+ghost use Rattle.std.specs.Io.KnownBytes.{Appends};
 ghost use Rattle.report_rules.specs.Run.{due_of, relieved_of};
 
 use report_rules::State;
+use std::io;
 
 // The state behind a write, and whether it went well.
-#[derive(Drop)]
+#[derive(Clone, Copy)]
 pub struct Behind {
     pub state: State,
     pub ok: bool,
@@ -26,11 +30,12 @@ fn due(s: State) -> usize
 }
 
 // Hands over what is due; the state behind it comes from here alone.
-fn write(s: State, out: &[u8], part: &[u8]) -> Behind
+fn write<W: io::Write>(to: &mut W, s: State, out: &[u8], part: &[u8]) -> Behind
     requires { part.now ≡ take (due_of s) out.now }
-    ensures { (result.state ≡ relieved_of s) × (result.state.put ≤ 65280) }
+    ensures state { (result.state ≡ relieved_of s) × (result.state.put ≤ 65280) }
+    ensures bytes { result.ok ≡ true → Appends (W.contents to.old) (W.contents to.new) (take (due_of s) out.now) }
 {
-    let ok = io::write_all(1, part);
+    let ok = to.write_all(part).is_ok();
     let behind = relieved(s);
     Behind {
         state: behind,
@@ -38,12 +43,13 @@ fn write(s: State, out: &[u8], part: &[u8]) -> Behind
     }
 }
 
-pub fn write_due(s: State, out: &[u8]) -> Behind
+pub fn write_due<W: io::Write>(to: &mut W, s: State, out: &[u8]) -> Behind
     requires { s.put ≤ length out.now }
-    ensures { (result.state ≡ relieved_of s) × (result.state.put ≤ 65280) }
+    ensures state { (result.state ≡ relieved_of s) × (result.state.put ≤ 65280) }
+    ensures bytes { result.ok ≡ true → Appends (W.contents to.old) (W.contents to.new) (take (due_of s) out.now) }
 {
     let n = due(s);
-    write(s, out, &out[..n])
+    write(to, s, out, &out[..n])
 }
 
 // The state behind that write.

@@ -4,166 +4,166 @@ use clip_rules::Clipped;
 use ends_rules::Unclipped;
 use length_rules::{Clips, Lengths};
 
-pub fn text(words: &[u8]) {
-    io::write_all(1, words);
+pub fn text(rt: &impl Print, words: &[u8]) {
+    let _ = rt.write_all(words);
 }
 
-pub fn end() {
-    text(b"\n");
+pub fn end(rt: &impl Print) {
+    text(rt, b"\n");
 }
 
-pub fn natural(n: u64) {
-    io::print_decimal(1, n);
+pub fn natural(rt: &impl Print, n: u64) {
+    let _ = print!(rt; "{n}");
 }
 
-fn integer(n: i32) {
+fn integer(rt: &impl Print, n: i32) {
     let u = signed::raise(n);
     if u < 2147483648 {
-        text(b"-");
-        natural(2147483648 - u);
+        text(rt, b"-");
+        natural(rt, 2147483648 - u);
     } else {
-        natural(u - 2147483648);
+        natural(rt, u - 2147483648);
     }
 }
 
-fn refused(why: Refusal) {
-    text(b"refused ");
-    natural(answers::number(why) as u64);
+fn refused(rt: &impl Print, why: Refusal) {
+    text(rt, b"refused ");
+    natural(rt, answers::number(why) as u64);
 }
 
-pub fn int(answer: Int) {
+pub fn int(rt: &impl Print, answer: Int) {
     match answer {
-        Int::Number(n) => integer(n),
-        Int::Refused(why) => refused(why),
+        Int::Number(n) => integer(rt, n),
+        Int::Refused(why) => refused(rt, why),
     }
 }
 
-pub fn nat(answer: Nat) {
+pub fn nat(rt: &impl Print, answer: Nat) {
     match answer {
-        Nat::Number(n) => natural(n as u64),
-        Nat::Refused(why) => refused(why),
+        Nat::Number(n) => natural(rt, n as u64),
+        Nat::Refused(why) => refused(rt, why),
     }
 }
 
-pub fn count(answer: Count) {
+pub fn count(rt: &impl Print, answer: Count) {
     match answer {
-        Count::Number(n) => natural(n),
-        Count::Refused(why) => refused(why),
+        Count::Number(n) => natural(rt, n),
+        Count::Refused(why) => refused(rt, why),
     }
 }
 
-fn clips(run: Clips) {
-    text(b" ");
-    natural(run.soft);
-    text(b" ");
-    natural(run.hard);
+fn clips(rt: &impl Print, run: Clips) {
+    text(rt, b" ");
+    natural(rt, run.soft);
+    text(rt, b" ");
+    natural(rt, run.hard);
 }
 
-pub fn lengths(answer: Lengths) {
+pub fn lengths(rt: &impl Print, answer: Lengths) {
     match answer {
         Lengths::Are(l) => {
-            integer(l.reference);
-            text(b" ");
-            natural(l.query);
-            clips(l.leading);
-            clips(l.trailing);
+            integer(rt, l.reference);
+            text(rt, b" ");
+            natural(rt, l.query);
+            clips(rt, l.leading);
+            clips(rt, l.trailing);
         }
-        Lengths::Refused(why) => refused(why),
+        Lengths::Refused(why) => refused(rt, why),
     }
 }
 
-pub fn place0(answer: Place0) {
+pub fn place0(rt: &impl Print, answer: Place0) {
     match answer {
-        Place0::At(at) => integer(at.0),
-        Place0::Refused(why) => refused(why),
+        Place0::At(at) => integer(rt, at.0),
+        Place0::Refused(why) => refused(rt, why),
     }
 }
 
-pub fn place1(answer: Place1) {
+pub fn place1(rt: &impl Print, answer: Place1) {
     match answer {
-        Place1::At(at) => integer(at.0),
-        Place1::Nothing => text(b"none"),
-        Place1::Refused(why) => refused(why),
+        Place1::At(at) => integer(rt, at.0),
+        Place1::Nothing => text(rt, b"none"),
+        Place1::Refused(why) => refused(rt, why),
     }
 }
 
-pub fn unclipped(answer: Unclipped) {
+pub fn unclipped(rt: &impl Print, answer: Unclipped) {
     match answer {
-        Unclipped::At(at) => integer(at.0),
-        Unclipped::Unmapped => text(b"unmapped"),
-        Unclipped::NoOps => text(b"no ops"),
-        Unclipped::Refused(why) => refused(why),
+        Unclipped::At(at) => integer(rt, at.0),
+        Unclipped::Unmapped => text(rt, b"unmapped"),
+        Unclipped::NoOps => text(rt, b"no ops"),
+        Unclipped::Refused(why) => refused(rt, why),
     }
 }
 
 // An op as text; a code 9 to 15 as a number.
-fn op(word: u32) {
-    natural((word / 16) as u64);
+fn op(rt: &impl Print, word: u32) {
+    natural(rt, (word / 16) as u64);
     let n = kinds::named(word % 16);
     if n.letter == 0 {
-        text(b"?");
+        text(rt, b"?");
     } else {
         let letter = [n.letter];
-        text(&letter);
+        text(rt, &letter);
     }
 }
 
 // Ops as text, `.` for none.
-fn list(words: &[u32]) {
+fn list(rt: &impl Print, words: &[u32]) {
     if words.len() == 0 {
-        text(b".");
+        text(rt, b".");
     }
     let mut i: usize = 0;
     while i < words.len() {
-        op(words[i]);
+        op(rt, words[i]);
         i += 1;
     }
 }
 
 // The first n ops of a list.
-fn first(words: &[u32], n: usize) {
+fn first(rt: &impl Print, words: &[u32], n: usize) {
     if n <= words.len() {
-        list(&words[..n]);
+        list(rt, &words[..n]);
     }
 }
 
 // A refusal, and what the output holds.
-fn refused_beside(why: Refusal, out: &[u32]) {
-    refused(why);
-    text(b" leaves ");
-    list(out);
+fn refused_beside(rt: &impl Print, why: Refusal, out: &[u32]) {
+    refused(rt, why);
+    text(rt, b" leaves ");
+    list(rt, out);
 }
 
 // The list written and the count.
-pub fn clipped_start(answer: Clipped, out: &[u32]) {
+pub fn clipped_start(rt: &impl Print, answer: Clipped, out: &[u32]) {
     match answer {
         Clipped::Done(n, count) => {
-            first(out, n as usize);
-            text(b" ");
-            natural(count);
+            first(rt, out, n as usize);
+            text(rt, b" ");
+            natural(rt, count);
         }
-        Clipped::Refused(why) => refused_beside(why, out),
+        Clipped::Refused(why) => refused_beside(rt, why, out),
     }
 }
 
 // The list written.
-pub fn clipped_end(answer: Count, out: &[u32]) {
+pub fn clipped_end(rt: &impl Print, answer: Count, out: &[u32]) {
     match answer {
-        Count::Number(n) => first(out, n as usize),
-        Count::Refused(why) => refused_beside(why, out),
+        Count::Number(n) => first(rt, out, n as usize),
+        Count::Refused(why) => refused_beside(rt, why, out),
     }
 }
 
-fn byte(value: u8) {
-    text(b" ");
-    natural(value as u64);
+fn byte(rt: &impl Print, value: u8) {
+    text(rt, b" ");
+    natural(rt, value as u64);
 }
 
 // Bytes as numbers, each after a space.
-pub fn bytes(part: &[u8]) {
+pub fn bytes(rt: &impl Print, part: &[u8]) {
     let mut i: usize = 0;
     while i < part.len() {
-        byte(part[i]);
+        byte(rt, part[i]);
         i += 1;
     }
 }

@@ -1,3 +1,0 @@
-pub mod Borrower
-pub mod Lender
-pub mod Parts
