@@ -27,6 +27,7 @@
  * A flag as an argument is a byte: anything but 0 counts as 1. Positions are counted as each call says.
  *
  * The calls are in four archives, each said above its calls: link the ones that you need. libselvedgekite.so has all of them.
+ * Of the C library libexports_reads.a needs memset, and nothing else: who links without a C library has to have a memset, as every C compiler asks for.
  */
 #ifndef CIGAR_H
 #define CIGAR_H

@@ -62,8 +62,9 @@ def crates(names):
     below = {}
     with open(os.path.join(TOP, 'crates.txt'), encoding='utf-8') as lines:
         for line in lines:
-            name, _, others = line.partition(':')
-            below[name] = others.split()
+            name, colon, others = line.partition(':')
+            if colon:
+                below[name.split()[0]] = others.split()  # a static library has a second word
     used, todo = set(), list(names)
     while todo:
         name = todo.pop()
@@ -74,12 +75,13 @@ def crates(names):
 
 
 def is_built(files, names):
-    """Whether the files are there that are made of some crates, and nothing of these is newer."""
+    """Whether the files are there that are made of some crates, and nothing of these is newer; what rt makes beside them is none of it."""
     try:
         made = min(os.stat(file).st_mtime for file in files)
     except OSError:
         return False
-    parts = (os.path.join(folder, name) for crate in crates(names) for folder, _, names in os.walk(crate) for name in names)
+    out = os.sep + 'out'
+    parts = (os.path.join(folder, name) for crate in crates(names) for folder, _, names in os.walk(crate) if not (folder + os.sep).startswith(crate + out + os.sep) for name in names)
     return all(os.stat(part).st_mtime <= made for part in itertools.chain([os.path.join(TOP, 'crates.txt')], parts))
 
 
@@ -102,7 +104,7 @@ def build(what, files, names, make):
             make(lock)
 
 
-LIBRARIES = os.path.join(TARGET, 'libraries', 'x86_64' if os.uname().machine == 'x86_64' else 'native')
+LIBRARIES = os.path.join(TARGET, 'libraries', os.uname().machine)
 ARCHIVES = ('exports', 'exports_reads', 'exports_long', 'exports_records')
 
 

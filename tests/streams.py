@@ -150,7 +150,6 @@ def bam(records, text=b'@HD\tVN:1.6\n', references=((b'chr1\0', 1000),)):
 
 NOT_BAM, HEAD_CUT = b'bam_to_cgr: not a BAM stream\n', b'bam_to_cgr: the head of the BAM stream is cut short\n'
 UNREAD, UNWRITTEN = b": the input can't be read to its end\n", b": the output can't be written\n"
-BROKEN_PIPE = (-13, 141)
 
 
 def converted(data):
@@ -183,21 +182,14 @@ def bgzf(data, block=65280):
 
 
 def command(program):
-    """How a proved program of the repository is run: under the kit's loader, and on another processor under its emulator."""
-    import shutil
-    kit = os.path.dirname(os.path.dirname(os.path.realpath(shutil.which('rt'))))
-    emulator = os.path.join(kit, 'on', os.uname().machine, 'toolchain', 'bin', 'qemu-x86_64')
-    lib = os.path.join(kit, 'toolchain', 'lib')
-    return ([emulator] if os.path.exists(emulator) else []) + [os.path.join(lib, 'ld-linux-x86-64.so.2'), '--library-path', lib, os.path.join(TOP, 'target', 'bin', program)]
+    """How a proved program of the repository is run."""
+    return [os.path.join(TOP, 'target', 'bin', program)]
 
 
 def build(*programs):
-    missing = [p for p in programs if not os.path.exists(os.path.join(TOP, 'target', 'bin', p))]
-    for p in missing:
-        if os.path.exists(os.path.join(TOP, 'target', 'stamp', p)):
-            os.remove(os.path.join(TOP, 'target', 'stamp', p))
-    if missing:
-        subprocess.run(['rt', 'check', *missing], cwd=TOP, check=True, stdout=subprocess.DEVNULL)
+    """Has ./report, which builds the two programs where that has to be, build them."""
+    if not all(os.path.exists(os.path.join(TOP, 'target', 'bin', p)) for p in programs):
+        subprocess.run([os.path.join(TOP, 'report'), os.path.join(TOP, 'examples', 'sample.bam')], check=True, stdout=subprocess.DEVNULL)
 
 
 def run(program, data):
@@ -223,14 +215,13 @@ def run_directory(program):
         os.close(at)
 
 
-def said_of_full(program, data):
-    """What the program says where its output takes nothing: a full device, and a pipe that nobody reads, with its signal ignored; and how it ends where the signal is not."""
+def ends_of_full(program, data):
+    """How the program ends, and what it says, where its output takes nothing: a full device, and a pipe that nobody reads, with its signal ignored and not."""
     with open('/dev/full', 'wb') as full:
-        of_full = subprocess.run(command(program), input=data, stdout=full, stderr=subprocess.PIPE, timeout=60).stderr
-    ends = []
+        ends = [subprocess.run(command(program), input=data, stdout=full, stderr=subprocess.PIPE, timeout=60)]
     for restored in (False, True):
         end, pipe = os.pipe()
         os.close(end)
         with os.fdopen(pipe, 'wb') as closed:
             ends.append(subprocess.run(command(program), input=data, stdout=closed, stderr=subprocess.PIPE, timeout=60, restore_signals=restored))
-    return of_full, ends[0].stderr, ends[1].returncode
+    return [(end.returncode, end.stderr) for end in ends]

@@ -149,7 +149,7 @@ __all__ = ['Refusal', 'UNMAPPED', 'NO_OPS', 'ACCEPTED', 'CHECKED'] + [name for _
 def loaded():
     """The shared library, with its calls declared."""
     here = os.path.dirname(os.path.realpath(__file__))
-    made = os.path.join(here, '..', '..', 'target', 'libraries', 'x86_64' if os.uname().machine == 'x86_64' else 'native')
+    made = os.path.join(here, '..', '..', 'target', 'libraries', os.uname().machine)
     path = os.path.join(os.environ.get('SELVEDGEKITE_LIB', made), 'libselvedgekite.so')
     if not os.path.exists(path):
         raise ImportError(f'{os.path.normpath(path)} is missing: run ./build-libraries at the top of the repository')

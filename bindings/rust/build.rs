@@ -1,16 +1,15 @@
-// Links the four archives that ./build-libraries writes at the top of the repository: those for x86-64, and for any other target
-// those of this machine's own processor. SELVEDGEKITE_LIB names another folder.
+// Links the four archives that ./build-libraries writes at the top of the repository, for x86-64, or for aarch64 with --aarch64.
+// SELVEDGEKITE_LIB names another folder.
 use std::env::var;
 use std::path::Path;
 
 fn main() {
-    let (arch, host) = (var("CARGO_CFG_TARGET_ARCH").unwrap(), var("HOST").unwrap());
-    let made = if arch == "x86_64" { "x86_64" } else { "native" };
+    let arch = var("CARGO_CFG_TARGET_ARCH").unwrap();
     let folder = var("SELVEDGEKITE_LIB").unwrap_or_else(|_| {
-        if arch != "x86_64" && !host.starts_with(&arch) {
-            panic!("./build-libraries builds for x86-64 and for its own machine: run it on one with {arch}, and name its folder by SELVEDGEKITE_LIB");
+        if arch != "x86_64" && arch != "aarch64" {
+            panic!("./build-libraries builds for x86-64 and for aarch64, and not for {arch}");
         }
-        format!("{}/../../target/libraries/{made}", var("CARGO_MANIFEST_DIR").unwrap())
+        format!("{}/../../target/libraries/{arch}", var("CARGO_MANIFEST_DIR").unwrap())
     });
     println!("cargo:rerun-if-env-changed=SELVEDGEKITE_LIB");
     println!("cargo:rustc-link-search=native={folder}");

@@ -1,4 +1,5 @@
-/* What tests/driver.c asks of C's library, for an aarch64 Linux without one: where a program starts, and three calls of the system. */
+/* What tests/driver.c asks of C's library, for an aarch64 Linux without one: where a program starts, three calls of the system, and the
+ * memset that the libraries ask for. */
 #include <stddef.h>
 
 __asm__(".globl _start\n_start:\n\tldr w0, [sp]\n\tadd x1, sp, #8\n\tbl main\n\tbl exit\n");
@@ -12,6 +13,14 @@ static long ask(long number, long a, long b, long c)
 
 long read(int file, void *to, size_t bytes) { return ask(63, file, (long)to, (long)bytes); }
 long write(int file, const void *from, size_t bytes) { return ask(64, file, (long)from, (long)bytes); }
+
+void *memset(void *to, int byte, size_t bytes)
+{
+    unsigned char *at = to;
+    while (bytes--)
+        *at++ = (unsigned char)byte;
+    return to;
+}
 
 void exit(int status)
 {
