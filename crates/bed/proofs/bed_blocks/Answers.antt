@@ -80,7 +80,7 @@ returns c =
     in
     settled_two
     (past
-    ∙ done c.natural_of-at.result c.args.ops.now c.args.sizes.now c.args.starts.now (omega (arith, c.if-end-gt2147483647.false, (told).2)) (omega (arith, c.if-sizes-n.false, (told).1)) (omega (arith, c.if-starts-n.false, (told).1))
+    ∙ done c.natural_of-at.result c.args.ops.now c.args.sizes.now c.args.starts.now (omega (arith, c.if-end-gt2147483647.false, (told).2)) (omega (arith, (told).1)) (omega (arith, (told).1))
     ∙ outcome_two (same_answer c.args.ops.now c.natural_of-at.result (told).2 (told).1) c.write.ensures.sizes_after c.write.ensures.starts_after)
 
 pub write-requires-clause-ops_len_bound : goal.write-requires-clause-ops_len_bound
@@ -95,4 +95,4 @@ write-requires-clause-ops_in_bounds c =
     let told : (unfit c.args.ops.now ≡ false) × (c.in-Blocks.n ≡ length (blocks c.args.ops.now)) × (c.in-Blocks.refs ≡ sum_of ref_len c.args.ops.now) =
     told_blocks c.args.ops.now c.in-Blocks.n c.in-Blocks.refs (sym c.measure.ensures.value ∙ c.in-Blocks.is)
     in
-    (omega (arith, c.if-sizes-n.false, told.1), omega (arith, c.if-starts-n.false, told.1))
+    (omega (arith, told.1), omega (arith, told.1))

@@ -36,4 +36,4 @@ returns-then-s-text c =
 
 pub returns : goal.returns
 returns c =
-    all-passed c.args.ops.now c.args.text.now c.loop-i.i c.loop-i.s c.loop-i.invariant.1 (omega arith) c.if-s-ne0.false (omega (arith, c.if-s-text.false))
+    all-passed c.args.ops.now c.args.text.now c.loop-i.i c.loop-i.s c.loop-i.invariant.1 (omega arith) c.if-s-ne0.false (omega arith)

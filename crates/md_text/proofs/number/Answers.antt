@@ -58,7 +58,7 @@ loop-at-preserved c =
     let d = next-digit in (
       omega arith,
       omega arith,
-      omega (arith, c.if-n-gt-MOST_BASES.false),
+      omega arith,
       c.loop-at.invariant.3,
       c.loop-at.invariant.4 ∙ digit-fits c.args.text.now c.loop-at.at _ c.wide.ensures.0 (omega arith) d,
       c.loop-at.invariant.5 ∙ digit-columns c.args.text.now c.loop-at.at _ c.wide.ensures.0 (omega arith) c.loop-at.n d,

@@ -1,6 +1,6 @@
 -- Each op is an inner one, and leaves the stage as it was.
 use Prim.Native.Nat.{ℕ}
-use mathlib.Core.Path.{◌≡◌, sym, ap, ◌∙◌, subst}
+use mathlib.Core.Path.{◌≡◌, ap, subst}
 use mathlib.Core.Bool.{true}
 use native.Mathlib.Omega.{arith}
 use Rattle.tokens.specs.InnerToken.{OpAt, ShortAt}
@@ -17,9 +17,8 @@ loop-i-preserved c =
     in
     let inner : is_inner_class (code_class c.in-Op.code) ≡ true =
     let o = found in
-    ap (λ (k : ℕ). is_inner_class (code_class k)) {x = c.in-Op.code} {y = code_of c.in-Op.code} (omega (arith, o.known))
-    ∙ sym c.is_inner.ensures
-    ∙ c.if-not-is_inner.false
+    let e = ap (λ (k : ℕ). is_inner_class (code_class k)) {x = c.in-Op.code} {y = code_of c.in-Op.code} (omega (arith, o.known)) in
+    cc
     in
     let o = found in
     let x = on_from c.args.text.now _ _ _ _ _ _ _ _ _ _ _ _ c.loop-i.invariant.3

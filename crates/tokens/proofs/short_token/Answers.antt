@@ -32,5 +32,5 @@ returns c =
     let o : c.code_at-code.result ≤ 8 = c.if-code-gt8.false in
     short_op c.args.text.now c.args.at c.wide-a.result c.wide.result c.wide-2.result (omega arith)
     c.wide-a.ensures.0 c.wide.ensures.0 c.wide-2.ensures.0 first
-    _ _ second third c.if-two.len c.code_at-code.result _ number c.if-len-eq0.false
+    _ _ second third c.if-two.len c.code_at-code.result _ number (λ z. omega arith)
     (e ∙ known _ (subst (λ (n : ℕ). n ≤ 8) e o) ∙ ap letter_code c.letter_of.ensures) o (ap (λ n. c.args.at + n) c.width_of.ensures.0)
