@@ -106,7 +106,7 @@ first_from start size (o ∷ xs) u = go (is_skip o) (eqb size 0) refl u (first_f
 pub first-start : (xs : List ℕ) → unfit xs ≡ false → take 1 (starts_of (blocks xs)) ≡ 0 ∷ []
 first-start xs u = rw (walked xs) (first_from 0 0 xs (sym (unfit_is xs) ∙ u))
 
--- "the last block ends at chrom_end"
+-- "the last block ends at chromEnd"
 end_then : (from start size : ℕ) (bs : List Block) → last_end from (block_of start size ++ bs) ≡ last_end (cond (eqb size 0) from (start + size)) bs
 unfolding last_end
 end_then from start size bs = go (eqb size 0)

@@ -1,4 +1,4 @@
--- Document 02, item 5: "From a start and an op list, write chromStart, chrom_end, blockCount, blockSizes and blockStarts". Refusals 3, 14, 4, 6.
+-- Document 02, item 5: "From a start and an op list, write chromStart, chromEnd, blockCount, blockSizes and blockStarts". Refusals 3, 14, 4, 6.
 use Rattle.std.specs.Prelude.{ℕ, ◌+◌, Bool, false, cond, ◌||◌, ◌&&◌, List, [], ◌∷◌, map, reverse, eqb, ltb, ℤ, pos, length}
 use Rattle.std.specs.Int.Signed.{lt_z}
 use Rattle.lists.specs.Lists.{sum_of, splice}
@@ -32,11 +32,11 @@ unfoldable pub unfit : List ℕ → Bool
 unfolding skips_last
 unfit xs = no_block xs || (skips_last (reverse xs) || skips_last xs)
 
--- chrom_end is the start and the list's reference length
+-- chromEnd is the start and the list's reference length
 abbrev pub chrom_end : ℕ → List ℕ → ℕ
 chrom_end at xs = at + sum_of ref_len xs
 
--- from a start that is not below 0: "4, which is given when chrom_end would pass 2,147,483,647, and 6", for want of places in either output; d takes the sizes and e the starts
+-- from a start that is not below 0: "4, which is given when chromEnd would pass 2,147,483,647, and 6", for want of places in either output; d takes the sizes and e the starts
 unfoldable pub bed_from : ℕ → List ℕ → List ℕ → List ℕ → OutcomeTwo Bed
 bed_from at xs d e =
     cond (ltb 2147483647 (chrom_end at xs)) (keeps_both (Refused Overflow) d e)
@@ -50,7 +50,7 @@ bed_blocks start xs d e =
     (cond (lt_z start (pos 0) || unfit xs) (keeps_both (Refused NoBlocks) d e)
     (bed_from (natural start) xs d e))
 
--- the numbers of an answer: chromStart, chrom_end, blockCount
+-- the numbers of an answer: chromStart, chromEnd, blockCount
 abbrev pub tell_bed : Bed → Told
 tell_bed (Blocks at end n) = answered (pos at ∷ pos end ∷ pos n ∷ [])
 tell_bed (Refused r) = refused r

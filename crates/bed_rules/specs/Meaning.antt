@@ -1,4 +1,4 @@
--- Document 02, item 5, what is promised of blocks: "the first is 0, and the last block ends at chrom_end. Sum of sizes plus the N lengths equals the reference length";
+-- Document 02, item 5, what is promised of blocks: "the first is 0, and the last block ends at chromEnd. Sum of sizes plus the N lengths equals the reference length";
 -- they ascend and don't overlap, and hold each reference base of the alignment but those that an N skips.
 use Rattle.std.specs.Prelude.{ℕ, ◌+◌, ◌≤◌, ◌<◌, ◌≡◌, true, false, cond, List, [], ◌∷◌, ◌++◌, reverse, ◌⊎◌}
 use Rattle.lists.specs.Lists.{Each}

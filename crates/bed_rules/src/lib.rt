@@ -3,7 +3,7 @@
 
 use answers::Refusal;
 
-// chromStart, chrom_end and blockCount, or the refusal.
+// chromStart, chromEnd and blockCount, or the refusal.
 #[derive(Drop)]
 pub enum Bed {
     Blocks(u32, u32, u32),

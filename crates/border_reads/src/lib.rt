@@ -90,7 +90,7 @@ pub fn told_overhang(answer: Overhang) -> ToldTwo
     }
 }
 
-// chromStart, chrom_end and blockCount.
+// chromStart, chromEnd and blockCount.
 pub fn told_blocks(answer: Bed) -> ToldBlocks
     ensures { result ≡ blocks_of (tell_bed answer) }
 {

@@ -80,7 +80,7 @@ given_end : Given most_ops Itself false matched matched 1
 unfolding matched matched_taken leading_clips leading is_clip sum_of read_len is_read
 given_end = record { holds = refl; takes = matched_taken; within = lit≤ tt }
 
--- ---- "A clipper that copies its list breaks demand 3's hard_clip floor"
+-- ---- "A clipper that copies its list breaks demand 3's hard-clip floor"
 
 abbrev copies : Clipper Clipped
 copies xs a d = written xs 0 d

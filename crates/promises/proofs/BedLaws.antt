@@ -21,7 +21,7 @@ use Rattle.bed_rules.proofs.AnswerLaws as Answer
 pub blocks_are : (xs : List ℕ) → Each (IsBlock xs) (blocks xs)
 blocks_are xs = Stretches.blocks_are xs
 
--- of an answer, "the first is 0, and the last block ends at chrom_end"
+-- of an answer, "the first is 0, and the last block ends at chromEnd"
 module _ (start : ℤ) (xs d e : List ℕ) (at end n : ℕ) (a : (bed_blocks start xs d e).answer ≡ Blocks at end n) where
   pub first-start : take 1 (starts_of (blocks xs)) ≡ 0 ∷ []
   first-start = Each.first-start xs (Answer.answered start xs d e at end n a).0

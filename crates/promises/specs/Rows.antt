@@ -217,7 +217,7 @@ clip_record_rows b amount start d = short b ∷ clip_into (record_ops b) amount 
 abbrev pub no_room_two : List ℕ → List ℕ → ℕ → Row
 no_room_two d e n = 6 when (ltb (length d) n || ltb (length e) n)
 
--- `bed_blocks`: 4 where chrom_end, the start and the reference length, passes 2^31 - 1
+-- `bed_blocks`: 4 where chromEnd, the start and the reference length, passes 2^31 - 1
 abbrev pub bed_rows : ℤ → List ℕ → List ℕ → List ℕ → List Row
 bed_rows start xs d e = too_many xs ∷ no_blocks start xs ∷ over ((start +ℤ pos (sum_of ref_len xs)) ∷ []) ∷ no_room_two d e (length (blocks xs)) ∷ []
 

@@ -1,4 +1,4 @@
--- The reader's byte by byte account of a text is the specification's grammar, and what it takes is what the specification in_grammar.
+-- The reader's byte by byte account of a text is the specification's grammar, and what it takes is what the specification has in its grammar.
 use Prim.Native.Nat.{ℕ, ◌+◌, ◌-◌, ◌*◌, ◌≤◌, ◌<◌}
 use mathlib.Core.Path.{◌≡◌, refl, sym, ap, ◌∙◌, subst}
 use mathlib.Core.Bool.{Bool, true, false, cond, ◌||◌}
@@ -159,7 +159,7 @@ read (b ∷ s) = ((λ num h e. mid_byte (effect_of num b) num b s h (in_grammar 
 pub sound : (s : List ℕ) → is_row s ≡ true → Spells s (text_ops s) × Each InRange (text_ops s)
 sound s e = (read s).1 e
 
--- ---- the strict reader takes what the specification in_grammar, and answers that list
+-- ---- the strict reader takes what the specification has in its grammar, and answers that list
 
 range_of : (xs : List ℕ) → Each (λ o. 0 < len_of o) xs → Each (λ o. len_of o ≤ 268435455) xs → Each InRange xs
 range_of [] h k = tt

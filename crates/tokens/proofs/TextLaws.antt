@@ -35,7 +35,7 @@ pub at-end : (s : List ℕ) (i num : ℕ) (some : Bool) → length s ≤ i → R
 unfolding row_from ops_from
 at-end s i num some h = let d = done s i h in (rw d, rw d)
 
--- ---- an op, byte by byte: what stands from indexOf `at` on is what is left at i after the number num
+-- ---- an op, byte by byte: what stands from place `at` on is what is left at i after the number num
 
 abbrev pub Reading : List ℕ → ℕ → ℕ → ℕ → Type 0
 Reading s at i num = (row_from 0 false (drop at s) ≡ row_from num (ltb at i) (drop i s)) × (ops_from 0 (drop at s) ≡ ops_from num (drop i s))
