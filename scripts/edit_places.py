@@ -63,7 +63,7 @@ def main():
     for line in open(sys.argv[1], encoding='utf-8', errors='replace'):
         found = SAID.match(line.rstrip('\n'))
         where = found and place(found[1], found[3])
-        if where:
+        if where and where != 'no place':
             path = os.path.join(TOP, 'crates', found[1], 'must-fail', f'{found[2]}.edit')
             with open(path, encoding='utf-8') as file:
                 lines = file.read().split('\n')

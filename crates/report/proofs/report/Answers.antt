@@ -21,7 +21,7 @@ kept : {A : Type 0} (s s₁ r : State) → (s₁.whole ≡ s.whole) × (s₁.fai
 kept s s₁ r same e p h k = p (sym same.0 ∙ sym (ap (λ (q : State). q.whole) e) ∙ h) (sym same.1 ∙ sym (ap (λ (q : State). q.failed) e) ∙ k)
 
 pub shift-requires : goal.shift-requires
-shift-requires g c = (enough g (goal.at.shift-requires g c).Start, c.requires.first.0.within)
+shift-requires g c = let e = enough g (goal.at.shift-requires g c).Start in (omega (arith, e), c.requires.first.0.within)
 
 pub overflow_sub-have : goal.overflow_sub-have
 overflow_sub-have g c = enough g (goal.at.overflow_sub-have g c).Start
