@@ -3,7 +3,7 @@ use Prim.Native.Nat.{ℕ, ◌+◌, ◌-◌, ◌≤◌, ◌<◌}
 use mathlib.Core.Path.{◌≡◌, refl, sym, ap, ◌∙◌}
 use mathlib.Core.Bool.{Bool, true, false, cond}
 use mathlib.Core.Logic.{inl, inr}
-use mathlib.Core.List.{List, [], ◌∷◌, ◌++◌}
+use mathlib.Core.List.{List, [], ◌∷◌, ◌++◌, reverse}
 use native.Mathlib.Omega.{arith}
 use borrow.Author.Tests.{lt-ltb, le-ltb, le-leb}
 use lib.IntN.{ℤ, pos, ◌+ℤ◌}
@@ -65,6 +65,14 @@ module _ (start : Bool) (xs : List ℕ) (p : Plan) where
       let d = length-drop p.skip (facing start xs) in
       let l = length_facing start xs in
       omega arith
+
+-- the ops that are left, from either end
+pub planned_start : (start : Bool) (xs : List ℕ) (p : Plan) → start ≡ true → take p.heads (p.first ∷ (p.second ∷ [])) ++ drop p.skip xs ≡ planned_ops start xs p
+planned_start start xs p e = rw e
+
+pub planned_end : (start : Bool) (xs : List ℕ) (p : Plan) → start ≡ false
+    → reverse (take p.heads (p.first ∷ (p.second ∷ [])) ++ drop p.skip (reverse xs)) ≡ planned_ops start xs p
+planned_end start xs p e = rw e
 
 module _ (xs : List ℕ) (start : Bool) (amount : ℕ) (p : Plan) (P : PlanIs (facing start xs) amount p.skip p.heads p.first p.second p.lost) where
   pub planned_is : planned_ops start xs p ≡ clipped_ops xs amount start

@@ -1,6 +1,6 @@
 -- A ℤ as two naturals, `up z` less `dn z`, so that `omega` can reason about it: each operation on ℤ is one linear fact of the halves, which goes into
 -- omega's list, and `same`, `leℤ`, `ltℤ`, `sfits32` .. turn a fact of the halves back into one of ℤ. Assumes nothing.
-use Rattle.std.proofs.Common.{◌≡◌, ℕ, zero, suc, ◌+◌, ◌-◌, ◌%◌, ◌^◌, ◌<◌, ◌≤◌, Bool, true, false, cond, not, T, ltb, ◌⊎◌, ℤ, pos, negsuc, ◌+ℤ◌, ◌-ℤ◌, neg_ℤ, nat_abs, sym, refl, ap, subst, inl, inr, arith, ltb→lt, nltb→le, w32, w64, SFits, ltb-false, ltb-true, le-ltb, lt-ltb, le-leb, leb-false, leb-true}
+use Rattle.std.proofs.Common.{◌≡◌, ℕ, zero, suc, ◌+◌, ◌-◌, ◌%◌, ◌^◌, ◌<◌, ◌≤◌, Bool, true, false, cond, not, T, ltb, ◌⊎◌, ℤ, pos, negsuc, ◌+ℤ◌, ◌-ℤ◌, neg_ℤ, nat_abs, sym, refl, ap, subst, inl, inr, arith, ltb→lt, nltb→le, w32, w64, Fits, SFits, ltb-false, ltb-true, le-ltb, lt-ltb, le-leb, leb-false, leb-true}
 use lib.IntN.{sub_ℕ}
 use Rattle.signed.specs.Whole.{raised, natural, twos32, twos64, bits32}
 use lib.Signed.{le_z, lt_z}
@@ -169,6 +169,24 @@ pub natural_high : (z : ℤ) → SFits w32 z → 2147483648 ≤ raised z → rai
 unfolding raised
 natural_high (pos n) f h = omega arith
 natural_high (negsuc n) f h = omega arith
+
+-- `natural` as a half
+pub natural_up : (z : ℤ) → natural z ≡ up z
+natural_up (pos n) = refl
+natural_up (negsuc n) = refl
+
+-- `natural` from a test: 0 below 0, else the absolute value, which 64 bits hold
+pub natural_below : (z : ℤ) → lt_z z (pos 0) ≡ true → 0 ≡ natural z
+natural_below (pos n) e = absurd (omega (arith, ltb-true n 0 e))
+natural_below (negsuc n) e = refl
+
+pub natural_abs : (z : ℤ) → lt_z z (pos 0) ≡ false → nat_abs z ≡ natural z
+natural_abs (pos n) e = refl
+natural_abs (negsuc n) e = true_false e
+
+pub fits_abs : (z : ℤ) → SFits w64 z → lt_z z (pos 0) ≡ false → Fits w64 (nat_abs z)
+fits_abs (pos n) f e = record { fits = omega (arith, f.sfits) }
+fits_abs (negsuc n) f e = true_false e
 
 -- the 64 bits from the raised number
 pub bits_raised : (z : ℤ) → SFits w32 z → (raised z + 18446744071562067968) % 2 ^ 64 ≡ twos64 z
