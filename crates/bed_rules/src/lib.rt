@@ -4,14 +4,14 @@
 use answers::Refusal;
 
 // chromStart, chromEnd and blockCount, or the refusal.
-#[derive(Drop)]
+#[derive(Clone, Copy)]
 pub enum Bed {
     Blocks(u32, u32, u32),
     Refused(Refusal),
 }
 
 // How many blocks a list has, and its reference length; or no line can be made of it.
-#[derive(Drop)]
+#[derive(Clone, Copy)]
 pub enum Measured {
     Blocks(usize, u64),
     Nothing,

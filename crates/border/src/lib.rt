@@ -9,7 +9,7 @@ use answers::{Count, Flag, Int, Nat, Refusal};
 
 // A signed number.
 #[repr(C)]
-#[derive(Drop)]
+#[derive(Clone, Copy)]
 pub struct ToldInt {
     pub refusal: u32,
     pub value: i32,
@@ -17,7 +17,7 @@ pub struct ToldInt {
 
 // A number that is never negative: a field, a bin, a count.
 #[repr(C)]
-#[derive(Drop)]
+#[derive(Clone, Copy)]
 pub struct ToldCount {
     pub refusal: u32,
     pub value: u64,
@@ -25,7 +25,7 @@ pub struct ToldCount {
 
 // Yes or no.
 #[repr(C)]
-#[derive(Drop)]
+#[derive(Clone, Copy)]
 pub struct ToldFlag {
     pub refusal: u32,
     pub value: bool,
@@ -33,7 +33,7 @@ pub struct ToldFlag {
 
 // None, or a number that is never negative.
 #[repr(C)]
-#[derive(Drop)]
+#[derive(Clone, Copy)]
 pub struct ToldFound {
     pub refusal: u32,
     pub found: bool,
@@ -42,7 +42,7 @@ pub struct ToldFound {
 
 // What lookup found, and the ops that it examined: in 16 bytes, so that registers hold it.
 #[repr(C)]
-#[derive(Drop)]
+#[derive(Clone, Copy)]
 pub struct ToldLookup {
     pub refusal: u16,
     pub found: bool,
@@ -52,7 +52,7 @@ pub struct ToldLookup {
 
 // A position, or why there is none: which of three answers it is.
 #[repr(C)]
-#[derive(Drop)]
+#[derive(Clone, Copy)]
 pub struct ToldPosition {
     pub refusal: u32,
     pub which: u32,
@@ -61,7 +61,7 @@ pub struct ToldPosition {
 
 // Two numbers that are never negative.
 #[repr(C)]
-#[derive(Drop)]
+#[derive(Clone, Copy)]
 pub struct ToldTwo {
     pub refusal: u32,
     pub first: u64,
@@ -70,7 +70,7 @@ pub struct ToldTwo {
 
 // Reference and query length, and the soft and hard clips at both ends.
 #[repr(C)]
-#[derive(Drop)]
+#[derive(Clone, Copy)]
 pub struct ToldLengths {
     pub refusal: u32,
     pub reference: i32,
@@ -83,7 +83,7 @@ pub struct ToldLengths {
 
 // Where an alignment starts and ends, and how many blocks it has: in 16 bytes, so that registers hold it.
 #[repr(C)]
-#[derive(Drop)]
+#[derive(Clone, Copy)]
 pub struct ToldBlocks {
     pub refusal: u32,
     pub chrom_start: u32,

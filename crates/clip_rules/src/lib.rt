@@ -4,7 +4,7 @@
 use answers::Refusal;
 
 // The ops written and the count, or the refusal.
-#[derive(Drop)]
+#[derive(Clone, Copy)]
 pub enum Clipped {
     Done(u64, u64),
     Refused(Refusal),
@@ -22,7 +22,7 @@ pub struct Plan {
 }
 
 // A plan, or the refusal that comes before it.
-#[derive(Drop)]
+#[derive(Clone, Copy)]
 pub enum Planned {
     Made(Plan),
     Refused(Refusal),

@@ -17,7 +17,7 @@ const SOFT: u32 = 16;
 const HARD: u32 = 32;
 
 // A run of clips: its soft and hard bases, and the place after it.
-#[derive(Drop)]
+#[derive(Clone, Copy)]
 pub struct Run {
     pub soft: u64,
     pub hard: u64,

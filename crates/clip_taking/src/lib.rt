@@ -12,7 +12,7 @@ use oplist::Ops;
 
 // Read bases taken: `next` is the place of the first op that is left whole, and where `cut` is 1,
 // `rest` is what is left of the op before it.
-#[derive(Drop)]
+#[derive(Clone, Copy)]
 pub struct Taking {
     pub next: usize,
     pub bases: u64,

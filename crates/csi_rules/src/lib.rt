@@ -4,7 +4,7 @@
 use answers::Refusal;
 
 // The first and the last place of a region.
-#[derive(Drop)]
+#[derive(Clone, Copy)]
 pub enum Region {
     Over(u64, u64),
     Refused(Refusal),

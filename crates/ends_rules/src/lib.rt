@@ -4,7 +4,7 @@
 use answers::{Pos1, Refusal};
 
 // A record's unclipped 5' position: one of three answers, or the refusal.
-#[derive(Drop)]
+#[derive(Clone, Copy)]
 pub enum Unclipped {
     At(Pos1),
     Unmapped,
@@ -14,7 +14,7 @@ pub enum Unclipped {
 
 // What the walk to the end has met: the reference bases, the S and H since the last reference op, the most that these came to, and whether there was a
 // reference op.
-#[derive(Drop)]
+#[derive(Clone, Copy)]
 pub struct Tail {
     pub refs: u64,
     pub clips: u64,

@@ -19,14 +19,14 @@ pub const REVERSE: u32 = 16;
 pub const MATE_REVERSE: u32 = 32;
 
 // Where the op area of a record lies: its place and its length in bytes, both 0 where it overruns.
-#[derive(Drop)]
+#[derive(Clone, Copy)]
 pub enum Area {
     At(u64, u64),
     Refused(Refusal),
 }
 
 // A part of the record, and the refusal's number: 0, or the number that an empty part stands beside.
-#[derive(Drop)]
+#[derive(Clone, Copy)]
 pub struct Part<'a> {
     pub refusal: u32,
     pub part: &'a [u8],

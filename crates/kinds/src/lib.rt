@@ -8,7 +8,7 @@ ghost use Rattle.kinds.specs.Kinds.{code_of_kind, letter_of_kind, from_op_type, 
 
 use answers::Refusal;
 
-#[derive(Drop)]
+#[derive(Clone, Copy)]
 pub enum CigarKind {
     Match,
     Insertion,
@@ -22,18 +22,18 @@ pub enum CigarKind {
 }
 
 // The kind of a code, or none.
-#[derive(Drop)]
+#[derive(Clone, Copy)]
 pub enum KindFound {
     Kind(CigarKind),
     Nothing,
 }
 
 // An op as a record holds it: its length times 16 plus its code.
-#[derive(Drop)]
+#[derive(Clone, Copy)]
 pub struct CigarOp(u32);
 
 // An op, or refusal 10.
-#[derive(Drop)]
+#[derive(Clone, Copy)]
 pub enum NewOp {
     Op(CigarOp),
     Refused(Refusal),
@@ -143,7 +143,7 @@ impl CigarOp {
 }
 
 // A code's kind and letter.
-#[derive(Drop)]
+#[derive(Clone, Copy)]
 pub struct Lettered {
     pub kind: CigarKind,
     pub letter: u8,

@@ -4,14 +4,14 @@
 use answers::Refusal;
 
 // The soft and hard bases of a run of clips.
-#[derive(Drop)]
+#[derive(Clone, Copy)]
 pub struct Clips {
     pub soft: u64,
     pub hard: u64,
 }
 
 // A record's reference and query length, and the clips at both ends.
-#[derive(Drop)]
+#[derive(Clone, Copy)]
 pub struct RecordLengths {
     pub reference: i32,
     pub query: u64,
@@ -19,7 +19,7 @@ pub struct RecordLengths {
     pub trailing: Clips,
 }
 
-#[derive(Drop)]
+#[derive(Clone, Copy)]
 pub enum Lengths {
     Are(RecordLengths),
     Refused(Refusal),

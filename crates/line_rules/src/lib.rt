@@ -5,7 +5,7 @@ use answers::Refusal;
 use ends_rules::Unclipped;
 
 // What the line has behind the text.
-#[derive(Drop)]
+#[derive(Clone, Copy)]
 pub struct LineRow {
     pub refs: i32,
     pub query: u64,
@@ -14,14 +14,14 @@ pub struct LineRow {
     pub mark: u8,
 }
 
-#[derive(Drop)]
+#[derive(Clone, Copy)]
 pub enum Figures {
     Row(LineRow),
     Refused(Refusal),
 }
 
 // The place behind a text, or why there is none.
-#[derive(Drop)]
+#[derive(Clone, Copy)]
 pub enum Text {
     End(usize),
     Refused(Refusal),

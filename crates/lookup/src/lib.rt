@@ -12,7 +12,7 @@ use lookup_rules::Found;
 use oplist::Ops;
 
 // What stands over a reference base: a query base; none, as the read lacks it; or there is no such reference base.
-#[derive(Drop)]
+#[derive(Clone, Copy)]
 pub enum Over {
     Base,
     Gap,
@@ -20,7 +20,7 @@ pub enum Over {
 }
 
 // That, and the query bases in the columns before it (in all columns, if there is no such reference base); and the place, counted from 1, of the op that decides.
-#[derive(Drop)]
+#[derive(Clone, Copy)]
 pub struct Spot {
     pub before: u64,
     pub over: Over,

@@ -4,7 +4,7 @@
 use answers::Refusal;
 
 // A query position, counted from 1, or none; and how many ops were examined.
-#[derive(Drop)]
+#[derive(Clone, Copy)]
 pub enum Found {
     At(u64, u32),
     Nothing(u32),

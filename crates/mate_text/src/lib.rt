@@ -46,7 +46,7 @@ fn counted(x: u64) -> i32
 }
 
 // The number of the digits since the last letter.
-#[derive(Drop)]
+#[derive(Clone, Copy)]
 pub struct DigitRun(u64);
 
 impl DigitRun {

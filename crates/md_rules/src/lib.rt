@@ -2,7 +2,7 @@
 #![tactic(auto)]
 
 // Where a text stands: a number has to begin; in a number; behind `^`; in the letters behind it; or it is no MD.
-#[derive(Drop)]
+#[derive(Clone, Copy)]
 pub enum Place {
     Wants,
     Number,
@@ -12,14 +12,14 @@ pub enum Place {
 }
 
 // A number of a text, and the place behind it; place 0 where none stands there, or one that is larger than any list of ops.
-#[derive(Drop)]
+#[derive(Clone, Copy)]
 pub struct Figure {
     pub n: u64,
     pub at: usize,
 }
 
 // Where a walk stands: behind a number of the text, of which so many matches are left, with so many ops counted or written.
-#[derive(Drop)]
+#[derive(Clone, Copy)]
 pub struct Spot {
     pub at: usize,
     pub left: u64,
@@ -27,14 +27,14 @@ pub struct Spot {
 }
 
 // Where an op leads the walk, or list and text disagree there.
-#[derive(Drop)]
+#[derive(Clone, Copy)]
 pub enum Step {
     On(Spot),
     Differs,
 }
 
 // How many ops the list comes to, or list and text disagree, or the text is malformed.
-#[derive(Drop)]
+#[derive(Clone, Copy)]
 pub enum Walked {
     Ops(usize),
     Differs,

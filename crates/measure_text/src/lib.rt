@@ -13,14 +13,14 @@ use tokens::Token;
 use validity::Stage;
 
 // The ops so far: their stage, how many they are, and their reference bases, at most 2^31 - 1.
-#[derive(Drop)]
+#[derive(Clone, Copy)]
 pub struct SoFar {
     pub stage: Stage,
     pub n: u64,
     pub refs: u32,
 }
 
-#[derive(Drop)]
+#[derive(Clone, Copy)]
 pub enum Took {
     More(SoFar),
     Stop,

@@ -12,7 +12,7 @@ use answers::{Int, Refusal};
 use oplist::Ops;
 
 // The reference and query bases of an op list.
-#[derive(Drop)]
+#[derive(Clone, Copy)]
 pub struct Totals {
     pub refs: u64,
     pub query: u64,

@@ -12,7 +12,7 @@ pub enum PairPlaces {
 }
 
 // The query bases past the mate, and the ops written.
-#[derive(Drop)]
+#[derive(Clone, Copy)]
 pub enum Overhang {
     Bases(u64, u64),
     Refused(Refusal),

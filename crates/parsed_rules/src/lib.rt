@@ -2,7 +2,7 @@
 #![tactic(auto)]
 
 // Of a valid mapped CIGAR its ops, and its reference bases, at most 2^31 - 1; or that it is none.
-#[derive(Drop)]
+#[derive(Clone, Copy)]
 pub enum Measured {
     Ops(u64, i32),
     Bad,

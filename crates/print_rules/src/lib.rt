@@ -2,7 +2,7 @@
 // How many bytes a text takes, or that a code has no letter.
 #![tactic(auto)]
 
-#[derive(Drop)]
+#[derive(Clone, Copy)]
 pub enum Room {
     Bytes(usize),
     BadCode,

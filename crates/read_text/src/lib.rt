@@ -17,14 +17,14 @@ pub struct Reached {
 }
 
 // Where some ops more end; or that the text is no valid mapped CIGAR.
-#[derive(Drop)]
+#[derive(Clone, Copy)]
 pub enum Reach {
     To(Reached),
     Bad,
 }
 
 // How many ops a valid mapped CIGAR has; or that the text is none.
-#[derive(Drop)]
+#[derive(Clone, Copy)]
 pub enum Counted {
     Ops(usize),
     Bad,

@@ -4,7 +4,7 @@
 use answers::Refusal;
 
 // The parts of a record, in the order in which they are compared.
-#[derive(Drop)]
+#[derive(Clone, Copy)]
 pub enum Part {
     Header,
     Name,
@@ -15,7 +15,7 @@ pub enum Part {
 }
 
 // Accepted, or the first part that differs, or the refusal.
-#[derive(Drop)]
+#[derive(Clone, Copy)]
 pub enum Received {
     Accepted,
     Differs(Part),

@@ -17,7 +17,7 @@ pub struct RecordPlan {
 }
 
 // A plan, or the refusal that comes before anything is written.
-#[derive(Drop)]
+#[derive(Clone, Copy)]
 pub enum PlannedRecord {
     Made(RecordPlan),
     Refused(Refusal),

@@ -6,7 +6,7 @@ ghost use Rattle.signed.specs.Equal.{eqℤ};
 ghost use Rattle.signed.specs.Whole.{twos32, twos64, bits32, raised, natural, side_of, checked, clamp32};
 
 // Where a number lies: below the range of an i32, within it, or above it.
-#[derive(Drop)]
+#[derive(Clone, Copy)]
 pub enum Side {
     Below,
     Within(i32),
@@ -14,7 +14,7 @@ pub enum Side {
 }
 
 // A number of an i32, or none.
-#[derive(Drop)]
+#[derive(Clone, Copy)]
 pub enum Sum {
     Number(i32),
     Over,

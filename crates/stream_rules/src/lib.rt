@@ -12,7 +12,7 @@ pub enum NextFrame {
 }
 
 // How far a block of input went: the bytes used, the records in all, the bytes of output, and what comes next.
-#[derive(Drop)]
+#[derive(Clone, Copy)]
 pub struct Block {
     pub used: usize,
     pub records: u64,

@@ -4,7 +4,7 @@
 use answers::Refusal;
 
 // The place of the list in the record, and the number of its ops.
-#[derive(Drop)]
+#[derive(Clone, Copy)]
 pub enum TrueList {
     At(usize, u32),
     Refused(Refusal),

@@ -6,7 +6,7 @@ ghost use Rattle.sam.specs.Text.{is_digit};
 ghost use Rattle.tokens.specs.InnerToken.{TokenAt, ShortAt};
 
 // An op of a text: its length, its code, and the place after its letter.
-#[derive(Drop)]
+#[derive(Clone, Copy)]
 pub enum Token {
     Op(u32, u32, usize),
     Bad,

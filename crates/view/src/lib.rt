@@ -17,7 +17,7 @@ use ends_rules::Unclipped;
 use fields::Part;
 use length_rules::Lengths;
 
-#[derive(Drop)]
+#[derive(Clone, Copy)]
 pub struct RawRecordView<'a>(&'a [u8]);
 
 impl<'a> RawRecordView<'a> {
