@@ -1,13 +1,11 @@
 -- Document 01, "Numbers and their bounds", and document 02: the number of each refusal; and of each answer its number, 0 for a value, and its values.
 use Rattle.std.specs.Prelude.{ℕ, Bool, cond, List, [], ◌∷◌, ℤ, pos}
+use Rattle.std.specs.Prelude.{Err, None, Ok, Option, Some}
+use Rattle.answers.specs.Answer.{Answer}
+use Rattle.answers.specs.declared.Pos0.{Pos0}
+use Rattle.answers.specs.declared.Pos1.{Pos1}
 use Rattle.answers.specs.declared.Refusal.{Refusal}
 use Rattle.answers.specs.declared.Refusal.TheVariants.{ShortRecord, AreaOverrun, TooManyOps, Overflow, NotACigar, NoRoom, BadCode, TooLong, BadStart, BadLength, AmountBeyond, BadLevels, BadRegion, NoBlocks, QueryDiffers, CountOver, BadTags, OtherCg, BadMd, MatchesTold, MdDisagrees, ReceivedShort, ReceivedCut}
-use Rattle.answers.specs.declared.Int.{Int}
-use Rattle.answers.specs.declared.Nat.{Nat}
-use Rattle.answers.specs.declared.Count.{Count}
-use Rattle.answers.specs.declared.Flag.{Flag}
-use Rattle.answers.specs.declared.Place0.{Place0}
-use Rattle.answers.specs.declared.Place1.{Place1}
 
 abbrev pub number_of : Refusal → ℕ
 number_of ShortRecord = 1
@@ -56,32 +54,32 @@ none = pos 0 ∷ pos 0 ∷ []
 abbrev pub some : ℤ → List ℤ
 some z = pos 1 ∷ z ∷ []
 
-abbrev pub tell_int : Int → Told
-tell_int (Int.Number z) = answered (z ∷ [])
-tell_int (Int.Refused r) = refused r
+abbrev pub tell_int : Answer ℤ → Told
+tell_int (Ok z) = answered (z ∷ [])
+tell_int (Err r) = refused r
 
-abbrev pub tell_nat : Nat → Told
-tell_nat (Nat.Number n) = answered (pos n ∷ [])
-tell_nat (Nat.Refused r) = refused r
+abbrev pub tell_nat : Answer ℕ → Told
+tell_nat (Ok n) = answered (pos n ∷ [])
+tell_nat (Err r) = refused r
 
-abbrev pub tell_count : Count → Told
-tell_count (Count.Number n) = answered (pos n ∷ [])
-tell_count (Count.Refused r) = refused r
+abbrev pub tell_count : Answer ℕ → Told
+tell_count (Ok n) = answered (pos n ∷ [])
+tell_count (Err r) = refused r
 
-abbrev pub tell_flag : Flag → Told
-tell_flag (Flag.Is b) = answered (flag_value b ∷ [])
-tell_flag (Flag.Refused r) = refused r
+abbrev pub tell_flag : Answer Bool → Told
+tell_flag (Ok b) = answered (flag_value b ∷ [])
+tell_flag (Err r) = refused r
 
 -- a place that its call always finds is told as a plain number
-abbrev pub bare0 : Place0 → Int
-bare0 (Place0.At p) = Int.Number p.0
-bare0 (Place0.Refused r) = Int.Refused r
+abbrev pub bare0 : Answer Pos0 → Answer ℤ
+bare0 (Ok p) = Ok p.0
+bare0 (Err r) = Err r
 
-abbrev pub tell_place0 : Place0 → Told
+abbrev pub tell_place0 : Answer Pos0 → Told
 tell_place0 p = tell_int (bare0 p)
 
 -- a place that may be none
-abbrev pub tell_place1 : Place1 → Told
-tell_place1 (Place1.At p) = answered (some p.0)
-tell_place1 Place1.Nothing = answered none
-tell_place1 (Place1.Refused r) = refused r
+abbrev pub tell_place1 : Answer (Option Pos1) → Told
+tell_place1 (Ok (Some p)) = answered (some p.0)
+tell_place1 (Ok None) = answered none
+tell_place1 (Err r) = refused r

@@ -4,6 +4,9 @@
 ghost use Rattle.std.specs.Prelude.{◌≡◌};
 ghost use Rattle.answers.specs.Answers.{number_of, bare0};
 
+// What a call answers: a value, or why there is none.
+pub type Answer<T> = Result<T, Refusal>;
+
 // Why a call answers no value: one variant for each number, in their order; 11 is nobody's.
 #[derive(Clone, Copy)]
 pub enum Refusal {
@@ -32,34 +35,6 @@ pub enum Refusal {
     ReceivedCut,
 }
 
-// A signed number.
-#[derive(Clone, Copy)]
-pub enum Int {
-    Number(i32),
-    Refused(Refusal),
-}
-
-// A field of a record, or a bin.
-#[derive(Clone, Copy)]
-pub enum Nat {
-    Number(u32),
-    Refused(Refusal),
-}
-
-// A count, or a sum.
-#[derive(Clone, Copy)]
-pub enum Count {
-    Number(u64),
-    Refused(Refusal),
-}
-
-// Yes or no.
-#[derive(Clone, Copy)]
-pub enum Flag {
-    Is(bool),
-    Refused(Refusal),
-}
-
 // A position in a record, counted from 0.
 #[derive(Clone, Copy)]
 pub struct Pos0(pub i32);
@@ -67,21 +42,6 @@ pub struct Pos0(pub i32);
 // A position as answers have it, counted from 1.
 #[derive(Clone, Copy)]
 pub struct Pos1(pub i32);
-
-// A position, counted from 0.
-#[derive(Clone, Copy)]
-pub enum Place0 {
-    At(Pos0),
-    Refused(Refusal),
-}
-
-// A position, counted from 1, or none.
-#[derive(Clone, Copy)]
-pub enum Place1 {
-    At(Pos1),
-    Nothing,
-    Refused(Refusal),
-}
 
 // The number of a refusal: document 01's up to 10, and document 02's in documents 01 and 02.
 pub fn number(why: Refusal) -> u32
@@ -115,11 +75,11 @@ pub fn number(why: Refusal) -> u32
 }
 
 // A place as a plain number.
-pub fn bare0(place: Place0) -> Int
+pub fn bare0(place: Answer<Pos0>) -> Answer<i32>
     ensures { result ≡ bare0 place }
 {
     match place {
-        Place0::At(p) => Int::Number(p.0),
-        Place0::Refused(why) => Int::Refused(why),
+        Ok(p) => Ok(p.0),
+        Err(why) => Err(why),
     }
 }

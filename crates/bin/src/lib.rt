@@ -5,10 +5,8 @@ ghost use Rattle.std.specs.Prelude.{◌≡◌, ◌<◌, pos, ◌+ℤ◌};
 ghost use Rattle.answers.specs.Settled.{Settled};
 ghost use Rattle.signed.specs.Equal.{eqℤ};
 ghost use Rattle.bin_rules.specs.Bin.{shr, bin_of, low16, reg2bin, span_of, bin_from, record_bin, set_bin};
-ghost use Rattle.answers.specs.declared.Int.TheVariants.{Number};
 
-use answers::{Int, Nat, Pos0, Refusal};
-use signed::Sum;
+use answers::{Answer, Pos0, Refusal};
 
 // The bin of a record that has no position, `reg2bin(-1, 0)`.
 pub const UNMAPPED_BIN: u32 = 4680;
@@ -66,12 +64,12 @@ fn bin_of(beg: i32, last: i32) -> u32
 }
 
 // The bin of the region from beg to before end. Refusal 4.
-pub fn reg2bin(beg: Pos0, end: i32) -> Nat
+pub fn reg2bin(beg: Pos0, end: i32) -> Answer<u32>
     ensures { result ≡ reg2bin beg.0 end }
 {
     match signed::checked_sub(end, 1) {
-        Sum::Number(last) => Nat::Number(bin_of(beg.0, last)),
-        Sum::Over => Nat::Refused(Refusal::Overflow),
+        Some(last) => Ok(bin_of(beg.0, last)),
+        None => Err(Refusal::Overflow),
     }
 }
 
@@ -83,45 +81,45 @@ fn span_of(n: i32) -> i32
 }
 
 // The bin of a region of n bases, at least 1. Refusal 4.
-pub fn bin_from(beg: Pos0, n: i32) -> Nat
-    ensures { result ≡ bin_from beg.0 (Number n) }
+pub fn bin_from(beg: Pos0, n: i32) -> Answer<u32>
+    ensures { result ≡ bin_from beg.0 (Ok n) }
 {
     match signed::checked_add(beg.0, span_of(n)) {
-        Sum::Number(end) => reg2bin(beg, end),
-        Sum::Over => Nat::Refused(Refusal::Overflow),
+        Some(end) => reg2bin(beg, end),
+        None => Err(Refusal::Overflow),
     }
 }
 
 // A record's bin. Refusals 1, 2 and 4.
-pub fn bin_from_raw_bam(bam: &[u8]) -> Nat
+pub fn bin_from_raw_bam(bam: &[u8]) -> Answer<u32>
     ensures { result ≡ record_bin bam.now }
 {
     if bam.len() < 32 {
-        return Nat::Refused(Refusal::ShortRecord);
+        return Err(Refusal::ShortRecord);
     }
     let start = fields::own_place(bam);
     if start.0 < 0 {
-        return Nat::Number(UNMAPPED_BIN);
+        return Ok(UNMAPPED_BIN);
     }
     match lengths::reference_length_from_raw_bam(bam) {
-        Int::Number(n) => bin_from(start, n),
-        Int::Refused(why) => Nat::Refused(why),
+        Ok(n) => bin_from(start, n),
+        Err(why) => Err(why),
     }
 }
 
 // Writes a record's bin to its bytes 10 and 11, and answers it. Refusals 1, 2 and 4.
-pub fn set_bin_from_raw_bam(bam: &mut [u8]) -> Nat
+pub fn set_bin_from_raw_bam(bam: &mut [u8]) -> Answer<u32>
     ensures { Settled (set_bin bam.old) result bam.new }
 {
     if bam.len() < 32 {
-        return Nat::Refused(Refusal::ShortRecord);
+        return Err(Refusal::ShortRecord);
     }
     match bin_from_raw_bam(bam) {
-        Nat::Number(n) => {
+        Ok(n) => {
             bam[10] = (n % 256) as u8;
             bam[11] = (n / 256 % 256) as u8;
-            Nat::Number(n)
+            Ok(n)
         }
-        Nat::Refused(r) => Nat::Refused(r),
+        Err(r) => Err(r),
     }
 }

@@ -1,5 +1,6 @@
 -- On 0 ≤ beg < end ≤ 2^29 the answer of `reg2bin` is the smallest bin that holds the region: the case 14 and 5 of `sam`'s law over min_shift and depth.
 use Prim.Native.Nat.{ℕ, zero, suc, ◌+◌, ◌-◌, ◌/◌, ◌%◌, ◌≤◌, ◌<◌, ◌^◌}
+use Rattle.std.specs.Prelude.{Ok}
 use mathlib.Core.Path.{◌≡◌, refl, sym, ap, ◌∙◌, subst}
 use mathlib.Core.Bool.{Bool, true, false, cond}
 use mathlib.Core.List.{List, [], ◌∷◌}
@@ -8,7 +9,6 @@ use lib.Dec.{eqb}
 use lib.IntN.{pos, ◌-ℤ◌}
 use Rattle.signed.proofs.Halves.{minus, same}
 use Rattle.signed.proofs.Ranges.{checked_in}
-use Rattle.answers.specs.declared.Nat.TheVariants.{Number}
 use Rattle.signed.specs.Equal.{eqℤ}
 use Rattle.bin_rules.specs.Bin.{Shift, shifts, low16, first_agreed, bin_of, bin_to, reg2bin}
 use Rattle.sam.specs.Bins.{first_of, SmallestBin, bin_up}
@@ -46,7 +46,7 @@ module _ (beg end : ℕ) (h : beg < end) (g : end ≤ 536870912) where
   pub smallest : SmallestBin 14 5 beg end (low16 (bin_of (pos beg) (pos (end - 1))))
   smallest = subst (λ (n : ℕ). SmallestBin 14 5 beg end n) (sym kept) (Bins.smallest 14 5 beg end h g)
 
-  pub answered : reg2bin (pos beg) (pos end) ≡ Number (low16 (bin_of (pos beg) (pos (end - 1))))
+  pub answered : reg2bin (pos beg) (pos end) ≡ Ok (low16 (bin_of (pos beg) (pos (end - 1))))
   unfolding reg2bin bin_to
   answered =
       let d = minus (pos end) (pos 1) in
@@ -54,5 +54,5 @@ module _ (beg end : ℕ) (h : beg < end) (g : end ≤ 536870912) where
       simp (e, checked_in (pos (end - 1)) (omega arith) (omega arith))
 
   -- so it answers the rule's bin
-  pub by_levels : reg2bin (pos beg) (pos end) ≡ Number (bin_up 5 14 beg (end - 1))
-  by_levels = answered ∙ ap Number kept
+  pub by_levels : reg2bin (pos beg) (pos end) ≡ Ok (bin_up 5 14 beg (end - 1))
+  by_levels = answered ∙ ap Ok kept

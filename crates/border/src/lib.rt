@@ -5,7 +5,7 @@ ghost use Rattle.std.specs.Prelude.{◌≡◌, [], ◌∷◌, pos};
 ghost use Rattle.answers.specs.Answers.{number_of, answered, refused, none, some, tell_int, tell_nat, tell_count, tell_flag};
 ghost use Rattle.border.specs.Border.{int_of, count_of, flag_of, found_of, two_of, flagged};
 
-use answers::{Count, Flag, Int, Nat, Refusal};
+use answers::{Answer, Refusal};
 
 // A signed number.
 #[repr(C)]
@@ -105,54 +105,54 @@ pub fn short_number(why: Refusal) -> u16
     answers::number(why) as u16
 }
 
-pub fn told_int(answer: Int) -> ToldInt
+pub fn told_int(answer: Answer<i32>) -> ToldInt
     ensures { result ≡ int_of (tell_int answer) }
 {
     match answer {
-        Int::Number(n) => ToldInt {
+        Ok(n) => ToldInt {
             refusal: 0,
             value: n,
         },
-        Int::Refused(why) => ToldInt {
+        Err(why) => ToldInt {
             refusal: answers::number(why),
             value: 0,
         },
     }
 }
 
-pub fn told_count(answer: Count) -> ToldCount
+pub fn told_count(answer: Answer<u64>) -> ToldCount
     ensures { result ≡ count_of (tell_count answer) }
 {
     match answer {
-        Count::Number(n) => ToldCount {
+        Ok(n) => ToldCount {
             refusal: 0,
             value: n,
         },
-        Count::Refused(why) => ToldCount {
+        Err(why) => ToldCount {
             refusal: answers::number(why),
             value: 0,
         },
     }
 }
 
-pub fn told_nat(answer: Nat) -> ToldCount
+pub fn told_nat(answer: Answer<u32>) -> ToldCount
     ensures { result ≡ count_of (tell_nat answer) }
 {
     match answer {
-        Nat::Number(n) => told_count(Count::Number(n as u64)),
-        Nat::Refused(why) => told_count(Count::Refused(why)),
+        Ok(n) => told_count(Ok(n as u64)),
+        Err(why) => told_count(Err(why)),
     }
 }
 
-pub fn told_flag(answer: Flag) -> ToldFlag
+pub fn told_flag(answer: Answer<bool>) -> ToldFlag
     ensures { result ≡ flag_of (tell_flag answer) }
 {
     match answer {
-        Flag::Is(yes) => ToldFlag {
+        Ok(yes) => ToldFlag {
             refusal: 0,
             value: yes,
         },
-        Flag::Refused(why) => ToldFlag {
+        Err(why) => ToldFlag {
             refusal: answers::number(why),
             value: false,
         },

@@ -5,15 +5,16 @@ ghost use Rattle.std.specs.Prelude.{◌≡◌};
 ghost use Rattle.length_rules.specs.Lengths.{tell_lengths};
 ghost use Rattle.border.specs.Border.{lengths_of};
 
+use answers::Answer;
 use border::ToldLengths;
-use length_rules::Lengths;
+use length_rules::RecordLengths;
 
 // Reference and query length, and the clips at both ends.
-pub fn told_lengths(answer: Lengths) -> ToldLengths
+pub fn told_lengths(answer: Answer<RecordLengths>) -> ToldLengths
     ensures { result ≡ lengths_of (tell_lengths answer) }
 {
     match answer {
-        Lengths::Are(l) => {
+        Ok(l) => {
             let leading = l.leading;
             let trailing = l.trailing;
             ToldLengths {
@@ -26,7 +27,7 @@ pub fn told_lengths(answer: Lengths) -> ToldLengths
                 trailing_hard: trailing.hard,
             }
         },
-        Lengths::Refused(why) => ToldLengths {
+        Err(why) => ToldLengths {
             refusal: answers::number(why),
             reference: 0,
             query: 0,

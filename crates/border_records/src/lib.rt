@@ -5,7 +5,6 @@ ghost use Rattle.std.specs.Prelude.{◌≡◌};
 ghost use Rattle.receive_rules.specs.Receiving.{part_number, tell_received};
 ghost use Rattle.border.specs.Border.{count_of};
 
-use answers::Count;
 use border::ToldCount;
 use receive_rules::{Part, Received};
 
@@ -28,8 +27,8 @@ pub fn told_received(answer: Received) -> ToldCount
     ensures { result ≡ count_of (tell_received answer) }
 {
     match answer {
-        Received::Accepted => border::told_count(Count::Number(0)),
-        Received::Differs(part) => border::told_count(Count::Number(part_number(part))),
-        Received::Refused(why) => border::told_count(Count::Refused(why)),
+        Received::Accepted => border::told_count(Ok(0)),
+        Received::Differs(part) => border::told_count(Ok(part_number(part))),
+        Received::Refused(why) => border::told_count(Err(why)),
     }
 }

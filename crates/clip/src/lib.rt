@@ -6,7 +6,7 @@ ghost use Rattle.oplist.specs.Ops.{ops_of};
 ghost use Rattle.answers.specs.Settled.{Settled};
 ghost use Rattle.clip_rules.specs.Answer.{clipped_up_to, uncounted, without_count, start_up_to, end_up_to, clipped_start, clipped_end, long_start, long_end, record_start, record_end};
 
-use answers::{Count, Refusal};
+use answers::{Answer, Refusal};
 use clip_rules::Clipped;
 use oplist::Ops;
 
@@ -18,7 +18,7 @@ pub fn clip_cigar_start_raw(ops: &[u32], amount: u64, out: &mut [u32]) -> Clippe
 }
 
 // The same at the end: the ops written. Refusals 3, 8, 19, 6.
-pub fn clip_cigar_end_raw(ops: &[u32], amount: u64, out: &mut [u32]) -> Count
+pub fn clip_cigar_end_raw(ops: &[u32], amount: u64, out: &mut [u32]) -> Answer<u64>
     ensures { Settled (clipped_end ops.now amount out.old) result out.new }
 {
     end_up_to(oplist::MOST_OPS, ops, amount, out)
@@ -32,7 +32,7 @@ pub fn long_clip_cigar_start_raw(ops: &[u32], amount: u64, out: &mut [u32]) -> C
 }
 
 // and at the end. Refusals 3, 8, 19, 6.
-pub fn long_clip_cigar_end_raw(ops: &[u32], amount: u64, out: &mut [u32]) -> Count
+pub fn long_clip_cigar_end_raw(ops: &[u32], amount: u64, out: &mut [u32]) -> Answer<u64>
     ensures { Settled (long_end ops.now amount out.old) result out.new }
 {
     end_up_to(oplist::MOST_LONG_OPS, ops, amount, out)
@@ -51,12 +51,12 @@ fn start_up_to(limit: usize, ops: &[u32], amount: u64, out: &mut [u32]) -> Clipp
 }
 
 // The same at the end.
-fn end_up_to(limit: usize, ops: &[u32], amount: u64, out: &mut [u32]) -> Count
+fn end_up_to(limit: usize, ops: &[u32], amount: u64, out: &mut [u32]) -> Answer<u64>
     requires { limit ≤ 4294967295 }
     ensures { Settled (end_up_to limit ops.now amount out.old) result out.new }
 {
     if limit < ops.len() {
-        return Count::Refused(Refusal::TooManyOps);
+        return Err(Refusal::TooManyOps);
     }
     let list = oplist::lent(ops);
     clip_end(ops, &[], list, limit, amount, out)
@@ -75,11 +75,11 @@ pub fn clip_cigar_start(bam: &[u8], amount: u64, out: &mut [u32]) -> Clipped
 }
 
 // The same at the end. Refusals 1, 8, 19, 6.
-pub fn clip_cigar_end(bam: &[u8], amount: u64, out: &mut [u32]) -> Count
+pub fn clip_cigar_end(bam: &[u8], amount: u64, out: &mut [u32]) -> Answer<u64>
     ensures { Settled (record_end bam.now amount out.old) result out.new }
 {
     if bam.len() < 32 {
-        return Count::Refused(Refusal::ShortRecord);
+        return Err(Refusal::ShortRecord);
     }
     let list = oplist::of_record(bam);
     let limit = oplist::count(&[], bam, list);
@@ -108,18 +108,18 @@ pub fn clip_end(
     limit: usize,
     amount: u64,
     out: &mut [u32],
-) -> Count
+) -> Answer<u64>
     ensures { Settled (without_count (clipped_up_to limit (ops_of words.now rec.now list) amount false out.old)) result out.new }
 {
     without_count(clip_write::clip_ops(words, rec, list, limit, amount, false, out))
 }
 
 // An answer without its count.
-fn without_count(answer: Clipped) -> Count
+fn without_count(answer: Clipped) -> Answer<u64>
     ensures { result ≡ uncounted answer }
 {
     match answer {
-        Clipped::Done(n, _) => Count::Number(n),
-        Clipped::Refused(why) => Count::Refused(why),
+        Clipped::Done(n, _) => Ok(n),
+        Clipped::Refused(why) => Err(why),
     }
 }

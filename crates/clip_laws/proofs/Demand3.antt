@@ -1,6 +1,8 @@
 -- Demand 3: the facing list's laws carried to both ends, for every call that clips by the rule; no call is refused, since a clip adds at most one op and no length, and what
 -- could be clipped still can.
 use mathlib.Core.Path.{◌≡◌, refl, sym, subst, ap, ◌∙◌}
+use Rattle.std.specs.Prelude.{Ok}
+use Rattle.answers.specs.Answer.{Answer}
 use mathlib.Core.Bool.{Bool, true, false, ◌||◌}
 use mathlib.Core.List.{List, [], ◌∷◌, ◌++◌, reverse, reverse-cons}
 use Prim.Native.Nat.{ℕ, ◌+◌, ◌-◌, ◌^◌, ◌≤◌, ◌<◌}
@@ -17,8 +19,6 @@ use Rattle.ops.specs.Ops.{read_len}
 use Rattle.clip_run_rules.specs.Clips.{outer_hard, leading_clips}
 use Rattle.clip_rules.specs.Clipping.{taking, Cut, hard_of, soft_of, clip}
 use Rattle.answers.specs.Settled.{Outcome}
-use Rattle.answers.specs.declared.Count.{Count}
-use Rattle.answers.specs.declared.Count.TheVariants.{Number}
 use Rattle.clip_rules.specs.Answer.{clipped_ops, clipped_count, clippable, is_beyond, clipped_into, clipped_up_to, clipped_record, written, without_count, start_up_to, end_up_to, record_start, record_end}
 use Rattle.clip_rules.specs.declared.Clipped.{Clipped}
 use Rattle.clip_rules.specs.declared.Clipped.TheVariants.{Done}
@@ -239,7 +239,7 @@ same_start f s a xs ys m n X Y =
     let q : m ≡ n = cc in
     (same_list f s a xs ys X Y p, q)
 
-pub same_end : (f : Clipper Count) (s : List ℕ) (a : ℕ) (xs ys : List ℕ) → EndGives f s a xs → EndGives f s a ys → xs ≡ ys
+pub same_end : (f : Clipper (Answer ℕ)) (s : List ℕ) (a : ℕ) (xs ys : List ℕ) → EndGives f s a xs → EndGives f s a ys → xs ≡ ys
 same_end f s a xs ys X Y =
     let e = same_answer f s a xs ys X Y in
     let p : length xs ≡ length ys = cc in
@@ -280,14 +280,14 @@ less a b le G = record { holds = G.holds; takes = G.takes; within = omega (arith
 abbrev start_tells : ℕ → ℕ → Clipped
 start_tells n count = Done n count
 
-abbrev end_tells : ℕ → ℕ → Count
-end_tells n count = Number n
+abbrev end_tells : ℕ → ℕ → Answer ℕ
+end_tells n count = Ok n
 
 -- the rules of a call at the start, and at the end
 abbrev pub StartRules : ℕ → (List ℕ → List ℕ → Type 0) → Clipper Clipped → Type 0
 StartRules limit Holds f = Rules start_tells limit Holds true f
 
-abbrev pub EndRules : ℕ → (List ℕ → List ℕ → Type 0) → Clipper Count → Type 0
+abbrev pub EndRules : ℕ → (List ℕ → List ℕ → Type 0) → Clipper (Answer ℕ) → Type 0
 EndRules limit Holds f = Rules end_tells limit Holds false f
 
 pub start_then : (limit : ℕ) (Holds : List ℕ → List ℕ → Type 0) (f : Clipper Clipped) → StartRules limit Holds f
@@ -316,15 +316,15 @@ start_demand3 limit Holds f rules = record { once = once_is; twice = start_then 
           lost = lost_is xs a true;
         }
 
-pub end_then : (limit : ℕ) (Holds : List ℕ → List ℕ → Type 0) (f : Clipper Count) → EndRules limit Holds f
-    → (Left : List ℕ → List ℕ → Type 0) (g : Clipper Count) → EndRules limit Left g → EndThen limit Holds f Left g
+pub end_then : (limit : ℕ) (Holds : List ℕ → List ℕ → Type 0) (f : Clipper (Answer ℕ)) → EndRules limit Holds f
+    → (Left : List ℕ → List ℕ → Type 0) (g : Clipper (Answer ℕ)) → EndRules limit Left g → EndThen limit Holds f Left g
 end_then limit Holds f rules Left g then-rules s xs a b G ys A zs B F t K =
     let p = same_end f s a ys (clipped_ops xs a false) A (by-rule end_tells limit Holds false f rules xs s a (less a b F.le G)) in
     let q = same_end f s b zs (clipped_ops xs b false) B (by-rule end_tells limit Holds false f rules xs s b G) in
     let C = then_rule end_tells limit Left false g then-rules xs a b G.takes G.within (subst (Further false xs a b) p F) t (subst (Left t) p K) in
     rw (← q) at C
 
-pub end_demand3 : (limit : ℕ) (Holds : List ℕ → List ℕ → Type 0) (f : Clipper Count) → EndRules limit Holds f → Demand3End limit Holds f
+pub end_demand3 : (limit : ℕ) (Holds : List ℕ → List ℕ → Type 0) (f : Clipper (Answer ℕ)) → EndRules limit Holds f → Demand3End limit Holds f
 end_demand3 limit Holds f rules = record { once = once_is; twice = end_then limit Holds f rules Holds f rules }
   where
     once_is : (s xs : List ℕ) (a : ℕ) → Given limit Holds false s xs a → EndOnce f s xs a

@@ -1,6 +1,8 @@
 -- Demand 3 has teeth: four clippers that document 01 names don't meet it at the start, nor does one that copies at the end, each shown by a list of one or two ops.
 -- antt computes what they leave.
 use mathlib.Core.Path.{◌≡◌, refl, sym, ap, ◌∙◌}
+use Rattle.std.specs.Prelude.{Ok}
+use Rattle.answers.specs.Answer.{Answer}
 use mathlib.Core.Bool.{true, false, cond}
 use mathlib.Core.List.{List, [], ◌∷◌}
 use Prim.Native.Nat.{ℕ, zero, suc, ◌≤◌}
@@ -18,8 +20,6 @@ use Rattle.oplist.specs.Ops.{most_ops}
 use Rattle.clip_rules.specs.Clipping.{goes, ends, taking, soft_of, upgraded, cut_into, clip}
 use Rattle.clip_rules.specs.Answer.{clipped_ops, clipped_up_to, written}
 use Rattle.clip_rules.specs.declared.Clipped.{Clipped}
-use Rattle.answers.specs.declared.Count.{Count}
-use Rattle.answers.specs.declared.Count.TheVariants.{Number}
 use Rattle.clip_laws.specs.Demand3.{is_inner, Takes, most, Clipper, Given, Demand3Start, Demand3End, Itself}
 use Rattle.clip_laws.proofs.Demand3.{take_written, same_start, same_end}
 
@@ -94,8 +94,8 @@ copier D =
     let f = ap outer_hard e.0 in
     omega (arith, O.clips.floor)
 
-abbrev copies_end : Clipper Count
-copies_end xs a d = record { answer = Number (length xs); left = splice d 0 xs }
+abbrev copies_end : Clipper (Answer ℕ)
+copies_end xs a d = record { answer = Ok (length xs); left = splice d 0 xs }
 
 pub end_copier : Demand3End most_ops Itself copies_end → ⊥
 unfolding matched outer_hard leading sum_of

@@ -1,14 +1,14 @@
 -- Demand 3, of any clipper at one end: the lists that it takes, what one call promises, and what two calls promise; once for a call that clips at the start, and once for one
 -- that clips at the end (document 02, item 12: "Demand 3 reads once for each call, adding counts at the start only").
 use Rattle.std.specs.Prelude.{ℕ, ◌+◌, ◌^◌, ◌≤◌, ◌<◌, ◌≡◌, Bool, true, false, ◌||◌, List, [], ◌∷◌, ◌++◌, length, get_or}
+use Rattle.std.specs.Prelude.{Ok}
+use Rattle.answers.specs.Answer.{Answer}
 use Rattle.lists.specs.Lists.{Each, facing, splice, sum_of}
 use Rattle.sam.specs.Op.{len_of, code_of, ref_len, query_len}
 use Rattle.oplist.specs.Ops.{record_ops}
 use Rattle.ops.specs.Ops.{read_len}
 use Rattle.clip_run_rules.specs.Clips.{is_hard, is_soft, hard_len, outer_hard, inside, leading_clips}
 use Rattle.answers.specs.Settled.{Outcome}
-use Rattle.answers.specs.declared.Count.{Count}
-use Rattle.answers.specs.declared.Count.TheVariants.{Number}
 use Rattle.clip_rules.specs.declared.Clipped.{Clipped}
 use Rattle.clip_rules.specs.declared.Clipped.TheVariants.{Done}
 
@@ -79,8 +79,8 @@ Leaves f s amount answer ys = (d : List ℕ) → length ys ≤ length d → f s 
 abbrev pub StartGives : Clipper Clipped → List ℕ → ℕ → List ℕ → ℕ → Type 0
 StartGives f s amount ys count = Leaves f s amount (Done (length ys) count) ys
 
-abbrev pub EndGives : Clipper Count → List ℕ → ℕ → List ℕ → Type 0
-EndGives f s amount ys = Leaves f s amount (Number (length ys)) ys
+abbrev pub EndGives : Clipper (Answer ℕ) → List ℕ → ℕ → List ℕ → Type 0
+EndGives f s amount ys = Leaves f s amount (Ok (length ys)) ys
 
 -- ---- what both say
 
@@ -140,13 +140,13 @@ pub record Demand3Start (limit : ℕ) (Holds : List ℕ → List ℕ → Type 0)
 
 -- ---- DEMAND 3 at the end
 
-pub record EndOnce (f : Clipper Count) (s xs : List ℕ) (a : ℕ) : Type 0 where
+pub record EndOnce (f : Clipper (Answer ℕ)) (s xs : List ℕ) (a : ℕ) : Type 0 where
   pub ys : List ℕ
   pub gives : EndGives f s a ys
   pub clips : Clips false xs a ys
 
 -- "a then b gives b's list"
-abbrev pub EndThen : ℕ → (List ℕ → List ℕ → Type 0) → Clipper Count → (List ℕ → List ℕ → Type 0) → Clipper Count → Type 0
+abbrev pub EndThen : ℕ → (List ℕ → List ℕ → Type 0) → Clipper (Answer ℕ) → (List ℕ → List ℕ → Type 0) → Clipper (Answer ℕ) → Type 0
 EndThen limit Holds f Left g =
     (s xs : List ℕ) (a b : ℕ) → Given limit Holds false s xs b
     → (ys : List ℕ) → EndGives f s a ys
@@ -154,7 +154,7 @@ EndThen limit Holds f Left g =
     → Further false xs a b ys
     → (t : List ℕ) → Left t ys → EndGives g t b zs
 
-pub record Demand3End (limit : ℕ) (Holds : List ℕ → List ℕ → Type 0) (f : Clipper Count) : Type 0 where
+pub record Demand3End (limit : ℕ) (Holds : List ℕ → List ℕ → Type 0) (f : Clipper (Answer ℕ)) : Type 0 where
   pub once : (s xs : List ℕ) (a : ℕ) → Given limit Holds false s xs a → EndOnce f s xs a
   pub twice : EndThen limit Holds f Holds f
 

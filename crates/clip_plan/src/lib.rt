@@ -9,8 +9,8 @@ ghost use Rattle.oplist.specs.Ops.{ops_of};
 ghost use Rattle.clip_rules.specs.Clipping.{upgraded};
 ghost use Rattle.clip_rules.specs.InnerPlan.{MadeIs, PlannedIs, cut_of};
 
-use answers::Refusal;
-use clip_rules::{Plan, Planned};
+use answers::{Answer, Refusal};
+use clip_rules::Plan;
 use oplist::Ops;
 
 // The longest total that clipping takes: 28 bits, as one op holds.
@@ -26,14 +26,14 @@ pub fn plan_clip(
     amount: u64,
     start: bool,
     quick: bool,
-) -> Planned
+) -> Answer<Plan>
     ensures { PlannedIs limit (ops_of words.now rec.now list) amount start result }
 {
     if limit < oplist::count(words, rec, list) {
-        return Planned::Refused(Refusal::TooManyOps);
+        return Err(Refusal::TooManyOps);
     }
     if is_too_long(words, rec, list) {
-        return Planned::Refused(Refusal::TooLong);
+        return Err(Refusal::TooLong);
     }
     make_plan(words, rec, list, amount, start, quick)
 }
@@ -159,32 +159,32 @@ fn cut_first(op: u32, amount: u64) -> Plan
 
 // The plan of a list that is not too long. A clip that ends within the first op may be made at once, and any other goes through the runs of clips and takes bases. Refusal 19: the taking goes through
 // every op inside, so it falls short exactly where the amount is beyond what can be clipped.
-fn make_plan(words: &[u32], rec: &[u8], list: Ops, amount: u64, start: bool, quick: bool) -> Planned
+fn make_plan(words: &[u32], rec: &[u8], list: Ops, amount: u64, start: bool, quick: bool) -> Answer<Plan>
     requires { sum_of len_of (ops_of words.now rec.now list) < 2 ^ 28 }
     ensures { MadeIs (ops_of words.now rec.now list) amount start result }
 {
     if amount == 0 {
-        return Planned::Made(unchanged());
+        return Ok(unchanged());
     }
     let count = oplist::count(words, rec, list);
     if count == 0 {
-        return Planned::Made(unchanged());
+        return Ok(unchanged());
     }
     let op = oplist::op_from(words, rec, list, count, start, 0);
     if ends_within(quick, op, amount) {
-        return Planned::Made(cut_first(op, amount));
+        return Ok(cut_first(op, amount));
     }
     let clips = clip_runs::leading_clips(words, rec, list, start);
     let outer = clip_runs::outer_runs(words, rec, list, start);
     if amount <= clips {
-        return Planned::Made(upgrade(outer.hard, outer.soft, amount, outer.next));
+        return Ok(upgrade(outer.hard, outer.soft, amount, outer.next));
     }
     let n = amount - clips;
     let t = clip_taking::take_bases(words, rec, list, start, outer.next, n);
     if t.bases < n {
-        return Planned::Refused(Refusal::AmountBeyond);
+        return Err(Refusal::AmountBeyond);
     }
-    Planned::Made(Plan {
+    Ok(Plan {
         skip: t.next,
         heads: 1 + t.cut,
         first: clip_taking::encode_op(5, outer.hard + outer.soft + t.bases),

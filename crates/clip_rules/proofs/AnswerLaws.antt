@@ -1,5 +1,7 @@
 -- Which case of the answer a call's tests lead to, and what a plan makes of it.
 use mathlib.Core.Path.{◌≡◌, refl, ap, ◌∙◌}
+use Rattle.std.specs.Prelude.{Err}
+use Rattle.answers.specs.Answer.{Answer}
 use mathlib.Core.Bool.{Bool, true, false}
 use mathlib.Core.Logic.{inl, inr}
 use mathlib.Core.List.{List, [], ◌∷◌, ◌++◌, reverse}
@@ -14,12 +16,10 @@ use Rattle.sam.specs.Op.{len_of}
 use Rattle.answers.specs.Settled.{Outcome, Settled, keeps}
 use Rattle.answers.specs.declared.Refusal.{Refusal}
 use Rattle.answers.specs.declared.Refusal.TheVariants.{TooLong, NoRoom, AmountBeyond}
-use Rattle.answers.specs.declared.Count.{Count}
 use Rattle.answers.proofs.Unique.{settled, outcome}
 use Rattle.clip_rules.specs.Clipping.{Cut, clip}
 use Rattle.clip_rules.specs.InnerPlan.{PlanIs, PlannedIs}
 use Rattle.clip_rules.specs.Answer.{clipped_ops, clipped_count, is_beyond, clipped_into, clipped_up_to, written, uncounted, without_count}
-use Rattle.clip_rules.specs.declared.Planned.{Planned}
 use Rattle.clip_rules.specs.declared.Clipped.{Clipped}
 use Rattle.clip_rules.specs.declared.Clipped.TheVariants.{Done, Refused}
 
@@ -79,14 +79,14 @@ module _ (xs : List ℕ) (b : Bool) {a skip heads first second lost : ℕ} (P : 
     done_end e w = done (reverse (take heads (first ∷ (second ∷ [])) ++ drop skip (reverse xs))) (rw e (ap reverse (rw e at ops_are))) w
 
 -- a refusal that comes before the plan
-pub unplanned : (limit : ℕ) (xs : List ℕ) (a : ℕ) (b : Bool) (d : List ℕ) {r : Refusal} → PlannedIs limit xs a b (Planned.Refused r) → clipped_up_to limit xs a b d ≡ keeps (Refused r) d
+pub unplanned : (limit : ℕ) (xs : List ℕ) (a : ℕ) (b : Bool) (d : List ℕ) {r : Refusal} → PlannedIs limit xs a b (Err r) → clipped_up_to limit xs a b d ≡ keeps (Refused r) d
 unfolding clipped_up_to
 unplanned limit xs a b d (inl (h, e)) = rw e (simp (lt-ltb limit (length xs) h))
 unplanned limit xs a b d (inr (inl (h, l, e))) = rw e (simp (le-ltb limit (length xs) h) (too_long xs a b d l))
 unplanned limit xs a b d (inr (inr (h, l, m))) = rw m.1 (simp (le-ltb limit (length xs) h) (beyond xs a b d l m.0))
 
 -- an answer without its count
-pub uncounted_settled : {o : Outcome Clipped} {a : Clipped} {r : Count} {m : List ℕ} → r ≡ uncounted a → Settled o a m → Settled (without_count o) r m
+pub uncounted_settled : {o : Outcome Clipped} {a : Clipped} {r : Answer ℕ} {m : List ℕ} → r ≡ uncounted a → Settled o a m → Settled (without_count o) r m
 uncounted_settled e s = record { answer = e ∙ ap uncounted s.answer; memory = s.memory }
 
 -- with a limit of its own number of ops, no limit is left

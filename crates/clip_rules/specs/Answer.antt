@@ -1,6 +1,8 @@
 -- Document 01, "Numbers and their bounds" and "Clipping", and document 02, item 12: what the start call and the end call answer and leave in the lent output.
 -- Refusals 3 (1 for a record), 8, 19, 6.
 use Rattle.std.specs.Prelude.{ℕ, ◌+◌, Bool, true, false, cond, not, ◌&&◌, List, [], ◌∷◌, pos, length, eqb, ltb}
+use Rattle.std.specs.Prelude.{Err, Ok}
+use Rattle.answers.specs.Answer.{Answer}
 use Rattle.lists.specs.Lists.{facing, splice, sum_of}
 use Rattle.sam.specs.Op.{len_of}
 use Rattle.sam.specs.Record.{is_short}
@@ -10,7 +12,6 @@ use Rattle.clip_run_rules.specs.Clips.{leading_clips}
 use Rattle.answers.specs.Answers.{Told, answered, refused}
 use Rattle.answers.specs.Settled.{Outcome, keeps}
 use Rattle.answers.specs.declared.Refusal.TheVariants.{ShortRecord, TooManyOps, TooLong, NoRoom, AmountBeyond}
-use Rattle.answers.specs.declared.Count.{Count}
 use Rattle.clip_rules.specs.Clipping.{clip}
 use Rattle.clip_rules.specs.declared.Clipped.{Clipped}
 use Rattle.clip_rules.specs.declared.Clipped.TheVariants.{Done, Refused}
@@ -52,39 +53,39 @@ unfoldable pub clipped_record : List ℕ → ℕ → Bool → List ℕ → Outco
 clipped_record b amount start d = cond (is_short b) (keeps (Refused ShortRecord) d) (clipped_into (record_ops b) amount start d)
 
 -- "a start call, with count, and an end call, without one": there the answer is the ops written alone
-abbrev pub uncounted : Clipped → Count
-uncounted (Done n count) = Count.Number n
-uncounted (Refused r) = Count.Refused r
+abbrev pub uncounted : Clipped → Answer ℕ
+uncounted (Done n count) = Ok n
+uncounted (Refused r) = Err r
 
-abbrev pub without_count : Outcome Clipped → Outcome Count
+abbrev pub without_count : Outcome Clipped → Outcome (Answer ℕ)
 without_count o = record { answer = uncounted o.answer; left = o.left }
 
 -- of a lent list, with the limit as a parameter
 abbrev pub start_up_to : ℕ → List ℕ → ℕ → List ℕ → Outcome Clipped
 start_up_to limit xs amount d = clipped_up_to limit xs amount true d
 
-abbrev pub end_up_to : ℕ → List ℕ → ℕ → List ℕ → Outcome Count
+abbrev pub end_up_to : ℕ → List ℕ → ℕ → List ℕ → Outcome (Answer ℕ)
 end_up_to limit xs amount d = without_count (clipped_up_to limit xs amount false d)
 
 -- `clip_cigar_start_raw`, `clip_cigar_end_raw`
 abbrev pub clipped_start : List ℕ → ℕ → List ℕ → Outcome Clipped
 clipped_start xs amount d = start_up_to most_ops xs amount d
 
-abbrev pub clipped_end : List ℕ → ℕ → List ℕ → Outcome Count
+abbrev pub clipped_end : List ℕ → ℕ → List ℕ → Outcome (Answer ℕ)
 clipped_end xs amount d = end_up_to most_ops xs amount d
 
 -- document 02, item 1: `long_clip_cigar_start_raw`, `long_clip_cigar_end_raw`
 abbrev pub long_start : List ℕ → ℕ → List ℕ → Outcome Clipped
 long_start xs amount d = start_up_to most_long_ops xs amount d
 
-abbrev pub long_end : List ℕ → ℕ → List ℕ → Outcome Count
+abbrev pub long_end : List ℕ → ℕ → List ℕ → Outcome (Answer ℕ)
 long_end xs amount d = end_up_to most_long_ops xs amount d
 
 -- `clip_cigar_start`, `clip_cigar_end`
 abbrev pub record_start : List ℕ → ℕ → List ℕ → Outcome Clipped
 record_start b amount d = clipped_record b amount true d
 
-abbrev pub record_end : List ℕ → ℕ → List ℕ → Outcome Count
+abbrev pub record_end : List ℕ → ℕ → List ℕ → Outcome (Answer ℕ)
 record_end b amount d = without_count (clipped_record b amount false d)
 
 -- document 01's number and values of a start call's answer: the ops written, and the count. The end call's is told as any count is

@@ -1,9 +1,11 @@
 -- What the planning functions hand on, as it stands to the rule of document 01, "Clipping" (`Clipping.antt`): places and numbers for lists.
 use Rattle.std.specs.Prelude.{ℕ, ◌≤◌, ◌<◌, ◌≡◌, Bool, true, false, ◌⊎◌, List, [], ◌∷◌, ◌++◌, length, take, drop}
+use Rattle.std.specs.Prelude.{Err, Ok}
+use Rattle.answers.specs.Answer.{Answer}
+use Rattle.clip_rules.specs.declared.Plan.{Plan}
 use Rattle.lists.specs.Lists.{facing, sum_of}
 use Rattle.sam.specs.Op.{len_of}
 use Rattle.answers.specs.declared.Refusal.TheVariants.{TooManyOps, TooLong, AmountBeyond}
-use Rattle.clip_rules.specs.declared.Planned.{Planned}
 use Rattle.clip_rules.specs.Clipping.{Taken, Cut, taking, clip}
 use Rattle.clip_rules.specs.Answer.{is_beyond}
 
@@ -28,14 +30,14 @@ pub record PlanIs (xs : List ℕ) (amount skip heads first second lost : ℕ) : 
   pub heads_in : heads ≤ 2
 
 -- what planning answers for a list that is not too long: 19, or a plan of the list as seen from the chosen end
-abbrev pub MadeIs : List ℕ → ℕ → Bool → Planned → Type 0
-MadeIs xs amount start (Planned.Made p) = (is_beyond xs amount start ≡ false) × PlanIs (facing start xs) amount p.skip p.heads p.first p.second p.lost
-MadeIs xs amount start (Planned.Refused r) = (is_beyond xs amount start ≡ true) × (r ≡ AmountBeyond)
+abbrev pub MadeIs : List ℕ → ℕ → Bool → Answer Plan → Type 0
+MadeIs xs amount start (Ok p) = (is_beyond xs amount start ≡ false) × PlanIs (facing start xs) amount p.skip p.heads p.first p.second p.lost
+MadeIs xs amount start (Err r) = (is_beyond xs amount start ≡ true) × (r ≡ AmountBeyond)
 
 -- for a list of at most `limit` ops: 3, then 8, then that
-abbrev pub PlannedIs : ℕ → List ℕ → ℕ → Bool → Planned → Type 0
-PlannedIs limit xs amount start (Planned.Made p) = (length xs ≤ limit) × (sum_of len_of xs ≤ 268435455) × MadeIs xs amount start (Planned.Made p)
-PlannedIs limit xs amount start (Planned.Refused r) =
+abbrev pub PlannedIs : ℕ → List ℕ → ℕ → Bool → Answer Plan → Type 0
+PlannedIs limit xs amount start (Ok p) = (length xs ≤ limit) × (sum_of len_of xs ≤ 268435455) × MadeIs xs amount start (Ok p)
+PlannedIs limit xs amount start (Err r) =
     ((limit < length xs) × (r ≡ TooManyOps))
     ⊎ (((length xs ≤ limit) × (268435455 < sum_of len_of xs) × (r ≡ TooLong))
-    ⊎ ((length xs ≤ limit) × (sum_of len_of xs ≤ 268435455) × MadeIs xs amount start (Planned.Refused r)))
+    ⊎ ((length xs ≤ limit) × (sum_of len_of xs ≤ 268435455) × MadeIs xs amount start (Err r)))

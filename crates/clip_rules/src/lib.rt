@@ -21,9 +21,3 @@ pub struct Plan {
     pub lost: u64,
 }
 
-// A plan, or the refusal that comes before it.
-#[derive(Clone, Copy)]
-pub enum Planned {
-    Made(Plan),
-    Refused(Refusal),
-}

@@ -8,7 +8,7 @@ ghost use Rattle.answers.specs.Settled.{Settled};
 ghost use Rattle.clip_rules.specs.Answer.{clipped_up_to};
 
 use answers::Refusal;
-use clip_rules::{Clipped, Plan, Planned};
+use clip_rules::{Clipped, Plan};
 use oplist::Ops;
 
 // Stores the first `heads` of a and b from place `at` on.
@@ -68,7 +68,7 @@ pub fn clip_ops(
     ensures { Settled (clipped_up_to limit (ops_of words.now rec.now list) amount start out.old) result out.new }
 {
     match clip_plan::plan_clip(words, rec, list, limit, amount, start, false) {
-        Planned::Made(p) => {
+        Ok(p) => {
             let n = p.heads + (oplist::count(words, rec, list) - p.skip);
             if out.len() < n {
                 return Clipped::Refused(Refusal::NoRoom);
@@ -80,6 +80,6 @@ pub fn clip_ops(
             write_end(words, rec, list, p, out);
             Clipped::Done(n as u64, p.lost)
         }
-        Planned::Refused(why) => Clipped::Refused(why),
+        Err(why) => Clipped::Refused(why),
     }
 }

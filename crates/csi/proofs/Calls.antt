@@ -1,5 +1,6 @@
 -- What the two calls rest on: a region that is taken has what the functions of the levels ask, and the two ways of a list into lent memory.
 use Prim.Native.Nat.{ℕ, ◌+◌, ◌-◌, ◌*◌, ◌≤◌, ◌<◌, ◌^◌}
+use Rattle.std.specs.Prelude.{Err, Ok}
 use mathlib.Core.Path.{◌≡◌, refl, sym, ap, subst, ◌∙◌}
 use mathlib.Core.Bool.{Bool, true, false}
 use mathlib.Core.List.{List}
@@ -12,7 +13,6 @@ use Rattle.lists.proofs.Absurd.{never}
 use Rattle.signed.specs.Whole.{natural}
 use Rattle.answers.specs.Settled.{keeps}
 use Rattle.answers.specs.declared.Refusal.TheVariants.{NoRoom}
-use Rattle.answers.specs.declared.Count.TheVariants.{Number, Refused}
 use Rattle.answers.proofs.Unique.{outcome}
 use Rattle.csi_rules.specs.declared.Region.TheVariants.{Over}
 use Rattle.csi_rules.specs.Csi.{served, inside, region_of, filled}
@@ -38,8 +38,8 @@ found beg end s d first last e = go (served s d) refl (inside s d beg end) refl
     go false p u q = let f = sym (levels_first beg end s d p) ∙ e in never cc
 
 -- the two ways of a list into lent memory
-pub filled_none : (bins out : List ℕ) → length out < length bins → filled bins out ≡ keeps (Refused NoRoom) out
+pub filled_none : (bins out : List ℕ) → length out < length bins → filled bins out ≡ keeps (Err NoRoom) out
 filled_none bins out h = simp (lt-ltb (length out) (length bins) h)
 
-pub filled_all : (bins out now : List ℕ) (n : ℕ) → length bins ≤ length out → n ≡ length bins → now ≡ splice out 0 bins → filled bins out ≡ record { answer = Number n; left = now }
-filled_all bins out now n h e f = simp (le-ltb (length out) (length bins) h) (outcome (ap Number e) f)
+pub filled_all : (bins out now : List ℕ) (n : ℕ) → length bins ≤ length out → n ≡ length bins → now ≡ splice out 0 bins → filled bins out ≡ record { answer = Ok n; left = now }
+filled_all bins out now n h e f = simp (le-ltb (length out) (length bins) h) (outcome (ap Ok e) f)

@@ -5,32 +5,32 @@ ghost use Rattle.std.specs.Prelude.{◌≡◌};
 ghost use Rattle.answers.specs.Settled.{Settled};
 ghost use Rattle.csi_rules.specs.Csi.{csi_bin, csi_bins};
 
-use answers::{Count, Nat, Refusal};
+use answers::{Answer, Refusal};
 use csi_rules::Region;
 
 // The bin of the region from beg to before end. Refusals 17 and 18.
-pub fn csi_reg2bin(beg: i64, end: i64, min_shift: u32, depth: u32) -> Nat
+pub fn csi_reg2bin(beg: i64, end: i64, min_shift: u32, depth: u32) -> Answer<u32>
     ensures { result ≡ csi_bin beg end min_shift depth }
 {
     match csi_region::region_of(beg, end, min_shift, depth) {
-        Region::Over(first, last) => Nat::Number(csi_levels::bin_up(depth, min_shift, first, last)),
-        Region::Refused(why) => Nat::Refused(why),
+        Region::Over(first, last) => Ok(csi_levels::bin_up(depth, min_shift, first, last)),
+        Region::Refused(why) => Err(why),
     }
 }
 
 // All bins that may overlap the region, into the first places of out; how many they are. Refusals 17, 18 and 6.
-pub fn csi_reg2bins(beg: i64, end: i64, min_shift: u32, depth: u32, out: &mut [u32]) -> Count
+pub fn csi_reg2bins(beg: i64, end: i64, min_shift: u32, depth: u32, out: &mut [u32]) -> Answer<u64>
     ensures { Settled (csi_bins beg end min_shift depth out.old) result out.new }
 {
     match csi_region::region_of(beg, end, min_shift, depth) {
         Region::Over(first, last) => {
             let n = csi_levels::count_up(depth, min_shift, first, last);
             if out.len() < n {
-                return Count::Refused(Refusal::NoRoom);
+                return Err(Refusal::NoRoom);
             }
             csi_levels::put_up(depth, min_shift, first, last, out);
-            Count::Number(n as u64)
+            Ok(n as u64)
         }
-        Region::Refused(why) => Count::Refused(why),
+        Region::Refused(why) => Err(why),
     }
 }

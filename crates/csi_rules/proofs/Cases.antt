@@ -1,11 +1,11 @@
 -- The region by its cases: 17 whatever the region is, then 18, and else its first and last place, of which the bin is the rule's.
 use Prim.Native.Nat.{ℕ}
+use Rattle.std.specs.Prelude.{Ok}
 use mathlib.Core.Path.{◌≡◌, ap}
 use mathlib.Core.Bool.{true, false}
 use lib.IntN.{ℤ}
 use Rattle.signed.specs.Whole.{natural}
 use Rattle.answers.specs.declared.Refusal.TheVariants.{BadLevels, BadRegion}
-use Rattle.answers.specs.declared.Nat.TheVariants.{Number}
 use Rattle.csi_rules.specs.declared.Region.TheVariants.{Over, Refused}
 use Rattle.csi_rules.specs.Csi.{served, inside, last_place, region_of, bin_in, csi_bin, region_bin}
 
@@ -22,6 +22,6 @@ module _ (beg end : ℤ) (s d : ℕ) where
   unfolding region_of
   taken t u = simp (t, u)
 
-  pub bin_answer : served s d ≡ true → inside s d beg end ≡ true → csi_bin beg end s d ≡ Number (region_bin beg end s d)
+  pub bin_answer : served s d ≡ true → inside s d beg end ≡ true → csi_bin beg end s d ≡ Ok (region_bin beg end s d)
   unfolding csi_bin
   bin_answer t u = ap (bin_in s d) (taken t u)

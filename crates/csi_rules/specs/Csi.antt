@@ -1,12 +1,12 @@
 -- Document 02, item 11, "CSI bins for large genomes": the bin of a region, over min_shift and depth, and all bins that may overlap it.
 use Rattle.std.specs.Prelude.{ℕ, zero, suc, ◌+◌, ◌-◌, ◌*◌, ◌/◌, ◌^◌, Bool, cond, not, ◌&&◌, List, [], ◌∷◌, ◌++◌, ltb, leb, length, ℤ, pos}
+use Rattle.std.specs.Prelude.{Err, Ok}
+use Rattle.answers.specs.Answer.{Answer}
 use Rattle.std.specs.Int.Signed.{lt_z, le_z}
 use Rattle.lists.specs.Lists.{splice}
 use Rattle.signed.specs.Whole.{natural}
 use Rattle.answers.specs.Settled.{Outcome, keeps}
 use Rattle.answers.specs.declared.Refusal.TheVariants.{NoRoom, BadLevels, BadRegion}
-use Rattle.answers.specs.declared.Nat.{Nat}
-use Rattle.answers.specs.declared.Count.{Count}
 use Rattle.sam.specs.Bins.{first_of, bin_up}
 use Rattle.csi_rules.specs.declared.Region.{Region}
 
@@ -44,24 +44,24 @@ region_of beg end s d =
     (Region.Over (natural beg) (last_place end)))
 
 -- `csi_reg2bin`: 17, 18; "start at the finest level, and go up one level, with one level fewer left, while the ends differ"
-abbrev pub bin_in : ℕ → ℕ → Region → Nat
-bin_in s d (Region.Over first last) = Nat.Number (bin_up d s first last)
-bin_in s d (Region.Refused r) = Nat.Refused r
+abbrev pub bin_in : ℕ → ℕ → Region → Answer ℕ
+bin_in s d (Region.Over first last) = Ok (bin_up d s first last)
+bin_in s d (Region.Refused r) = Err r
 
-unfoldable pub csi_bin : ℤ → ℤ → ℕ → ℕ → Nat
+unfoldable pub csi_bin : ℤ → ℤ → ℕ → ℕ → Answer ℕ
 csi_bin beg end s d = bin_in s d (region_of beg end s d)
 
 -- `csi_reg2bins`: 17, 18, "then 6"; "all bins that may overlap a region"
-abbrev pub filled : List ℕ → List ℕ → Outcome Count
+abbrev pub filled : List ℕ → List ℕ → Outcome (Answer ℕ)
 filled bins out =
-    cond (ltb (length out) (length bins)) (keeps (Count.Refused NoRoom) out)
-    (record { answer = Count.Number (length bins); left = splice out 0 bins })
+    cond (ltb (length out) (length bins)) (keeps (Err NoRoom) out)
+    (record { answer = Ok (length bins); left = splice out 0 bins })
 
-abbrev pub bins_in : ℕ → ℕ → List ℕ → Region → Outcome Count
+abbrev pub bins_in : ℕ → ℕ → List ℕ → Region → Outcome (Answer ℕ)
 bins_in s d out (Region.Over first last) = filled (bins_up d s first last) out
-bins_in s d out (Region.Refused r) = keeps (Count.Refused r) out
+bins_in s d out (Region.Refused r) = keeps (Err r) out
 
-unfoldable pub csi_bins : ℤ → ℤ → ℕ → ℕ → List ℕ → Outcome Count
+unfoldable pub csi_bins : ℤ → ℤ → ℕ → ℕ → List ℕ → Outcome (Answer ℕ)
 csi_bins beg end s d out = bins_in s d out (region_of beg end s d)
 
 -- what both answer where neither 17 nor 18 is due

@@ -3,7 +3,6 @@
 
 ghost use Rattle.std.specs.Prelude.{◌≡◌, ℕ, ◌+◌, ◌≤◌, ◌<◌, List, ◌∷◌, pos};
 ghost use Rattle.lists.specs.Lists.{sum_of};
-ghost use Rattle.signed.specs.declared.Sum.TheVariants.{Number};
 ghost use Rattle.sam.specs.Op.{ref_len};
 ghost use Rattle.oplist.specs.Ops.{ops_of};
 ghost use Rattle.clip_run_rules.specs.Clips.{clips_after_reference};
@@ -14,7 +13,6 @@ ghost use Rattle.ends_rules.specs.InnerTails.{met};
 
 use ends_rules::Tail;
 use oplist::Ops;
-use signed::Sum;
 
 // One op more: whatever ops are left, the walk comes to the same.
 fn meet(w: Tail, op: u32) -> Tail
@@ -74,52 +72,52 @@ pub fn tail_of(words: &[u32], rec: &[u8], list: Ops) -> Tail
 }
 
 // Lengths that come to n.
-fn whole(n: u64) -> Sum
+fn whole(n: u64) -> Option<i32>
     ensures { result ≡ summed n }
 {
     if 2147483647 < n {
-        return Sum::Over;
+        return None;
     }
-    Sum::Number(n as i32)
+    Some(n as i32)
 }
 
 // Where an alignment at `at` that begins with so many clipped bases would begin; counted as `at` is.
-pub fn start_from(at: i32, clips: u64) -> Sum
-    ensures { result ≡ Number at ⊖ summed clips }
+pub fn start_from(at: i32, clips: u64) -> Option<i32>
+    ensures { result ≡ Some at ⊖ summed clips }
 {
-    let Sum::Number(n) = whole(clips) else {
-        return Sum::Over;
+    let Some(n) = whole(clips) else {
+        return None;
     };
     signed::checked_sub(at, n)
 }
 
 // The clips after the last reference op, where the Rust's sum of clips gets so far.
-fn trailing(clips: u64, most: u64) -> Sum
+fn trailing(clips: u64, most: u64) -> Option<i32>
     requires { clips ≤ most }
-    ensures { result ≡ provided (summed most) (Number (pos clips)) }
+    ensures { result ≡ provided (summed most) (Some (pos clips)) }
 {
     if 2147483647 < most {
-        return Sum::Over;
+        return None;
     }
-    Sum::Number(clips as i32)
+    Some(clips as i32)
 }
 
 // Where an alignment at `at` would end with its clips, from what the walk to its end has met; counted as `at` is.
-pub fn end_from(at: i32, w: Tail) -> Sum
+pub fn end_from(at: i32, w: Tail) -> Option<i32>
     requires { w.clips ≤ w.most }
-    ensures { result ≡ Number at ⊕ summed w.refs ⊕ provided (summed w.most) (Number (pos w.clips)) ⊖ Number (pos 1) }
+    ensures { result ≡ Some at ⊕ summed w.refs ⊕ provided (summed w.most) (Some (pos w.clips)) ⊖ Some (pos 1) }
 {
-    let Sum::Number(refs) = whole(w.refs) else {
-        return Sum::Over;
+    let Some(refs) = whole(w.refs) else {
+        return None;
     };
-    let Sum::Number(end) = signed::checked_add(at, refs) else {
-        return Sum::Over;
+    let Some(end) = signed::checked_add(at, refs) else {
+        return None;
     };
-    let Sum::Number(clips) = trailing(w.clips, w.most) else {
-        return Sum::Over;
+    let Some(clips) = trailing(w.clips, w.most) else {
+        return None;
     };
-    let Sum::Number(clipped) = signed::checked_add(end, clips) else {
-        return Sum::Over;
+    let Some(clipped) = signed::checked_add(end, clips) else {
+        return None;
     };
     signed::checked_sub(clipped, 1)
 }

@@ -1,5 +1,6 @@
 -- The cases of the calls on a record of at least 32 bytes, by their tests.
 use Prim.Native.Nat.{ℕ, ◌≤◌}
+use Rattle.std.specs.Prelude.{Err, None, Ok, Option, Some}
 use mathlib.Core.Path.{◌≡◌, sym, ap, ◌∙◌}
 use mathlib.Core.Bool.{Bool, true, false}
 use mathlib.Core.List.{List}
@@ -8,17 +9,12 @@ use lib.IntN.{ℤ, pos}
 use lib.ListN.{length}
 use lib.Signed.{lt_z}
 use Rattle.lists.specs.Lists.{sum_of}
-use Rattle.signed.specs.declared.Sum.{Sum}
-use Rattle.signed.specs.declared.Sum.TheVariants.{Number}
 use Rattle.sam.specs.Op.{ref_len}
 use Rattle.sam.specs.Record.{pos_of, flags_of, is_unmapped, is_reverse}
 use Rattle.oplist.specs.Ops.{record_ops}
 use Rattle.length_rules.specs.Lengths.{checked_ref_length}
 use Rattle.clip_run_rules.specs.Clips.{leading_clips, clips_after_reference}
 use Rattle.answers.specs.declared.Pos0.{Pos0}
-use Rattle.answers.specs.declared.Place0.TheVariants as Place0
-use Rattle.answers.specs.declared.Place1.TheVariants.{Nothing, Refused}
-use Rattle.answers.specs.declared.Int.TheVariants as Int
 use Rattle.answers.specs.declared.Refusal.{Refusal}
 use Rattle.ends_rules.specs.declared.Unclipped.TheVariants.{Unmapped, NoOps}
 use Rattle.ends_rules.specs.declared.Tail.{Tail}
@@ -27,7 +23,7 @@ use Rattle.ends_rules.specs.Tails.{greatest_run}
 use Rattle.ends_rules.specs.Ends.{provided, trailing_sum, unclipped_start, unclipped_end, to_place0, plus_one, one_based, five_prime, has_no_ops, unclipped_at, unclipped_by, unclipped_of, unclipped_from, alignment_start, end_at, alignment_end}
 
 module _ (b : List ℕ) (h : 32 ≤ length b) where
-  pub start_none : lt_z (pos_of b) (pos 0) ≡ true → Nothing ≡ alignment_start b
+  pub start_none : lt_z (pos_of b) (pos 0) ≡ true → (Ok None) ≡ alignment_start b
   unfolding alignment_start
   start_none t = simp (le-ltb (length b) 32 h, t)
 
@@ -35,7 +31,7 @@ module _ (b : List ℕ) (h : 32 ≤ length b) where
   unfolding alignment_start
   start_at t = simp (le-ltb (length b) 32 h, t)
 
-  pub end_none : lt_z (pos_of b) (pos 0) ≡ true → Nothing ≡ alignment_end b
+  pub end_none : lt_z (pos_of b) (pos 0) ≡ true → (Ok None) ≡ alignment_end b
   unfolding alignment_end
   end_none t = simp (le-ltb (length b) 32 h, t)
 
@@ -44,7 +40,7 @@ module _ (b : List ℕ) (h : 32 ≤ length b) where
   end-at t = simp (le-ltb (length b) 32 h, t)
 
   -- a record whose length is refused has no end
-  pub no_end : (r : Refusal) → lt_z (pos_of b) (pos 0) ≡ false → checked_ref_length b ≡ Int.Refused r → alignment_end b ≡ Refused r
+  pub no_end : (r : Refusal) → lt_z (pos_of b) (pos 0) ≡ false → checked_ref_length b ≡ Err r → alignment_end b ≡ Err r
   no_end r t e = sym (end-at t) ∙ rw e
 
   pub is-unmapped : is_unmapped (flags_of b) ≡ true → Unmapped ≡ unclipped_of b
@@ -59,7 +55,7 @@ module _ (b : List ℕ) (h : 32 ≤ length b) where
   unfolding unclipped_of
   is_mapped t = simp (le-ltb (length b) 32 h, t)
 
-  pub from_given : (p : Pos0) (reverse : Bool) → has_no_ops b ≡ true → Place0.At p ≡ unclipped_from b p reverse
+  pub from_given : (p : Pos0) (reverse : Bool) → has_no_ops b ≡ true → Ok p ≡ unclipped_from b p reverse
   unfolding unclipped_from
   from_given p reverse t = simp (le-ltb (length b) 32 h, t)
 
@@ -76,15 +72,15 @@ some_left b xs n e f g = ne_eqb _ 0 (λ z. g (e ∙ ap length f ∙ z))
 
 -- of an op list that has ops: a place from the next of the given one
 module _ (xs : List ℕ) (p : Pos0) (reverse : Bool) (n : ℕ) (e : n ≡ length xs) where
-  pub placed_by : (n ≡ 0 → ⊥) → (s : Sum) → s ≡ plus_one p → unclipped_at s reverse xs ≡ unclipped_by xs p reverse
+  pub placed_by : (n ≡ 0 → ⊥) → (s : Option ℤ) → s ≡ plus_one p → unclipped_at s reverse xs ≡ unclipped_by xs p reverse
   placed_by z s f = simp (ne_eqb (length xs) 0 (λ w. z (e ∙ w)), f)
 
 -- the 5' end by the strand, from what the walk to it has met
 module _ (at : ℤ) (xs : List ℕ) where
-  pub forward : (t : Bool) (clips : ℕ) → t ≡ false → clips ≡ leading_clips xs → Number at ⊖ summed clips ≡ five_prime t at xs
+  pub forward : (t : Bool) (clips : ℕ) → t ≡ false → clips ≡ leading_clips xs → Some at ⊖ summed clips ≡ five_prime t at xs
   unfolding five_prime unclipped_start
   forward t clips f c = simp (f, c)
 
-  pub backward : (t : Bool) (w : Tail) → t ≡ true → w.refs ≡ sum_of ref_len xs → w.clips ≡ clips_after_reference xs → w.most ≡ greatest_run xs → Number at ⊕ summed w.refs ⊕ provided (summed w.most) (Number (pos w.clips)) ⊖ Number (pos 1) ≡ five_prime t at xs
+  pub backward : (t : Bool) (w : Tail) → t ≡ true → w.refs ≡ sum_of ref_len xs → w.clips ≡ clips_after_reference xs → w.most ≡ greatest_run xs → Some at ⊕ summed w.refs ⊕ provided (summed w.most) (Some (pos w.clips)) ⊖ Some (pos 1) ≡ five_prime t at xs
   unfolding five_prime unclipped_end trailing_sum
   backward t w f r c m = simp (f, r, c, m)

@@ -1,5 +1,7 @@
 -- What a place is that was not refused: the plain sum, since each step on the way was in the range of an i32. And of what records the unclipped position is told, unmapped, and no ops.
 use Prim.Native.Nat.{ℕ}
+use Rattle.std.specs.Prelude.{Err, None, Ok, Option, Some}
+use Rattle.answers.specs.Answer.{Answer}
 use mathlib.Core.Path.{◌≡◌, refl, sym, ap, ◌∙◌}
 use mathlib.Core.Bool.{Bool, true, false, cond, ◌||◌}
 use mathlib.Core.List.{List, []}
@@ -11,8 +13,6 @@ use borrow.Author.Tests.{leb-true, leb-false, le-ltb, lt-ltb}
 use Rattle.lists.proofs.Absurd.{never, false_true}
 use Rattle.signed.specs.Whole.{side_of, sum_at, checked, natural}
 use Rattle.signed.specs.declared.Side.TheVariants.{Below, Within, Above}
-use Rattle.signed.specs.declared.Sum.{Sum}
-use Rattle.signed.specs.declared.Sum.TheVariants.{Number, Over}
 use Rattle.sam.specs.Columns.{columns, refs}
 use Rattle.sam.specs.Record.{is_short, pos_of, flags_of, is_unmapped, is_reverse, op_count_of, ops_start, ops_end, ops_in}
 use Rattle.sam.proofs.LengthLaws.{reference_length}
@@ -20,8 +20,6 @@ use Rattle.oplist.specs.Ops.{record_ops}
 use Rattle.oplist.proofs.OpsLaws.{length_ops_in}
 use Rattle.answers.specs.declared.Pos0.{Pos0}
 use Rattle.answers.specs.declared.Pos1.{Pos1}
-use Rattle.answers.specs.declared.Int.TheVariants as Int
-use Rattle.answers.specs.declared.Place1.{Place1}
 use Rattle.answers.specs.declared.Refusal.TheVariants.{ShortRecord}
 use Rattle.length_rules.specs.Lengths.{checked_ref_length}
 use Rattle.clip_run_rules.specs.Clips.{leading_clips, clips_after_reference}
@@ -30,49 +28,49 @@ use Rattle.ends_rules.specs.Sums.{both, summed}
 use Rattle.ends_rules.specs.Tails.{greatest_run}
 use Rattle.ends_rules.specs.Ends.{unclipped_start, provided, trailing_sum, unclipped_end, five_prime, to_place1, plus_one, has_no_ops, as_unclipped, unclipped_at, unclipped_of, alignment_start, end_at, alignment_end}
 
-checked_is : (z y : ℤ) → checked z ≡ Number y → z ≡ y
+checked_is : (z y : ℤ) → checked z ≡ Some y → z ≡ y
 unfolding checked side_of
 checked_is z y e = go (lt_z z (negsuc 2147483647)) (lt_z (pos 2147483647) z) e
   where
-    go : (s t : Bool) → sum_at (cond s Below (cond t Above (Within z))) ≡ Number y → z ≡ y
+    go : (s t : Bool) → sum_at (cond s Below (cond t Above (Within z))) ≡ Some y → z ≡ y
     go true t h = never (cc)
     go false true h = never (cc)
     go false false h = cc
 
 -- the operands of a sum that was not refused
-record Parts (f : ℤ → ℤ → ℤ) (a b : Sum) (y : ℤ) : Type 0 where
+record Parts (f : ℤ → ℤ → ℤ) (a b : Option ℤ) (y : ℤ) : Type 0 where
   left : ℤ
   right : ℤ
-  left_is : a ≡ Number left
-  right_is : b ≡ Number right
+  left_is : a ≡ Some left
+  right_is : b ≡ Some right
   is : f left right ≡ y
 
-parts : (f : ℤ → ℤ → ℤ) (a b : Sum) (y : ℤ) → both f a b ≡ Number y → Parts f a b y
+parts : (f : ℤ → ℤ → ℤ) (a b : Option ℤ) (y : ℤ) → both f a b ≡ Some y → Parts f a b y
 unfolding both
-parts f (Number l) (Number r) y e = record { left = l; right = r; left_is = refl; right_is = refl; is = checked_is (f l r) y e }
-parts f (Number l) Over y e = never (cc)
-parts f Over b y e = never (cc)
+parts f (Some l) (Some r) y e = record { left = l; right = r; left_is = refl; right_is = refl; is = checked_is (f l r) y e }
+parts f (Some l) None y e = never (cc)
+parts f None b y e = never (cc)
 
-number_is : (z y : ℤ) → Number z ≡ Number y → z ≡ y
+number_is : (z y : ℤ) → Some z ≡ Some y → z ≡ y
 number_is z y e = cc
 
 joined : (f : ℤ → ℤ → ℤ) {a b c d y : ℤ} → a ≡ c → b ≡ d → f c d ≡ y → f a b ≡ y
 joined f e g h = cc
 
-provided_is : (s : Sum) (z y : ℤ) → provided s (Number z) ≡ Number y → z ≡ y
-provided_is (Number x) z y e = cc
-provided_is Over z y e = never (cc)
+provided_is : (s : Option ℤ) (z y : ℤ) → provided s (Some z) ≡ Some y → z ≡ y
+provided_is (Some x) z y e = cc
+provided_is None z y e = never (cc)
 
 module _ (at : ℤ) (xs : List ℕ) (z : ℤ) where
   -- "forward less the leading S and H"
-  pub start_is : unclipped_start at xs ≡ Number z → at -ℤ pos (leading_clips xs) ≡ z
+  pub start_is : unclipped_start at xs ≡ Some z → at -ℤ pos (leading_clips xs) ≡ z
   unfolding unclipped_start
   start_is e =
       let p = parts ◌-ℤ◌ _ _ z e in
       joined ◌-ℤ◌ (number_is at p.left p.left_is) (checked_is _ _ p.right_is) p.is
 
   -- "reverse plus reference length plus clips after the last reference op, less 1"; the reference length is the count of reference bases in the columns
-  pub end_is : unclipped_end at xs ≡ Number z → at +ℤ pos (refs (columns xs)) +ℤ pos (clips_after_reference xs) -ℤ pos 1 ≡ z
+  pub end_is : unclipped_end at xs ≡ Some z → at +ℤ pos (refs (columns xs)) +ℤ pos (clips_after_reference xs) -ℤ pos 1 ≡ z
   unfolding unclipped_end trailing_sum
   end_is e =
       let p = parts ◌-ℤ◌ _ _ z e in
@@ -88,50 +86,50 @@ module _ (at : ℤ) (xs : List ℕ) (z : ℤ) where
 -- ---- start and end of a record
 
 -- the number of a place that was found
-abbrev found : Place1 → ℤ
-found (Place1.At p) = p.0
-found Place1.Nothing = pos 0
-found (Place1.Refused r) = pos 0
+abbrev found : Answer (Option Pos1) → ℤ
+found (Ok (Some p)) = p.0
+found (Ok None) = pos 0
+found (Err r) = pos 0
 
-place_is : (s : Sum) (p : Pos1) → to_place1 s ≡ Place1.At p → s ≡ Number p.0
-place_is (Number z) p e = ap (λ (a : Place1). Number (found a)) e
-place_is Over p e = never (cc)
+place_is : (s : Option ℤ) (p : Pos1) → to_place1 s ≡ Ok (Some p) → s ≡ Some p.0
+place_is (Some z) p e = ap (λ (a : Answer (Option Pos1)). Some (found a)) e
+place_is None p e = never (cc)
 
 -- "0-based record positions and 1-based answers are kept apart": the same place counted from 1 is one more
-pub plus_one_is : (p : Pos0) (z : ℤ) → plus_one p ≡ Number z → p.0 +ℤ pos 1 ≡ z
+pub plus_one_is : (p : Pos0) (z : ℤ) → plus_one p ≡ Some z → p.0 +ℤ pos 1 ≡ z
 unfolding plus_one
 plus_one_is p z e =
     let q = parts ◌+ℤ◌ _ _ z e in
     joined ◌+ℤ◌ (number_is p.0 q.left q.left_is) (number_is (pos 1) q.right q.right_is) q.is
 
 module _ (b : List ℕ) (p : Pos1) where
-  pub first-is : alignment_start b ≡ Place1.At p → pos_of b +ℤ pos 1 ≡ p.0
+  pub first-is : alignment_start b ≡ Ok (Some p) → pos_of b +ℤ pos 1 ≡ p.0
   unfolding alignment_start
   first-is e = go (is_short b) (lt_z (pos_of b) (pos 0)) e
     where
       at : Pos0
       at = record { 0 = pos_of b }
 
-      go : (s t : Bool) → cond s (Place1.Refused ShortRecord) (cond t Place1.Nothing (to_place1 (plus_one at))) ≡ Place1.At p → pos_of b +ℤ pos 1 ≡ p.0
+      go : (s t : Bool) → cond s (Err ShortRecord) (cond t (Ok None) (to_place1 (plus_one at))) ≡ Ok (Some p) → pos_of b +ℤ pos 1 ≡ p.0
       go true t h = never (cc)
       go false true h = never (cc)
       go false false h = plus_one_is at p.0 (place_is (plus_one at) p h)
 
   -- the last place is `pos`, counted from 0, plus the reference length: that counts it from 1
-  last_at : (n : ℤ) → end_at (pos_of b) (Int.Number n) ≡ Place1.At p → pos_of b +ℤ n ≡ p.0
+  last_at : (n : ℤ) → end_at (pos_of b) (Ok n) ≡ Ok (Some p) → pos_of b +ℤ n ≡ p.0
   last_at n e = go (eqb (natural n) 0) e
     where
-      go : (t : Bool) → cond t Place1.Nothing (to_place1 (both ◌+ℤ◌ (Number (pos_of b)) (Number n))) ≡ Place1.At p → pos_of b +ℤ n ≡ p.0
+      go : (t : Bool) → cond t (Ok None) (to_place1 (both ◌+ℤ◌ (Some (pos_of b)) (Some n))) ≡ Ok (Some p) → pos_of b +ℤ n ≡ p.0
       go true h = never (cc)
       go false h =
-          let q = parts ◌+ℤ◌ (Number (pos_of b)) (Number n) p.0 (place_is _ p h) in
+          let q = parts ◌+ℤ◌ (Some (pos_of b)) (Some n) p.0 (place_is _ p h) in
           joined ◌+ℤ◌ (number_is (pos_of b) q.left q.left_is) (number_is n q.right q.right_is) q.is
 
-  pub last-is : (n : ℤ) → checked_ref_length b ≡ Int.Number n → alignment_end b ≡ Place1.At p → pos_of b +ℤ n ≡ p.0
+  pub last-is : (n : ℤ) → checked_ref_length b ≡ Ok n → alignment_end b ≡ Ok (Some p) → pos_of b +ℤ n ≡ p.0
   unfolding alignment_end
   last-is n l e = go (is_short b) (lt_z (pos_of b) (pos 0)) (rw l at e)
     where
-      go : (s t : Bool) → cond s (Place1.Refused ShortRecord) (cond t Place1.Nothing (end_at (pos_of b) (Int.Number n))) ≡ Place1.At p → pos_of b +ℤ n ≡ p.0
+      go : (s t : Bool) → cond s (Err ShortRecord) (cond t (Ok None) (end_at (pos_of b) (Ok n))) ≡ Ok (Some p) → pos_of b +ℤ n ≡ p.0
       go true t h = never (cc)
       go false true h = never (cc)
       go false false h = last_at n h
@@ -162,17 +160,17 @@ is_summed Unclipped.Unmapped = false
 is_summed Unclipped.NoOps = false
 is_summed (Unclipped.Refused r) = true
 
-sums_end : (s : Sum) → is_summed (as_unclipped s) ≡ true
-sums_end (Number z) = refl
-sums_end Over = refl
+sums_end : (s : Option ℤ) → is_summed (as_unclipped s) ≡ true
+sums_end (Some z) = refl
+sums_end None = refl
 
-sums_only : (s : Sum) (reverse : Bool) (xs : List ℕ) → is_summed (unclipped_at s reverse xs) ≡ true
-sums_only (Number at) reverse xs = sums_end (five_prime reverse at xs)
-sums_only Over reverse xs = refl
+sums_only : (s : Option ℤ) (reverse : Bool) (xs : List ℕ) → is_summed (unclipped_at s reverse xs) ≡ true
+sums_only (Some at) reverse xs = sums_end (five_prime reverse at xs)
+sums_only None reverse xs = refl
 
-position-is : (s : Sum) (p : Pos1) → as_unclipped s ≡ Unclipped.At p → s ≡ Number p.0
-position-is (Number z) p e = let f : record { 0 = z } ≡ p = cc in ap (λ (q : Pos1). Number q.0) f
-position-is Over p e = never (cc)
+position-is : (s : Option ℤ) (p : Pos1) → as_unclipped s ≡ Unclipped.At p → s ≡ Some p.0
+position-is (Some z) p e = let f : record { 0 = z } ≡ p = cc in ap (λ (q : Pos1). Some q.0) f
+position-is None p e = never (cc)
 
 module _ (b : List ℕ) where
   abbrev rest : Unclipped
@@ -216,10 +214,10 @@ module _ (b : List ℕ) where
         go false false q false r h = (q, r, h)
 
     -- "from `pos` + 1"
-    from_next : (s : Sum) → plus_one (record { 0 = pos_of b }) ≡ s → unclipped_at s (is_reverse (flags_of b)) (record_ops b) ≡ Unclipped.At p
-        → five_prime (is_reverse (flags_of b)) (pos_of b +ℤ pos 1) (record_ops b) ≡ Number p.0
-    from_next (Number z) e h = ap (λ (y : ℤ). five_prime (is_reverse (flags_of b)) y (record_ops b)) (plus_one_is (record { 0 = pos_of b }) z e) ∙ position-is _ p h
-    from_next Over e h = never (cc)
+    from_next : (s : Option ℤ) → plus_one (record { 0 = pos_of b }) ≡ s → unclipped_at s (is_reverse (flags_of b)) (record_ops b) ≡ Unclipped.At p
+        → five_prime (is_reverse (flags_of b)) (pos_of b +ℤ pos 1) (record_ops b) ≡ Some p.0
+    from_next (Some z) e h = ap (λ (y : ℤ). five_prime (is_reverse (flags_of b)) y (record_ops b)) (plus_one_is (record { 0 = pos_of b }) z e) ∙ position-is _ p h
+    from_next None e h = never (cc)
 
     pub forward-is : is_reverse (flags_of b) ≡ false → unclipped_of b ≡ Unclipped.At p → pos_of b +ℤ pos 1 -ℤ pos (leading_clips (record_ops b)) ≡ p.0
     unfolding five_prime

@@ -1,23 +1,22 @@
 -- Document 01, refusal 4: "a signed 32-bit sum overflows where Rust with overflow checks stops". Rust's + and - on i32, where an operand may have overflowed already.
 use Rattle.std.specs.Prelude.{ℕ, ℤ, pos, ◌+ℤ◌, ◌-ℤ◌}
+use Rattle.std.specs.Prelude.{None, Option, Some}
 use Rattle.signed.specs.Whole.{checked}
-use Rattle.signed.specs.declared.Sum.{Sum}
-use Rattle.signed.specs.declared.Sum.TheVariants.{Number, Over}
 
 -- a sum or a difference of two numbers, where both are there
-unfoldable pub both : (ℤ → ℤ → ℤ) → Sum → Sum → Sum
-both f (Number a) (Number b) = checked (f a b)
-both f (Number a) Over = Over
-both f Over b = Over
+unfoldable pub both : (ℤ → ℤ → ℤ) → Option ℤ → Option ℤ → Option ℤ
+both f (Some a) (Some b) = checked (f a b)
+both f (Some a) None = None
+both f None b = None
 
 infixl 60 ◌⊕◌
 infixl 60 ◌⊖◌
-abbrev pub ◌⊕◌ : Sum → Sum → Sum
+abbrev pub ◌⊕◌ : Option ℤ → Option ℤ → Option ℤ
 ◌⊕◌ a b = both ◌+ℤ◌ a b
 
-abbrev pub ◌⊖◌ : Sum → Sum → Sum
+abbrev pub ◌⊖◌ : Option ℤ → Option ℤ → Option ℤ
 ◌⊖◌ a b = both ◌-ℤ◌ a b
 
 -- lengths that come to n, summed one by one: since none is negative, a sum on the way overflows exactly where n does
-abbrev pub summed : ℕ → Sum
+abbrev pub summed : ℕ → Option ℤ
 summed n = checked (pos n)

@@ -9,8 +9,9 @@ ghost use Rattle.copied_ops.specs.Copied.{get_ops};
 ghost use Rattle.border.specs.Border.{count_of, found_of, across};
 ghost use Rattle.exports.specs.Ops.{char_of, op_answer, op_or_none};
 
+use answers::Answer;
 use border::{ToldCount, ToldFound};
-use kinds::{CigarKind, CigarOp, KindFound, NewOp};
+use kinds::{CigarKind, CigarOp};
 
 #[unsafe(no_mangle)]
 pub extern "C" fn cigar_get_cigar_ops(rec: &[u8], out: &mut [u32]) -> ToldCount
@@ -45,8 +46,8 @@ pub extern "C" fn cigar_from_op_type(code: u32) -> ToldFound
     ensures { result ≡ found_of (tell_kind (from_op_type code)) }
 {
     match CigarKind::from_op_type(code) {
-        KindFound::Kind(kind) => border::found(kind.code() as u64),
-        KindFound::Nothing => border::nothing(),
+        Some(kind) => border::found(kind.code() as u64),
+        None => border::nothing(),
     }
 }
 
@@ -56,8 +57,8 @@ pub extern "C" fn cigar_as_char(kind: u32) -> ToldFound
     ensures { result ≡ found_of (char_of (from_op_type kind)) }
 {
     match CigarKind::from_op_type(kind) {
-        KindFound::Kind(k) => border::found(k.as_char() as u64),
-        KindFound::Nothing => border::nothing(),
+        Some(k) => border::found(k.as_char() as u64),
+        None => border::nothing(),
     }
 }
 
@@ -66,17 +67,17 @@ pub extern "C" fn cigar_op_new(kind: u32, length: u32) -> ToldFound
     ensures { result ≡ found_of (op_answer (from_op_type kind) length) }
 {
     match CigarKind::from_op_type(kind) {
-        KindFound::Kind(k) => told_op(CigarOp::new(k, length)),
-        KindFound::Nothing => border::nothing(),
+        Some(k) => told_op(CigarOp::new(k, length)),
+        None => border::nothing(),
     }
 }
 
-fn told_op(answer: NewOp) -> ToldFound
+fn told_op(answer: Answer<CigarOp>) -> ToldFound
     ensures { result ≡ found_of (op_or_none answer) }
 {
     match answer {
-        NewOp::Op(op) => border::found(op.raw() as u64),
-        NewOp::Refused(why) => border::refused_found(why),
+        Ok(op) => border::found(op.raw() as u64),
+        Err(why) => border::refused_found(why),
     }
 }
 

@@ -4,16 +4,16 @@ ghost use Rattle.answers.specs.Answers.{tell_place0, tell_place1};
 ghost use Rattle.ends_rules.specs.Ends.{unclipped_of, tell_unclipped, unclipped_from, alignment_start, alignment_end};
 ghost use Rattle.border.specs.Border.{int_of, found_of, position_of, flagged};
 
-use answers::{Place1, Pos0};
+use answers::{Answer, Pos0, Pos1};
 use border::{ToldFound, ToldInt, ToldPosition};
 
-fn told_place1(answer: Place1) -> ToldFound
+fn told_place1(answer: Answer<Option<Pos1>>) -> ToldFound
     ensures { result ≡ found_of (tell_place1 answer) }
 {
     match answer {
-        Place1::At(p) => border::found(signed::natural_of(p.0)),
-        Place1::Nothing => border::nothing(),
-        Place1::Refused(why) => border::refused_found(why),
+        Ok(Some(p)) => border::found(signed::natural_of(p.0)),
+        Ok(None) => border::nothing(),
+        Err(why) => border::refused_found(why),
     }
 }
 

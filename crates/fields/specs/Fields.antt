@@ -1,22 +1,22 @@
 -- Document 01, module 1: fields of a record, with refusal 1 under 32 bytes, and the part of it that holds the ops.
 use Rattle.std.specs.Prelude.{ℕ, ◌*◌, cond, List, [], ◌∷◌, ℤ, pos, length, take, drop, ltb}
+use Rattle.std.specs.Prelude.{Err, Ok}
+use Rattle.answers.specs.Answer.{Answer}
+use Rattle.answers.specs.declared.Pos0.{Pos0}
 use Rattle.sam.specs.Record.{is_short, ops_start, op_count_of, ops_end}
 use Rattle.answers.specs.Answers.{Told, answered, refused, number_of}
 use Rattle.answers.specs.declared.Refusal.TheVariants.{ShortRecord}
-use Rattle.answers.specs.declared.Int.{Int}
-use Rattle.answers.specs.declared.Nat.{Nat}
-use Rattle.answers.specs.declared.Place0.{Place0}
 use Rattle.fields.specs.declared.Area.{Area}
 
-abbrev pub int_field : (List ℕ → ℤ) → List ℕ → Int
-int_field f b = cond (is_short b) (Int.Refused ShortRecord) (Int.Number (f b))
+abbrev pub int_field : (List ℕ → ℤ) → List ℕ → Answer ℤ
+int_field f b = cond (is_short b) (Err ShortRecord) (Ok (f b))
 
-abbrev pub nat_field : (List ℕ → ℕ) → List ℕ → Nat
-nat_field f b = cond (is_short b) (Nat.Refused ShortRecord) (Nat.Number (f b))
+abbrev pub nat_field : (List ℕ → ℕ) → List ℕ → Answer ℕ
+nat_field f b = cond (is_short b) (Err ShortRecord) (Ok (f b))
 
 -- a position, counted from 0
-abbrev pub pos_field : (List ℕ → ℤ) → List ℕ → Place0
-pos_field f b = cond (is_short b) (Place0.Refused ShortRecord) (Place0.At (record { 0 = f b }))
+abbrev pub pos_field : (List ℕ → ℤ) → List ℕ → Answer Pos0
+pos_field f b = cond (is_short b) (Err ShortRecord) (Ok (record { 0 = f b }))
 
 -- where the ops lie, 0 and 0 where their area ends past the record
 unfoldable pub cigar_area : List ℕ → Area

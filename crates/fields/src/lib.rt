@@ -5,7 +5,7 @@ ghost use Rattle.std.specs.Prelude.{◌≡◌, ◌≤◌, length};
 ghost use Rattle.sam.specs.Record.{int32, ref_id_of, pos_of, name_len_of, stored_bin_of, op_count_of, flags_of, seq_len_of, mate_ref_id_of, mate_pos_of, template_len_of, is_paired, is_unmapped, is_mate_unmapped, is_reverse, is_mate_reverse, le16};
 ghost use Rattle.fields.specs.Fields.{int_field, nat_field, pos_field, cigar_part, part_refusal, cigar_area};
 
-use answers::{Int, Nat, Place0, Pos0, Refusal};
+use answers::{Answer, Pos0, Refusal};
 
 // The bits of the flag.
 pub const PAIRED: u32 = 1;
@@ -32,24 +32,24 @@ pub struct Part<'a> {
     pub part: &'a [u8],
 }
 
-fn int_field(bam: &[u8], at: usize) -> Int
+fn int_field(bam: &[u8], at: usize) -> Answer<i32>
     requires { at ≤ 28 }
     ensures { result ≡ int_field (λ b. int32 b at) bam.now }
 {
     if bam.len() < 32 {
-        return Int::Refused(Refusal::ShortRecord);
+        return Err(Refusal::ShortRecord);
     }
-    Int::Number(little_endian::i32_at(bam, at))
+    Ok(little_endian::i32_at(bam, at))
 }
 
-fn nat_field(bam: &[u8], at: usize) -> Nat
+fn nat_field(bam: &[u8], at: usize) -> Answer<u32>
     requires { at ≤ 30 }
     ensures { result ≡ nat_field (λ b. le16 b at) bam.now }
 {
     if bam.len() < 32 {
-        return Nat::Refused(Refusal::ShortRecord);
+        return Err(Refusal::ShortRecord);
     }
-    Nat::Number(little_endian::u16_at(bam, at))
+    Ok(little_endian::u16_at(bam, at))
 }
 
 // A record's position, for callers that have tested its length.
@@ -68,73 +68,73 @@ pub fn mate_place(bam: &[u8]) -> Pos0
     Pos0(little_endian::i32_at(bam, 24))
 }
 
-pub fn ref_id(bam: &[u8]) -> Int
+pub fn ref_id(bam: &[u8]) -> Answer<i32>
     ensures { result ≡ int_field ref_id_of bam.now }
 {
     int_field(bam, 0)
 }
 
-pub fn pos(bam: &[u8]) -> Place0
+pub fn pos(bam: &[u8]) -> Answer<Pos0>
     ensures { result ≡ pos_field pos_of bam.now }
 {
     if bam.len() < 32 {
-        return Place0::Refused(Refusal::ShortRecord);
+        return Err(Refusal::ShortRecord);
     }
-    Place0::At(own_place(bam))
+    Ok(own_place(bam))
 }
 
-pub fn l_read_name(bam: &[u8]) -> Nat
+pub fn l_read_name(bam: &[u8]) -> Answer<u32>
     ensures { result ≡ nat_field name_len_of bam.now }
 {
     if bam.len() < 32 {
-        return Nat::Refused(Refusal::ShortRecord);
+        return Err(Refusal::ShortRecord);
     }
-    Nat::Number(little_endian::u8_at(bam, 8))
+    Ok(little_endian::u8_at(bam, 8))
 }
 
-pub fn bin(bam: &[u8]) -> Nat
+pub fn bin(bam: &[u8]) -> Answer<u32>
     ensures { result ≡ nat_field stored_bin_of bam.now }
 {
     nat_field(bam, 10)
 }
 
-pub fn n_cigar_op(bam: &[u8]) -> Nat
+pub fn n_cigar_op(bam: &[u8]) -> Answer<u32>
     ensures { result ≡ nat_field op_count_of bam.now }
 {
     nat_field(bam, 12)
 }
 
-pub fn flags(bam: &[u8]) -> Nat
+pub fn flags(bam: &[u8]) -> Answer<u32>
     ensures { result ≡ nat_field flags_of bam.now }
 {
     nat_field(bam, 14)
 }
 
-pub fn l_seq(bam: &[u8]) -> Nat
+pub fn l_seq(bam: &[u8]) -> Answer<u32>
     ensures { result ≡ nat_field seq_len_of bam.now }
 {
     if bam.len() < 32 {
-        return Nat::Refused(Refusal::ShortRecord);
+        return Err(Refusal::ShortRecord);
     }
-    Nat::Number(little_endian::u32_at(bam, 16))
+    Ok(little_endian::u32_at(bam, 16))
 }
 
-pub fn mate_ref_id(bam: &[u8]) -> Int
+pub fn mate_ref_id(bam: &[u8]) -> Answer<i32>
     ensures { result ≡ int_field mate_ref_id_of bam.now }
 {
     int_field(bam, 20)
 }
 
-pub fn mate_pos(bam: &[u8]) -> Place0
+pub fn mate_pos(bam: &[u8]) -> Answer<Pos0>
     ensures { result ≡ pos_field mate_pos_of bam.now }
 {
     if bam.len() < 32 {
-        return Place0::Refused(Refusal::ShortRecord);
+        return Err(Refusal::ShortRecord);
     }
-    Place0::At(mate_place(bam))
+    Ok(mate_place(bam))
 }
 
-pub fn template_length(bam: &[u8]) -> Int
+pub fn template_length(bam: &[u8]) -> Answer<i32>
     ensures { result ≡ int_field template_len_of bam.now }
 {
     int_field(bam, 28)

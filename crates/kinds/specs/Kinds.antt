@@ -1,13 +1,13 @@
 -- Document 01, module 2: the kinds are M I D N S H P = X; "`kind` calls them `Pad`", the codes 9 to 15.
 use Rattle.std.specs.Prelude.{ℕ, cond, List, [], ◌∷◌, pos, get_or, ltb, eqb}
+use Rattle.std.specs.Prelude.{Err, None, Ok, Option, Some}
+use Rattle.answers.specs.Answer.{Answer}
+use Rattle.kinds.specs.declared.CigarOp.{CigarOp}
 use Rattle.sam.specs.Op.{op_of, letters}
 use Rattle.answers.specs.Answers.{Told, answered, refused, some, none}
 use Rattle.answers.specs.declared.Refusal.TheVariants.{BadLength}
 use Rattle.kinds.specs.declared.CigarKind.{CigarKind}
 use Rattle.kinds.specs.declared.CigarKind.TheVariants.{Match, Insertion, Deletion, Skip, SoftClip, HardClip, Pad, SequenceMatch, SequenceMismatch}
-use Rattle.kinds.specs.declared.KindFound.{KindFound}
-use Rattle.kinds.specs.declared.KindFound.TheVariants.{Kind, Nothing}
-use Rattle.kinds.specs.declared.NewOp.{NewOp}
 
 -- the nine kinds, by code
 abbrev pub code_of_kind : CigarKind → ℕ
@@ -32,17 +32,17 @@ abbrev pub letter_of_kind : CigarKind → ℕ
 letter_of_kind k = get_or letters (code_of_kind k) 0
 
 -- `from_op_type` takes its argument whole
-unfoldable pub from_op_type : ℕ → KindFound
-from_op_type v = cond (ltb 8 v) Nothing (Kind (kind_of v))
+unfoldable pub from_op_type : ℕ → Option CigarKind
+from_op_type v = cond (ltb 8 v) None (Some (kind_of v))
 
-abbrev pub tell_kind : KindFound → Told
-tell_kind (Kind k) = answered (some (pos (code_of_kind k)))
-tell_kind Nothing = answered none
+abbrev pub tell_kind : Option CigarKind → Told
+tell_kind (Some k) = answered (some (pos (code_of_kind k)))
+tell_kind None = answered none
 
 -- `CigarOp::new`: refusal 10 for length 0 or above 268,435,455
-unfoldable pub new_op : CigarKind → ℕ → NewOp
-new_op k n = cond (eqb n 0) (NewOp.Refused BadLength) (cond (ltb 268435455 n) (NewOp.Refused BadLength) (NewOp.Op (record { 0 = op_of n (code_of_kind k) })))
+unfoldable pub new_op : CigarKind → ℕ → Answer CigarOp
+new_op k n = cond (eqb n 0) (Err BadLength) (cond (ltb 268435455 n) (Err BadLength) (Ok (record { 0 = op_of n (code_of_kind k) })))
 
-abbrev pub tell_op : NewOp → Told
-tell_op (NewOp.Op o) = answered (pos o.0 ∷ [])
-tell_op (NewOp.Refused r) = refused r
+abbrev pub tell_op : Answer CigarOp → Told
+tell_op (Ok o) = answered (pos o.0 ∷ [])
+tell_op (Err r) = refused r

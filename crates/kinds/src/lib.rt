@@ -6,7 +6,7 @@ ghost use Rattle.sam.specs.Op.{len_of, code_of, is_ref, is_query};
 ghost use Rattle.ops.specs.Ops.{letter_of};
 ghost use Rattle.kinds.specs.Kinds.{code_of_kind, letter_of_kind, from_op_type, kind_of, new_op};
 
-use answers::Refusal;
+use answers::{Answer, Refusal};
 
 #[derive(Clone, Copy)]
 pub enum CigarKind {
@@ -21,23 +21,9 @@ pub enum CigarKind {
     SequenceMismatch,
 }
 
-// The kind of a code, or none.
-#[derive(Clone, Copy)]
-pub enum KindFound {
-    Kind(CigarKind),
-    Nothing,
-}
-
 // An op as a record holds it: its length times 16 plus its code.
 #[derive(Clone, Copy)]
 pub struct CigarOp(u32);
-
-// An op, or refusal 10.
-#[derive(Clone, Copy)]
-pub enum NewOp {
-    Op(CigarOp),
-    Refused(Refusal),
-}
 
 impl CigarKind {
     // The op's letter.
@@ -75,15 +61,15 @@ impl CigarKind {
     }
 
     // The kind of a code, taken whole: none above 8.
-    pub fn from_op_type(v: u32) -> KindFound
+    pub fn from_op_type(v: u32) -> Option<CigarKind>
         ensures { result ≡ from_op_type v }
     {
         if 8 < v {
-            return KindFound::Nothing;
+            return None;
         }
         let n = named(v);
         let kind = n.kind;
-        KindFound::Kind(kind)
+        Some(kind)
     }
 }
 
@@ -98,16 +84,16 @@ impl CigarOp {
     }
 
     // Refusal 10 for length 0 or above the largest.
-    pub fn new(kind: CigarKind, len: u32) -> NewOp
+    pub fn new(kind: CigarKind, len: u32) -> Answer<CigarOp>
         ensures { result ≡ new_op kind len }
     {
         if len == 0 {
-            return NewOp::Refused(Refusal::BadLength);
+            return Err(Refusal::BadLength);
         }
         if CigarOp::MAX_LEN < len {
-            return NewOp::Refused(Refusal::BadLength);
+            return Err(Refusal::BadLength);
         }
-        NewOp::Op(CigarOp(len * 16 + kind.code()))
+        Ok(CigarOp(len * 16 + kind.code()))
     }
 
     pub fn raw(self) -> u32

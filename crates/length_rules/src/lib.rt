@@ -19,8 +19,3 @@ pub struct RecordLengths {
     pub trailing: Clips,
 }
 
-#[derive(Clone, Copy)]
-pub enum Lengths {
-    Are(RecordLengths),
-    Refused(Refusal),
-}

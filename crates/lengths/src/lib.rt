@@ -4,111 +4,111 @@
 ghost use Rattle.std.specs.Prelude.{◌≡◌, ◌≤◌};
 ghost use Rattle.length_rules.specs.Lengths.{ref_length_up_to, query_length_up_to, ref_length, query_length, long_ref_length, long_query_length, saturated_length, checked_ref_length, record_query_length, record_lengths};
 
-use answers::{Count, Int, Refusal};
-use length_rules::Lengths;
+use answers::{Answer, Refusal};
+use length_rules::RecordLengths;
 
 // The reference length of a lent list of at most `limit` ops. Refusals 3 and 4.
-fn reference_length_up_to(limit: usize, cigar: &[u32]) -> Int
+fn reference_length_up_to(limit: usize, cigar: &[u32]) -> Answer<i32>
     requires { limit ≤ 4294967295 }
     ensures { result ≡ ref_length_up_to limit cigar.now }
 {
     if limit < cigar.len() {
-        return Int::Refused(Refusal::TooManyOps);
+        return Err(Refusal::TooManyOps);
     }
     let total = op_sums::sums(cigar, &[], oplist::lent(cigar));
     op_sums::as_int(total.refs)
 }
 
 // The query length of a lent list of at most `limit` ops. Refusal 3.
-fn query_length_up_to(limit: usize, cigar: &[u32]) -> Count
+fn query_length_up_to(limit: usize, cigar: &[u32]) -> Answer<u64>
     requires { limit ≤ 4294967295 }
     ensures { result ≡ query_length_up_to limit cigar.now }
 {
     if limit < cigar.len() {
-        return Count::Refused(Refusal::TooManyOps);
+        return Err(Refusal::TooManyOps);
     }
     let total = op_sums::sums(cigar, &[], oplist::lent(cigar));
-    Count::Number(total.query)
+    Ok(total.query)
 }
 
 // The reference length of a lent list. Refusals 3 and 4.
-pub fn reference_length_from_cigar(cigar: &[u32]) -> Int
+pub fn reference_length_from_cigar(cigar: &[u32]) -> Answer<i32>
     ensures { result ≡ ref_length cigar.now }
 {
     reference_length_up_to(oplist::MOST_OPS, cigar)
 }
 
 // The same of a long list.
-pub fn long_reference_length_from_cigar(cigar: &[u32]) -> Int
+pub fn long_reference_length_from_cigar(cigar: &[u32]) -> Answer<i32>
     ensures { result ≡ long_ref_length cigar.now }
 {
     reference_length_up_to(oplist::MOST_LONG_OPS, cigar)
 }
 
 // The query length of a lent list. Refusal 3.
-pub fn query_length_from_cigar(cigar: &[u32]) -> Count
+pub fn query_length_from_cigar(cigar: &[u32]) -> Answer<u64>
     ensures { result ≡ query_length cigar.now }
 {
     query_length_up_to(oplist::MOST_OPS, cigar)
 }
 
 // The same of a long list.
-pub fn long_query_length_from_cigar(cigar: &[u32]) -> Count
+pub fn long_query_length_from_cigar(cigar: &[u32]) -> Answer<u64>
     ensures { result ≡ long_query_length cigar.now }
 {
     query_length_up_to(oplist::MOST_LONG_OPS, cigar)
 }
 
 // The reference length of a lent list, at most 2^31 - 1. Refusal 3.
-pub fn saturating_reference_length(cigar: &[u32]) -> Int
+pub fn saturating_reference_length(cigar: &[u32]) -> Answer<i32>
     ensures { result ≡ saturated_length cigar.now }
 {
     if oplist::MOST_OPS < cigar.len() {
-        return Int::Refused(Refusal::TooManyOps);
+        return Err(Refusal::TooManyOps);
     }
     let total = op_sums::sums(cigar, &[], oplist::lent(cigar));
-    Int::Number(op_sums::saturated(total.refs))
+    Ok(op_sums::saturated(total.refs))
 }
 
 // A record's reference length. Refusals 1, 2 and 4.
-pub fn reference_length_from_raw_bam_checked(bam: &[u8]) -> Int
+pub fn reference_length_from_raw_bam_checked(bam: &[u8]) -> Answer<i32>
     ensures { result ≡ checked_ref_length bam.now }
 {
     if bam.len() < 32 {
-        return Int::Refused(Refusal::ShortRecord);
+        return Err(Refusal::ShortRecord);
     }
     let list = oplist::of_record(bam);
     if !oplist::inside(bam, list) {
-        return Int::Refused(Refusal::AreaOverrun);
+        return Err(Refusal::AreaOverrun);
     }
     let total = op_sums::sums(&[], bam, list);
     op_sums::as_int(total.refs)
 }
 
 // The same. Ends, bins and pair tests ask this one, as in the Rust, and pass a refusal on.
-pub fn reference_length_from_raw_bam(bam: &[u8]) -> Int
+pub fn reference_length_from_raw_bam(bam: &[u8]) -> Answer<i32>
     ensures { result ≡ checked_ref_length bam.now }
 {
     reference_length_from_raw_bam_checked(bam)
 }
 
 // A record's query length. Refusal 1.
-pub fn query_length(bam: &[u8]) -> Count
+pub fn query_length(bam: &[u8]) -> Answer<u64>
     ensures { result ≡ record_query_length bam.now }
 {
     if bam.len() < 32 {
-        return Count::Refused(Refusal::ShortRecord);
+        return Err(Refusal::ShortRecord);
     }
     let total = op_sums::sums(&[], bam, oplist::of_record(bam));
-    Count::Number(total.query)
+    Ok(total.query)
 }
 
 // A record's lengths and the clips at its ends. Refusals 1 and 4.
-pub fn cigar_lengths(bam: &[u8]) -> Lengths
+pub fn cigar_lengths(bam: &[u8]) -> Answer<RecordLengths>
     ensures { result ≡ record_lengths bam.now }
 {
     if bam.len() < 32 {
-        return Lengths::Refused(Refusal::ShortRecord);
+        return Err(Refusal::ShortRecord);
     }
     list_lengths::list_lengths(bam, oplist::of_record(bam))
 }

@@ -1,5 +1,7 @@
 -- The line by its three ways: the printing refuses, a later call refuses, or all answer; and a part of memory that was printed into.
 use Prim.Native.Nat.{ℕ, suc, ◌+◌, ◌≤◌, ◌<◌}
+use Rattle.std.specs.Prelude.{Err, Ok}
+use Rattle.answers.specs.Answer.{Answer}
 use mathlib.Core.Path.{◌≡◌, refl, sym, ap, ◌∙◌}
 use mathlib.Core.Bool.{Bool, true, false}
 use mathlib.Core.List.{List, [], ◌∷◌, ◌++◌, append_assoc}
@@ -20,9 +22,6 @@ use Rattle.answers.specs.Settled.{Settled}
 use Rattle.answers.specs.declared.Refusal.{Refusal}
 use Rattle.answers.specs.declared.Refusal.TheVariants.{ShortRecord, AreaOverrun, Overflow}
 use Rattle.answers.specs.declared.Pos1.{Pos1}
-use Rattle.answers.specs.declared.Int.{Int}
-use Rattle.answers.specs.declared.Nat.{Nat}
-use Rattle.answers.specs.declared.Count.{Count}
 use Rattle.decimal.specs.Decimal.{decimal}
 use Rattle.print_rules.specs.Text.{text_of, printed}
 use Rattle.length_rules.specs.Lengths.{as_int, checked_ref_length}
@@ -34,7 +33,6 @@ use Rattle.put_text.proofs.PutLaws.{put_then, put_as, put_dropped}
 use Rattle.line_rules.specs.Line.{text_room, text_told, refs_told, five_told, bin_told, refusal_of, shown, or_star, or_dot, length_mark, tabbed, refused_fields, line_of}
 use Rattle.line_rules.specs.Inner.{with_bin, row_of, figures_of, row_fields}
 use Rattle.line_rules.specs.declared.LineRow.{LineRow}
-use Rattle.line_rules.specs.declared.Figures.TheVariants as Figures
 use Rattle.answers.proofs.Numbers.{not-zero}
 use Rattle.line_rules.proofs.OrderLaws.{any_room, text_refused, text_shown, first_given, query_is, refusal_long, refusal_short}
 
@@ -98,23 +96,23 @@ pub record TextAt (b d : List ℕ) (at from n : ℕ) (d' : List ℕ) : Type 0 wh
   pub long : 32 ≤ length b
   pub count : n ≡ length (text_of (record_ops b))
   pub fits : n ≤ 65536
-  pub told : (printed b text_room).answer ≡ Count.Number (length (text_of (record_ops b)))
+  pub told : (printed b text_room).answer ≡ Ok (length (text_of (record_ops b)))
   pub put : Put d at (9 ∷ text_of (record_ops b)) (from + n) d'
 
-module _ (b d d₁ ys : List ℕ) (at from w : ℕ) (r : Count) (p : Put d at (9 ∷ []) from d₁) (q : Settled (printed b (mid_of from w d₁)) r ys) (e : w ≡ 65536) (f : from + 65536 ≤ length d₁) where
+module _ (b d d₁ ys : List ℕ) (at from w : ℕ) (r : Answer ℕ) (p : Put d at (9 ∷ []) from d₁) (q : Settled (printed b (mid_of from w d₁)) r ys) (e : w ≡ 65536) (f : from + 65536 ≤ length d₁) where
   room : length (mid_of from w d₁) ≡ 65536
   room = length-take w (drop from d₁) ∙ (let l = length-drop from d₁ in omega arith)
 
   answer : (printed b text_room).answer ≡ r
   answer = sym (any_room b (mid_of from w d₁) room) ∙ sym q.answer
 
-  pub no_text : (why : Refusal) → r ≡ Count.Refused why → ((printed b text_room).answer ≡ Count.Refused why) × Put d at [] at (put_mid from w d₁ ys)
+  pub no_text : (why : Refusal) → r ≡ Err why → ((printed b text_room).answer ≡ Err why) × Put d at [] at (put_mid from w d₁ ys)
   no_text why g =
       let k : put_mid from w d₁ ys ≡ d₁ =
       ap (put_mid from w d₁) (q.memory ∙ text_refused b (mid_of from w d₁) why (sym q.answer ∙ g)) ∙ put_same from w d₁ in
       (answer ∙ g, put_dropped (9 ∷ []) (omega (arith, p.next, p.same)) (put_as (9 ∷ []) refl refl (sym k) p))
 
-  pub a_text : (n : ℕ) → r ≡ Count.Number n → TextAt b d at from n (put_mid from w d₁ ys)
+  pub a_text : (n : ℕ) → r ≡ Ok n → TextAt b d at from n (put_mid from w d₁ ys)
   a_text n g =
       let s = text_shown b (mid_of from w d₁) n (sym q.answer ∙ g) in
       let t = text_of (record_ops b) in
@@ -122,7 +120,7 @@ module _ (b d d₁ ys : List ℕ) (at from w : ℕ) (r : Count) (p : Put d at (9
         long = s.long;
         count = k;
         fits = omega (arith, s.fits, room);
-        told = answer ∙ g ∙ ap Count.Number k;
+        told = answer ∙ g ∙ ap Ok k;
         put = put_as (9 ∷ t) refl (ap (λ (i : ℕ). from + i) (sym k)) refl (put_then (9 ∷ []) t p (put_part d₁ from w t ys (q.memory ∙ s.left) (omega (arith, s.fits)) (omega arith)));
       }
 
@@ -132,104 +130,104 @@ refused_line : (n : ℕ) (b : List ℕ) (w : Refusal) → refusal_of b ≡ numbe
 unfolding line_of
 refused_line n b w e = rw (e, not-zero w)
 
-text_refusal : (b : List ℕ) (w : Refusal) → (printed b text_room).answer ≡ Count.Refused w → refusal_of b ≡ number_of w
+text_refusal : (b : List ℕ) (w : Refusal) → (printed b text_room).answer ≡ Err w → refusal_of b ≡ number_of w
 unfolding text_told printed
 text_refusal b w e = go (is_short b) refl
   where
     t : (text_told b).number ≡ number_of w
-    t = ap (λ (x : Count). (tell_count x).number) e
+    t = ap (λ (x : Answer ℕ). (tell_count x).number) e
 
     go : (s : Bool) → is_short b ≡ s → refusal_of b ≡ number_of w
     go true q =
-        let f : Count.Refused ShortRecord ≡ Count.Refused w = rw q at e in
+        let f : Err ShortRecord ≡ Err w = rw q at e in
         let g : ShortRecord ≡ w = cc in
         refusal_short b (t ∙ ap number_of (sym g)) ∙ ap number_of g
     go false q = refusal_long b (ltb-false (length b) 32 q) ∙ rw (t, not-zero w)
 
-pub line_no_text : (n : ℕ) (b : List ℕ) (w : Refusal) → (printed b text_room).answer ≡ Count.Refused w → line_of n b ≡ decimal n ++ tabbed (refused_fields (number_of w))
+pub line_no_text : (n : ℕ) (b : List ℕ) (w : Refusal) → (printed b text_room).answer ≡ Err w → line_of n b ≡ decimal n ++ tabbed (refused_fields (number_of w))
 line_no_text n b w e = refused_line n b w (text_refusal b w e)
 
 -- ---- the figures
 
 module _ (b : List ℕ) (h : 32 ≤ length b) where
-  pub refs_overrun : length b < ops_end b → checked_ref_length b ≡ Int.Refused AreaOverrun
+  pub refs_overrun : length b < ops_end b → checked_ref_length b ≡ Err AreaOverrun
   unfolding checked_ref_length
   refs_overrun k = simp (le-ltb _ _ h, lt-ltb (length b) (ops_end b) k)
 
-  pub refs_over : ops_end b ≤ length b → 2147483647 < sum_of ref_len (record_ops b) → checked_ref_length b ≡ Int.Refused Overflow
+  pub refs_over : ops_end b ≤ length b → 2147483647 < sum_of ref_len (record_ops b) → checked_ref_length b ≡ Err Overflow
   unfolding checked_ref_length as_int
   refs_over k o = simp (le-ltb _ _ h, le-ltb (length b) (ops_end b) k, lt-ltb 2147483647 (sum_of ref_len (record_ops b)) o)
 
-  pub refs_are : ops_end b ≤ length b → sum_of ref_len (record_ops b) ≤ 2147483647 → checked_ref_length b ≡ Int.Number (pos (sum_of ref_len (record_ops b)))
+  pub refs_are : ops_end b ≤ length b → sum_of ref_len (record_ops b) ≤ 2147483647 → checked_ref_length b ≡ Ok (pos (sum_of ref_len (record_ops b)))
   unfolding checked_ref_length as_int
   refs_are k o = simp (le-ltb _ _ h, le-ltb (length b) (ops_end b) k, le-ltb 2147483647 (sum_of ref_len (record_ops b)) o)
 
-pub figures_are : (b : List ℕ) (i : Int) (q : ℕ) (u : Unclipped) (k : Nat) (l : ℕ) → checked_ref_length b ≡ i → sum_of query_len (record_ops b) ≡ q → unclipped_of b ≡ u → record_bin b ≡ k → seq_len_of b ≡ l
+pub figures_are : (b : List ℕ) (i : Answer ℤ) (q : ℕ) (u : Unclipped) (k : Answer ℕ) (l : ℕ) → checked_ref_length b ≡ i → sum_of query_len (record_ops b) ≡ q → unclipped_of b ≡ u → record_bin b ≡ k → seq_len_of b ≡ l
     → figures_of b ≡ row_of i q u k (length_mark q l)
 unfolding figures_of
 figures_are b i q u k l e f g h m = cc
 
 -- past the position only the bin can refuse
 module _ (z : ℤ) (q : ℕ) (u : Unclipped) (s : ℕ) where
-  bin_refused : (k : Nat) (w : Refusal) → with_bin z q u k s ≡ Figures.Refused w → (tell_nat k).number ≡ number_of w
-  bin_refused (Nat.Refused r) w e = let g : r ≡ w = cc in ap number_of g
-  bin_refused (Nat.Number m) w e = never (cc)
+  bin_refused : (k : Answer ℕ) (w : Refusal) → with_bin z q u k s ≡ Err w → (tell_nat k).number ≡ number_of w
+  bin_refused (Err r) w e = let g : r ≡ w = cc in ap number_of g
+  bin_refused (Ok m) w e = never (cc)
 
-  bin_given : (k : Nat) (w : LineRow) → with_bin z q u k s ≡ Figures.Row w → (tell_nat k).number ≡ 0
-  bin_given (Nat.Refused r) w e = never (cc)
-  bin_given (Nat.Number m) w e = refl
+  bin_given : (k : Answer ℕ) (w : LineRow) → with_bin z q u k s ≡ Ok w → (tell_nat k).number ≡ 0
+  bin_given (Err r) w e = never (cc)
+  bin_given (Ok m) w e = refl
 
-  bin_shown : (k : Nat) (w : LineRow) → with_bin z q u k s ≡ Figures.Row w → signed_decimal z ∷ decimal q ∷ or_dot u ∷ shown (tell_nat k) ∷ (s ∷ []) ∷ [] ≡ row_fields w
+  bin_shown : (k : Answer ℕ) (w : LineRow) → with_bin z q u k s ≡ Ok w → signed_decimal z ∷ decimal q ∷ or_dot u ∷ shown (tell_nat k) ∷ (s ∷ []) ∷ [] ≡ row_fields w
   unfolding signed_decimal
-  bin_shown (Nat.Refused r) w e = never (cc)
-  bin_shown (Nat.Number m) w e =
+  bin_shown (Err r) w e = never (cc)
+  bin_shown (Ok m) w e =
       let g : ◌≡◌ {A = LineRow} (record { refs = z; query = q; five = u; bin = m; mark = s }) w = cc in ap row_fields g
 
-row_refused : (i : Int) (q : ℕ) (u : Unclipped) (k : Nat) (s : ℕ) (w : Refusal) → row_of i q u k s ≡ Figures.Refused w
+row_refused : (i : Answer ℤ) (q : ℕ) (u : Unclipped) (k : Answer ℕ) (s : ℕ) (w : Refusal) → row_of i q u k s ≡ Err w
     → first_given 0 (tell_int i).number (tell_unclipped u).number (tell_nat k).number ≡ number_of w
 unfolding row_of
-row_refused (Int.Refused r) q u k s w e = let g : r ≡ w = cc in rw (not-zero r) (ap number_of g)
-row_refused (Int.Number z) q (Unclipped.Refused r) k s w e = let g : r ≡ w = cc in rw (not-zero r) (ap number_of g)
-row_refused (Int.Number z) q (Unclipped.At p) k s w e = bin_refused z q (Unclipped.At p) s k w e
-row_refused (Int.Number z) q Unclipped.Unmapped k s w e = bin_refused z q Unclipped.Unmapped s k w e
-row_refused (Int.Number z) q Unclipped.NoOps k s w e = bin_refused z q Unclipped.NoOps s k w e
+row_refused (Err r) q u k s w e = let g : r ≡ w = cc in rw (not-zero r) (ap number_of g)
+row_refused (Ok z) q (Unclipped.Refused r) k s w e = let g : r ≡ w = cc in rw (not-zero r) (ap number_of g)
+row_refused (Ok z) q (Unclipped.At p) k s w e = bin_refused z q (Unclipped.At p) s k w e
+row_refused (Ok z) q Unclipped.Unmapped k s w e = bin_refused z q Unclipped.Unmapped s k w e
+row_refused (Ok z) q Unclipped.NoOps k s w e = bin_refused z q Unclipped.NoOps s k w e
 
-row_given : (i : Int) (q : ℕ) (u : Unclipped) (k : Nat) (s : ℕ) (w : LineRow) → row_of i q u k s ≡ Figures.Row w
+row_given : (i : Answer ℤ) (q : ℕ) (u : Unclipped) (k : Answer ℕ) (s : ℕ) (w : LineRow) → row_of i q u k s ≡ Ok w
     → first_given 0 (tell_int i).number (tell_unclipped u).number (tell_nat k).number ≡ 0
 unfolding row_of
-row_given (Int.Refused r) q u k s w e = never (cc)
-row_given (Int.Number z) q (Unclipped.Refused r) k s w e = never (cc)
-row_given (Int.Number z) q (Unclipped.At p) k s w e = bin_given z q (Unclipped.At p) s k w e
-row_given (Int.Number z) q Unclipped.Unmapped k s w e = bin_given z q Unclipped.Unmapped s k w e
-row_given (Int.Number z) q Unclipped.NoOps k s w e = bin_given z q Unclipped.NoOps s k w e
+row_given (Err r) q u k s w e = never (cc)
+row_given (Ok z) q (Unclipped.Refused r) k s w e = never (cc)
+row_given (Ok z) q (Unclipped.At p) k s w e = bin_given z q (Unclipped.At p) s k w e
+row_given (Ok z) q Unclipped.Unmapped k s w e = bin_given z q Unclipped.Unmapped s k w e
+row_given (Ok z) q Unclipped.NoOps k s w e = bin_given z q Unclipped.NoOps s k w e
 
-row_shown : (i : Int) (q : ℕ) (u : Unclipped) (k : Nat) (s : ℕ) (w : LineRow) → row_of i q u k s ≡ Figures.Row w
+row_shown : (i : Answer ℤ) (q : ℕ) (u : Unclipped) (k : Answer ℕ) (s : ℕ) (w : LineRow) → row_of i q u k s ≡ Ok w
     → shown (tell_int i) ∷ decimal q ∷ or_dot u ∷ shown (tell_nat k) ∷ (s ∷ []) ∷ [] ≡ row_fields w
 unfolding row_of
-row_shown (Int.Refused r) q u k s w e = never (cc)
-row_shown (Int.Number z) q (Unclipped.Refused r) k s w e = never (cc)
-row_shown (Int.Number z) q (Unclipped.At p) k s w e = bin_shown z q (Unclipped.At p) s k w e
-row_shown (Int.Number z) q Unclipped.Unmapped k s w e = bin_shown z q Unclipped.Unmapped s k w e
-row_shown (Int.Number z) q Unclipped.NoOps k s w e = bin_shown z q Unclipped.NoOps s k w e
+row_shown (Err r) q u k s w e = never (cc)
+row_shown (Ok z) q (Unclipped.Refused r) k s w e = never (cc)
+row_shown (Ok z) q (Unclipped.At p) k s w e = bin_shown z q (Unclipped.At p) s k w e
+row_shown (Ok z) q Unclipped.Unmapped k s w e = bin_shown z q Unclipped.Unmapped s k w e
+row_shown (Ok z) q Unclipped.NoOps k s w e = bin_shown z q Unclipped.NoOps s k w e
 
 -- past the test for a refusal
-pub row-past : (z : ℤ) (q : ℕ) (u : Unclipped) (k : Nat) (s : ℕ) → ((r : Refusal) → u ≡ Unclipped.Refused r → ⊥) → with_bin z q u k s ≡ row_of (Int.Number z) q u k s
+pub row-past : (z : ℤ) (q : ℕ) (u : Unclipped) (k : Answer ℕ) (s : ℕ) → ((r : Refusal) → u ≡ Unclipped.Refused r → ⊥) → with_bin z q u k s ≡ row_of (Ok z) q u k s
 unfolding row_of
 row-past z q (Unclipped.At p) k s h = refl
 row-past z q Unclipped.Unmapped k s h = refl
 row-past z q Unclipped.NoOps k s h = refl
 row-past z q (Unclipped.Refused r) k s h = absurd (h r refl)
 
-module _ (n : ℕ) (b : List ℕ) (h : 32 ≤ length b) (k : ℕ) (e : (printed b text_room).answer ≡ Count.Number k) where
+module _ (n : ℕ) (b : List ℕ) (h : 32 ≤ length b) (k : ℕ) (e : (printed b text_room).answer ≡ Ok k) where
   given : refusal_of b ≡ first_given 0 (refs_told b).number (five_told b).number (bin_told b).number
   unfolding text_told
-  given = refusal_long b h ∙ ap (λ (x : Count). first_given (tell_count x).number (refs_told b).number (five_told b).number (bin_told b).number) e
+  given = refusal_long b h ∙ ap (λ (x : Answer ℕ). first_given (tell_count x).number (refs_told b).number (five_told b).number (bin_told b).number) e
 
-  pub line_no_row : (w : Refusal) → figures_of b ≡ Figures.Refused w → line_of n b ≡ decimal n ++ tabbed (refused_fields (number_of w))
+  pub line_no_row : (w : Refusal) → figures_of b ≡ Err w → line_of n b ≡ decimal n ++ tabbed (refused_fields (number_of w))
   unfolding figures_of
   line_no_row w f = refused_line n b w (given ∙ row_refused (checked_ref_length b) _ (unclipped_of b) (record_bin b) _ w f)
 
-  pub line_row : (w : LineRow) → figures_of b ≡ Figures.Row w → line_of n b ≡ decimal n ++ ((9 ∷ or_star (text_of (record_ops b))) ++ tabbed (row_fields w))
+  pub line_row : (w : LineRow) → figures_of b ≡ Ok w → line_of n b ≡ decimal n ++ ((9 ∷ or_star (text_of (record_ops b))) ++ tabbed (row_fields w))
   unfolding figures_of line_of tabbed signed_decimal
   line_row w f =
       let z : refusal_of b ≡ 0 = given ∙ row_given (checked_ref_length b) _ (unclipped_of b) (record_bin b) _ w f in

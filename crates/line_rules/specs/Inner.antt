@@ -1,12 +1,11 @@
 -- What the inner functions of the line promise. Document 01's rule is `Line`.
 use Rattle.std.specs.Prelude.{ℕ, ◌+◌, ◌≤◌, ◌≡◌, List, [], ◌∷◌, ℤ, length}
+use Rattle.std.specs.Prelude.{Err, Ok}
+use Rattle.answers.specs.Answer.{Answer}
 use Rattle.lists.specs.Lists.{sum_of}
 use Rattle.sam.specs.Op.{query_len}
 use Rattle.sam.specs.Record.{seq_len_of}
 use Rattle.oplist.specs.Ops.{record_ops}
-use Rattle.answers.specs.declared.Int.{Int}
-use Rattle.answers.specs.declared.Nat.{Nat}
-use Rattle.answers.specs.declared.Count.TheVariants as Count
 use Rattle.length_rules.specs.Lengths.{checked_ref_length}
 use Rattle.ends_rules.specs.Ends.{unclipped_of}
 use Rattle.ends_rules.specs.declared.Unclipped.{Unclipped}
@@ -16,23 +15,21 @@ use Rattle.print_rules.specs.Text.{text_of, printed}
 use Rattle.put_text.specs.Puts.{Put, signed_decimal}
 use Rattle.line_rules.specs.Line.{text_room, or_star, or_dot, length_mark}
 use Rattle.line_rules.specs.declared.LineRow.{LineRow}
-use Rattle.line_rules.specs.declared.Figures.{Figures}
-use Rattle.line_rules.specs.declared.Text.{Text}
 
 -- the figures with the bin, or why there is none
-abbrev pub with_bin : ℤ → ℕ → Unclipped → Nat → ℕ → Figures
-with_bin z q u (Nat.Refused r) m = Figures.Refused r
-with_bin z q u (Nat.Number k) m = Figures.Row (record { refs = z; query = q; five = u; bin = k; mark = m })
+abbrev pub with_bin : ℤ → ℕ → Unclipped → Answer ℕ → ℕ → Answer LineRow
+with_bin z q u (Err r) m = Err r
+with_bin z q u (Ok k) m = Ok (record { refs = z; query = q; five = u; bin = k; mark = m })
 
 -- the figures, or the first refusal on the way
-unfoldable pub row_of : Int → ℕ → Unclipped → Nat → ℕ → Figures
-row_of (Int.Refused r) q u n m = Figures.Refused r
-row_of (Int.Number z) q (Unclipped.Refused r) n m = Figures.Refused r
-row_of (Int.Number z) q (Unclipped.At p) n m = with_bin z q (Unclipped.At p) n m
-row_of (Int.Number z) q Unclipped.Unmapped n m = with_bin z q Unclipped.Unmapped n m
-row_of (Int.Number z) q Unclipped.NoOps n m = with_bin z q Unclipped.NoOps n m
+unfoldable pub row_of : Answer ℤ → ℕ → Unclipped → Answer ℕ → ℕ → Answer LineRow
+row_of (Err r) q u n m = Err r
+row_of (Ok z) q (Unclipped.Refused r) n m = Err r
+row_of (Ok z) q (Unclipped.At p) n m = with_bin z q (Unclipped.At p) n m
+row_of (Ok z) q Unclipped.Unmapped n m = with_bin z q Unclipped.Unmapped n m
+row_of (Ok z) q Unclipped.NoOps n m = with_bin z q Unclipped.NoOps n m
 
-unfoldable pub figures_of : List ℕ → Figures
+unfoldable pub figures_of : List ℕ → Answer LineRow
 figures_of b =
     row_of (checked_ref_length b) (sum_of query_len (record_ops b)) (unclipped_of b) (record_bin b) (length_mark (sum_of query_len (record_ops b)) (seq_len_of b))
 
@@ -41,6 +38,6 @@ abbrev pub row_fields : LineRow → List (List ℕ)
 row_fields w = signed_decimal w.refs ∷ decimal w.query ∷ or_dot w.five ∷ decimal w.bin ∷ (w.mark ∷ []) ∷ []
 
 -- a tab and the text, or `*`; or why not, with nothing changed before the place
-abbrev pub TextPut : List ℕ → List ℕ → ℕ → Text → List ℕ → Type 0
-TextPut b d at (Text.End r) d' = (32 ≤ length b) × ((printed b text_room).answer ≡ Count.Number (length (text_of (record_ops b)))) × Put d at (9 ∷ or_star (text_of (record_ops b))) r d' × (r ≤ at + 65537)
-TextPut b d at (Text.Refused w) d' = ((printed b text_room).answer ≡ Count.Refused w) × Put d at [] at d'
+abbrev pub TextPut : List ℕ → List ℕ → ℕ → Answer ℕ → List ℕ → Type 0
+TextPut b d at (Ok r) d' = (32 ≤ length b) × ((printed b text_room).answer ≡ Ok (length (text_of (record_ops b)))) × Put d at (9 ∷ or_star (text_of (record_ops b))) r d' × (r ≤ at + 65537)
+TextPut b d at (Err w) d' = ((printed b text_room).answer ≡ Err w) × Put d at [] at d'

@@ -14,15 +14,3 @@ pub struct LineRow {
     pub mark: u8,
 }
 
-#[derive(Clone, Copy)]
-pub enum Figures {
-    Row(LineRow),
-    Refused(Refusal),
-}
-
-// The place behind a text, or why there is none.
-#[derive(Clone, Copy)]
-pub enum Text {
-    End(usize),
-    Refused(Refusal),
-}

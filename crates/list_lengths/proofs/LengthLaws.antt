@@ -1,5 +1,8 @@
 -- What the walks found is what the definition sums: a run of clips has no reference base, and of query bases the soft ones.
 use mathlib.Core.Path.{◌≡◌, refl, sym, ap, ◌∙◌}
+use Rattle.std.specs.Prelude.{Err, Ok}
+use Rattle.answers.specs.Answer.{Answer}
+use Rattle.length_rules.specs.declared.RecordLengths.{RecordLengths}
 use mathlib.Core.Bool.{false}
 use mathlib.Core.List.{List, [], ◌∷◌}
 use Prim.Native.Nat.{ℕ, ◌+◌, ◌-◌, ◌<◌}
@@ -10,19 +13,17 @@ use Rattle.lists.specs.Lists.{facing, sum_of}
 use Rattle.sam.specs.Op.{ref_len, query_len}
 use Rattle.ops.specs.Ops.{is_clip}
 use Rattle.answers.specs.declared.Refusal.{Refusal}
-use Rattle.answers.specs.declared.Int.TheVariants as Int
 use Rattle.lists.specs.Runs.{leading, holds}
 use Rattle.clip_run_rules.specs.Clips.{leading_soft, leading_hard, has_inner, trailing_soft, trailing_hard}
 use Rattle.clip_run_rules.specs.InnerWalked.{RunIs}
 use Rattle.clip_run_rules.proofs.RunLaws.{soft_found, hard_found}
 use Rattle.clip_run_rules.proofs.EndLaws.{none_soft, none_hard, some_soft, some_hard, run_refs, run_query, clips_refs, clips_query, clips_only, some_inner, parted}
-use Rattle.length_rules.specs.declared.Lengths.{Lengths}
 use Rattle.list_lengths.specs.InnerLengths.{of_clips}
 use Rattle.length_rules.specs.Lengths.{as_int, list_lengths}
 
 -- the answer of six numbers
-abbrev six : ℤ → ℕ → ℕ → ℕ → ℕ → ℕ → Lengths
-six z q a b c d = Lengths.Are (record { reference = z; query = q; leading = record { soft = a; hard = b }; trailing = record { soft = c; hard = d } })
+abbrev six : ℤ → ℕ → ℕ → ℕ → ℕ → ℕ → Answer RecordLengths
+six z q a b c d = Ok (record { reference = z; query = q; leading = record { soft = a; hard = b }; trailing = record { soft = c; hard = d } })
 
 -- of no op
 pub no_ops : (xs : List ℕ) → length xs ≡ 0 → of_clips 0 0 ≡ list_lengths xs
@@ -42,10 +43,10 @@ module _ {xs : List ℕ} {soft hard next : ℕ} (L : RunIs xs 0 is_clip soft har
       refs_are : m ≡ sum_of ref_len xs
       refs_are = omega (arith, parted L T ref_len n m e g, run_refs xs, run_refs (facing false xs))
 
-      pub none-are : (r : Refusal) → as_int m ≡ Int.Refused r → Lengths.Refused r ≡ list_lengths xs
+      pub none-are : (r : Refusal) → as_int m ≡ Err r → Err r ≡ list_lengths xs
       none-are r w = rw (sym (ap as_int refs_are) ∙ w) refl
 
-      pub six-are : (z : ℤ) → as_int m ≡ Int.Number z → next < length xs
+      pub six-are : (z : ℤ) → as_int m ≡ Ok z → next < length xs
           → (q : ℕ) → q + sum_of query_len (drop (n - k) xs) ≡ sum_of query_len (drop next xs)
           → six z (soft + q + s) soft hard s h ≡ list_lengths xs
       six-are z w l q f =

@@ -7,15 +7,15 @@ ghost use Rattle.oplist.specs.Ops.{ops_of};
 ghost use Rattle.length_rules.specs.Lengths.{list_lengths};
 ghost use Rattle.list_lengths.specs.InnerLengths.{of_clips};
 
-use answers::Int;
-use length_rules::{Clips, Lengths, RecordLengths};
+use answers::Answer;
+use length_rules::{Clips, RecordLengths};
 use oplist::Ops;
 
 // The lengths of a record that has no op but clips.
-fn of_clips(soft: u64, hard: u64) -> Lengths
+fn of_clips(soft: u64, hard: u64) -> Answer<RecordLengths>
     ensures { result ≡ of_clips soft hard }
 {
-    Lengths::Are(RecordLengths {
+    Ok(RecordLengths {
         reference: 0,
         query: soft,
         leading: Clips {
@@ -28,7 +28,7 @@ fn of_clips(soft: u64, hard: u64) -> Lengths
 
 // The lengths of a list that lies in a record, and the clips at its ends. Refusal 4. The runs of clips are walked from both ends and the sums between them, so that
 // each op is read once, but for the two that end a run.
-pub fn list_lengths(bam: &[u8], list: Ops) -> Lengths
+pub fn list_lengths(bam: &[u8], list: Ops) -> Answer<RecordLengths>
     ensures { result ≡ list_lengths (ops_of [] bam.now list) }
 {
     let n = oplist::count(&[], bam, list);
@@ -42,7 +42,7 @@ pub fn list_lengths(bam: &[u8], list: Ops) -> Lengths
     let last = clip_runs::clip_run(&[], bam, list.inside, list.at, list.n, false);
     let inner = op_sums::sums_between(&[], bam, list, first.next, n - last.next);
     match op_sums::as_int(inner.refs) {
-        Int::Number(reference) => Lengths::Are(RecordLengths {
+        Ok(reference) => Ok(RecordLengths {
             reference,
             query: first.soft + inner.query + last.soft,
             leading: Clips {
@@ -54,6 +54,6 @@ pub fn list_lengths(bam: &[u8], list: Ops) -> Lengths
                 hard: last.hard,
             },
         }),
-        Int::Refused(why) => Lengths::Refused(why),
+        Err(why) => Err(why),
     }
 }

@@ -9,8 +9,8 @@ ghost use Rattle.md_rules.specs.Md.{columns_of};
 ghost use Rattle.md_rules.specs.Rule.{is_told, is_loss, told, match_ops};
 ghost use Rattle.md_rules.specs.InnerWalk.{Behind, StepAt, MayWrite, Wrote, Measured, WalkedIs};
 
-use answers::{Count, Refusal};
-use md_rules::{Spot, Step, Walked};
+use answers::{Answer, Refusal};
+use md_rules::Spot;
 
 // ---- any op
 
@@ -25,7 +25,7 @@ fn is_loss(op: u32) -> bool
 }
 
 // An op of the measuring pass.
-fn step(text: &[u8], s: Spot, op: u32) -> Step
+fn step(text: &[u8], s: Spot, op: u32) -> Option<Spot>
     requires { Behind text.now s.at × (s.count < 1152921504606846976) }
     ensures { StepAt text.now s op result }
 {
@@ -35,7 +35,7 @@ fn step(text: &[u8], s: Spot, op: u32) -> Step
     if is_loss(op) {
         return md_text::deletion(text, s, op / 16);
     }
-    Step::On(Spot {
+    Some(Spot {
         at: s.at,
         left: s.left,
         count: s.count + 1,
@@ -70,13 +70,13 @@ fn write_op(text: &[u8], s: Spot, op: u32, out: &mut [u32]) -> Spot
 // ---- the list
 
 // The measuring pass: how many ops there will be, where the text is well formed and the two agree.
-fn measure(ops: &[u32], text: &[u8]) -> Walked
+fn measure(ops: &[u32], text: &[u8]) -> Option<usize>
     requires { length ops.now ≤ 65535 }
     ensures { WalkedIs ops.now text.now result }
 {
     let f = md_text::number(text, 0);
     if f.at == 0 {
-        return Walked::Differs;
+        return None;
     }
     let mut s = Spot {
         at: f.at,
@@ -85,19 +85,19 @@ fn measure(ops: &[u32], text: &[u8]) -> Walked
     };
     let mut i: usize = 0;
     while i < ops.len() {
-        let Step::On(next) = step(text, s, ops[i]) else {
-            return Walked::Differs;
+        let Some(next) = step(text, s, ops[i]) else {
+            return None;
         };
         s = next;
         i += 1;
     }
     if s.left != 0 {
-        return Walked::Differs;
+        return None;
     }
     if s.at < text.len() {
-        return Walked::Differs;
+        return None;
     }
-    Walked::Ops(s.count)
+    Some(s.count)
 }
 
 // The writing pass.
@@ -138,27 +138,27 @@ fn holds_told(ops: &[u32]) -> bool
 }
 
 // The list with each M as the runs of = and X that an MD text tells, in the first places of out. Refusals 3, 20, 21, 22, 6.
-pub fn match_ops_from_md(ops: &[u32], text: &[u8], out: &mut [u32]) -> Count
+pub fn match_ops_from_md(ops: &[u32], text: &[u8], out: &mut [u32]) -> Answer<u64>
     ensures { Settled (match_ops ops.now text.now out.old) result out.new }
 {
     if oplist::MOST_OPS < ops.len() {
-        return Count::Refused(Refusal::TooManyOps);
+        return Err(Refusal::TooManyOps);
     }
-    let Walked::Ops(n) = measure(ops, text) else {
+    let Some(n) = measure(ops, text) else {
         if !md_text::well_formed(text) {
-            return Count::Refused(Refusal::BadMd);
+            return Err(Refusal::BadMd);
         }
         if holds_told(ops) {
-            return Count::Refused(Refusal::MatchesTold);
+            return Err(Refusal::MatchesTold);
         }
-        return Count::Refused(Refusal::MdDisagrees);
+        return Err(Refusal::MdDisagrees);
     };
     if holds_told(ops) {
-        return Count::Refused(Refusal::MatchesTold);
+        return Err(Refusal::MatchesTold);
     }
     if out.len() < n {
-        return Count::Refused(Refusal::NoRoom);
+        return Err(Refusal::NoRoom);
     }
     write(ops, text, out);
-    Count::Number(n as u64)
+    Ok(n as u64)
 }

@@ -1,5 +1,6 @@
 -- What an M, a D of nonzero length and any other op come to is what the rule has of an op.
 use Prim.Native.Nat.{ℕ, ◌+◌, ◌≤◌, ◌<◌}
+use Rattle.std.specs.Prelude.{None, Option, Some}
 use mathlib.Core.Path.{◌≡◌, refl, sym, ap, ◌∙◌}
 use mathlib.Core.Bool.{Bool, true, false}
 use mathlib.Core.List.{List, ◌∷◌}
@@ -15,14 +16,13 @@ use Rattle.md_rules.specs.Rule.{is_match, is_loss, lost_at, op_told}
 use Rattle.md_rules.specs.InnerWalk.{most, Behind, columns_here, ReadAt, FigureAt, all_capital, RunsAt, LossAt, StepOf, StepAt, MayWrite, Wrote}
 use Rattle.md_rules.specs.declared.Figure.{Figure}
 use Rattle.md_rules.specs.declared.Spot.{Spot}
-use Rattle.md_rules.specs.declared.Step.{Step}
 use Rattle.md_rules.proofs.OpLaws.{match-agrees, match-leaves, match-told, kept-told, loss-agrees, loss-leaves, other-agrees, other-leaves, lost_behind, lost-end, lost-letter, lost-room, lost-capital, lost-large, loss-here, loss-behind}
 use Rattle.md_rules.proofs.PlaceLaws.{side}
 use Rattle.md_rules.proofs.RunLaws.{loss_some}
 
 module _ (text : List ℕ) (s : Spot) (o : ℕ) where
-  pub step_match : (r : Step) → is_match o ≡ true → len_of o < 268435456 → RunsAt text s (len_of o) r → StepAt text s o r
-  step_match (Step.On t) m h r =
+  pub step_match : (r : Option Spot) → is_match o ≡ true → len_of o < 268435456 → RunsAt text s (len_of o) r → StepAt text s o r
+  step_match (Some t) m h r =
       record {
         behind = r.behind;
         agree = match-agrees o (columns_here text s) m ∙ r.are;
@@ -30,10 +30,10 @@ module _ (text : List ℕ) (s : Spot) (o : ℕ) where
         counted = r.counted ∙ ap (λ (l : List ℕ). s.count + length l) (sym (match-told o (columns_here text s) m));
         few = omega (arith, r.few);
       }
-  step_match Step.Differs m h r = λ f a. r f (sym (match-agrees o (columns_here text s) m) ∙ a)
+  step_match None m h r = λ f a. r f (sym (match-agrees o (columns_here text s) m) ∙ a)
 
-  pub step_loss : (r : Step) → is_match o ≡ false → is_loss o ≡ true → LossAt text s (len_of o) r → StepAt text s o r
-  step_loss (Step.On t) m l r =
+  pub step_loss : (r : Option Spot) → is_match o ≡ false → is_loss o ≡ true → LossAt text s (len_of o) r → StepAt text s o r
+  step_loss (Some t) m l r =
       let c = r.counted ∙ ap (λ (l : List ℕ). s.count + length l) {x = o ∷ _} (sym (kept-told o (columns_here text s) m)) in
       record {
         behind = r.behind;
@@ -42,7 +42,7 @@ module _ (text : List ℕ) (s : Spot) (o : ℕ) where
         counted = c;
         few = omega (arith, r.counted);
       }
-  step_loss Step.Differs m l r = λ f a. r f (eqb-true (lost_at (columns_here text s)) (len_of o) (sym (loss-agrees o (columns_here text s) m l) ∙ a))
+  step_loss None m l r = λ f a. r f (eqb-true (lost_at (columns_here text s)) (len_of o) (sym (loss-agrees o (columns_here text s) m l) ∙ a))
 
   pub step_other : is_match o ≡ false → is_loss o ≡ false → Behind text s.at → StepOf text s o (record { at = s.at; left = s.left; count = s.count + 1 })
   step_other m l b =

@@ -1,5 +1,6 @@
 -- What the functions of `md` go by: what a place of a text stands for, and what an op does to it.
 use Rattle.std.specs.Prelude.{ℕ, zero, suc, ◌+◌, ◌≤◌, ◌<◌, ◌≡◌, Bool, true, false, cond, List, [], ◌∷◌, ◌++◌, length, take, drop, get_or, replicate}
+use Rattle.std.specs.Prelude.{None, Option, Some}
 use Rattle.lists.specs.Lists.{splice}
 use Rattle.sam.specs.Op.{op_of}
 use Rattle.sam.specs.Text.{is_digit}
@@ -9,8 +10,6 @@ use Rattle.md_rules.specs.Rule.{runs, bases, lost_at, op_agrees, op_leaves, op_t
 use Rattle.md_rules.specs.declared.Place.TheVariants.{Wants, Number}
 use Rattle.md_rules.specs.declared.Figure.{Figure}
 use Rattle.md_rules.specs.declared.Spot.{Spot}
-use Rattle.md_rules.specs.declared.Step.{Step}
-use Rattle.md_rules.specs.declared.Walked.{Walked}
 
 -- more bases than 65,535 ops have
 abbrev pub most : ℕ
@@ -75,9 +74,9 @@ pub record RunsOf (text : List ℕ) (s : Spot) (n : ℕ) (t : Spot) : Type 0 whe
   pub counted : t.count ≡ s.count + length (runs (take n (columns_here text s)))
   pub few : t.count ≤ s.count + n
 
-abbrev pub RunsAt : List ℕ → Spot → ℕ → Step → Type 0
-RunsAt text s n (Step.On t) = RunsOf text s n t
-RunsAt text s n Step.Differs = well_formed text ≡ true → bases n (columns_here text s) ≡ true → most < length (columns_here text s)
+abbrev pub RunsAt : List ℕ → Spot → ℕ → Option Spot → Type 0
+RunsAt text s n (Some t) = RunsOf text s n t
+RunsAt text s n None = well_formed text ≡ true → bases n (columns_here text s) ≡ true → most < length (columns_here text s)
 
 -- a D of n bases, not 0
 pub record LossOf (text : List ℕ) (s : Spot) (n : ℕ) (t : Spot) : Type 0 where
@@ -86,9 +85,9 @@ pub record LossOf (text : List ℕ) (s : Spot) (n : ℕ) (t : Spot) : Type 0 whe
   pub rest : drop 1 (columns_here text s) ≡ columns_here text t
   pub counted : t.count ≡ s.count + 1
 
-abbrev pub LossAt : List ℕ → Spot → ℕ → Step → Type 0
-LossAt text s n (Step.On t) = LossOf text s n t
-LossAt text s n Step.Differs = well_formed text ≡ true → lost_at (columns_here text s) ≡ n → most < length (columns_here text s)
+abbrev pub LossAt : List ℕ → Spot → ℕ → Option Spot → Type 0
+LossAt text s n (Some t) = LossOf text s n t
+LossAt text s n None = well_formed text ≡ true → lost_at (columns_here text s) ≡ n → most < length (columns_here text s)
 
 -- an op
 pub record StepOf (text : List ℕ) (s : Spot) (o : ℕ) (t : Spot) : Type 0 where
@@ -98,9 +97,9 @@ pub record StepOf (text : List ℕ) (s : Spot) (o : ℕ) (t : Spot) : Type 0 whe
   pub counted : t.count ≡ s.count + length (op_told o (columns_here text s))
   pub few : t.count ≤ s.count + 268435456
 
-abbrev pub StepAt : List ℕ → Spot → ℕ → Step → Type 0
-StepAt text s o (Step.On t) = StepOf text s o t
-StepAt text s o Step.Differs = well_formed text ≡ true → op_agrees o (columns_here text s) ≡ true → most < length (columns_here text s)
+abbrev pub StepAt : List ℕ → Spot → ℕ → Option Spot → Type 0
+StepAt text s o (Some t) = StepOf text s o t
+StepAt text s o None = well_formed text ≡ true → op_agrees o (columns_here text s) ≡ true → most < length (columns_here text s)
 
 -- in the writing pass an op agrees, and no number is too large
 pub record MayWrite (text : List ℕ) (s : Spot) (o : ℕ) (d : List ℕ) : Type 0 where
@@ -124,6 +123,6 @@ pub record Measured (xs s : List ℕ) (n : ℕ) : Type 0 where
   pub agree : agrees xs (columns_of s) ≡ true
   pub many : n ≡ length (told xs (columns_of s))
 
-abbrev pub WalkedIs : List ℕ → List ℕ → Walked → Type 0
-WalkedIs xs s (Walked.Ops n) = Measured xs s n
-WalkedIs xs s Walked.Differs = well_formed s ≡ true → agrees xs (columns_of s) ≡ false
+abbrev pub WalkedIs : List ℕ → List ℕ → Option ℕ → Type 0
+WalkedIs xs s (Some n) = Measured xs s n
+WalkedIs xs s None = well_formed s ≡ true → agrees xs (columns_of s) ≡ false

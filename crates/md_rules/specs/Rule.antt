@@ -1,6 +1,8 @@
 -- Document 02, item 13: "replace M by runs of = and X." "D lengths must agree with the `^` parts: each D of nonzero length is exactly one such part, and no MD is left over;
 -- I, S, H, P, N and codes 9 to 15 use no MD. A list already holding = or X is refused."
 use Rattle.std.specs.Prelude.{ℕ, zero, suc, ◌+◌, Bool, true, false, cond, not, ◌&&◌, ◌||◌, List, [], ◌∷◌, ◌++◌, length, take, drop, ltb, eqb}
+use Rattle.std.specs.Prelude.{Err, Ok}
+use Rattle.answers.specs.Answer.{Answer}
 use Rattle.lists.specs.Lists.{splice}
 use Rattle.lists.specs.Runs.{holds}
 use Rattle.sam.specs.Op.{len_of, code_of, op_of}
@@ -8,7 +10,6 @@ use Rattle.sam.specs.Md.{MdColumn, MdColumn.Match, MdColumn.Mismatch, MdColumn.D
 use Rattle.oplist.specs.Ops.{most_ops}
 use Rattle.answers.specs.Settled.{Outcome, keeps}
 use Rattle.answers.specs.declared.Refusal.TheVariants.{TooManyOps, BadMd, MatchesTold, MdDisagrees, NoRoom}
-use Rattle.answers.specs.declared.Count.{Count}
 use Rattle.md_rules.specs.Md.{well_formed, columns_of}
 
 -- M, which may be a match or a mismatch
@@ -81,11 +82,11 @@ told [] cs = []
 told (o ∷ xs) cs = op_told o cs ++ told xs (op_leaves o cs)
 
 -- `match_ops_from_md` into lent memory d: "20 malformed MD, 21 a list with = or X, 22 MD and list disagree; in this order after 3, before 6"
-unfoldable pub match_ops : List ℕ → List ℕ → List ℕ → Outcome Count
+unfoldable pub match_ops : List ℕ → List ℕ → List ℕ → Outcome (Answer ℕ)
 match_ops xs s d =
-    cond (ltb most_ops (length xs)) (keeps (Count.Refused TooManyOps) d)
-    (cond (not (well_formed s)) (keeps (Count.Refused BadMd) d)
-    (cond (holds is_told xs) (keeps (Count.Refused MatchesTold) d)
-    (cond (not (agrees xs (columns_of s))) (keeps (Count.Refused MdDisagrees) d)
-    (cond (ltb (length d) (length (told xs (columns_of s)))) (keeps (Count.Refused NoRoom) d)
-    (record { answer = Count.Number (length (told xs (columns_of s))); left = splice d 0 (told xs (columns_of s)) })))))
+    cond (ltb most_ops (length xs)) (keeps (Err TooManyOps) d)
+    (cond (not (well_formed s)) (keeps (Err BadMd) d)
+    (cond (holds is_told xs) (keeps (Err MatchesTold) d)
+    (cond (not (agrees xs (columns_of s))) (keeps (Err MdDisagrees) d)
+    (cond (ltb (length d) (length (told xs (columns_of s)))) (keeps (Err NoRoom) d)
+    (record { answer = Ok (length (told xs (columns_of s))); left = splice d 0 (told xs (columns_of s)) })))))

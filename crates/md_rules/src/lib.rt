@@ -26,16 +26,3 @@ pub struct Spot {
     pub count: usize,
 }
 
-// Where an op leads the walk, or list and text disagree there.
-#[derive(Clone, Copy)]
-pub enum Step {
-    On(Spot),
-    Differs,
-}
-
-// How many ops the list comes to, or list and text disagree, or the text is malformed.
-#[derive(Clone, Copy)]
-pub enum Walked {
-    Ops(usize),
-    Differs,
-}

@@ -6,7 +6,7 @@ ghost use Rattle.lists.specs.Lists.{splice};
 ghost use Rattle.md_rules.specs.Rule.{is_match};
 ghost use Rattle.md_rules.specs.InnerWalk.{run_of, pair_of, closed_by, open_by, Behind, RunsAt, MayWrite, Wrote};
 
-use md_rules::{Spot, Step};
+use md_rules::Spot;
 
 // How many runs k mismatches and m matches are.
 fn pair_count(k: u64, m: u64) -> usize
@@ -40,7 +40,7 @@ fn open_count(k: u64, m: u64) -> u64
 }
 
 // Counts the runs of an M.
-pub fn count_runs(text: &[u8], s: Spot, length: u32) -> Step
+pub fn count_runs(text: &[u8], s: Spot, length: u32) -> Option<Spot>
     requires { Behind text.now s.at × (length < 268435456) × (s.count < 1152921504606846976) }
     ensures { RunsAt text.now s length result }
 {
@@ -51,14 +51,14 @@ pub fn count_runs(text: &[u8], s: Spot, length: u32) -> Step
     let mut count = s.count;
     while left < n {
         if text.len() <= at {
-            return Step::Differs;
+            return None;
         }
         if !md_text::is_capital(text[at]) {
-            return Step::Differs;
+            return None;
         }
         let f = md_text::number(text, at + 1);
         if f.at == 0 {
-            return Step::Differs;
+            return None;
         }
         count += closed_count(k, left);
         k = open_count(k, left);
@@ -66,7 +66,7 @@ pub fn count_runs(text: &[u8], s: Spot, length: u32) -> Step
         left = f.n;
         at = f.at;
     }
-    Step::On(Spot {
+    Some(Spot {
         at: at,
         left: left - n,
         count: count + pair_count(k, n),

@@ -8,7 +8,7 @@ ghost use Rattle.md_rules.specs.Md.{next_place, may_end, well_formed};
 ghost use Rattle.md_rules.specs.InnerWalk.{FigureAt, all_capital, Behind, LossAt};
 ghost use Rattle.md_rules.specs.declared.Place.TheVariants.{Number, Letters};
 
-use md_rules::{Figure, Place, Spot, Step};
+use md_rules::{Figure, Place, Spot};
 
 // More bases than 65,535 ops have.
 const MOST_BASES: u64 = 17592186044416;
@@ -159,34 +159,34 @@ fn all_capital(text: &[u8], from: usize, to: usize) -> bool
 }
 
 // Passes the reference bases of a D of nonzero length.
-pub fn deletion(text: &[u8], s: Spot, length: u32) -> Step
+pub fn deletion(text: &[u8], s: Spot, length: u32) -> Option<Spot>
     requires { Behind text.now s.at × (0 < length) × (s.count < 1152921504606846976) }
     ensures { LossAt text.now s length result }
 {
     let at = s.at;
     if s.left != 0 {
-        return Step::Differs;
+        return None;
     }
     if text.len() <= at {
-        return Step::Differs;
+        return None;
     }
     if text[at] != 94 {
-        return Step::Differs;
+        return None;
     }
     let from = at + 1;
     let letters = length as usize;
     if text.len() - from < letters {
-        return Step::Differs;
+        return None;
     }
     let to = from + letters;
     if !all_capital(text, from, to) {
-        return Step::Differs;
+        return None;
     }
     let f = number(text, to);
     if f.at == 0 {
-        return Step::Differs;
+        return None;
     }
-    Step::On(Spot {
+    Some(Spot {
         at: f.at,
         left: f.n,
         count: s.count + 1,

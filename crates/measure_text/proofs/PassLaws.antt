@@ -1,5 +1,6 @@
 -- The pass answers by the rules: it counts the ops, sums their reference bases up to 2^31 - 1, and its last place says whether they are valid.
 use Prim.Native.Nat.{ℕ, ◌+◌, ◌≤◌, ◌<◌, min}
+use Rattle.std.specs.Prelude.{None, Option, Some}
 use mathlib.Core.Path.{◌≡◌, refl, sym, ap, ◌∙◌}
 use mathlib.Core.Bool.{Bool, true, false, cond}
 use mathlib.Core.List.{List, [], ◌∷◌}
@@ -24,8 +25,6 @@ use Rattle.tokens.specs.InnerToken.{OpAt, NoneAt}
 use Rattle.validity.specs.InnerClass.{Class, Class.Reference, Class.Other, Class.Soft, Class.Hard, Class.Unknown}
 use Rattle.validity.specs.declared.Stage.{Stage}
 use Rattle.measure_text.specs.declared.SoFar.{SoFar}
-use Rattle.measure_text.specs.declared.Took.{Took}
-use Rattle.measure_text.specs.declared.Took.TheVariants.{More, Stop}
 use Rattle.parsed_rules.specs.declared.Measured.{Measured}
 use Rattle.tokens.proofs.TextLaws.{at-end}
 use Rattle.validity.proofs.StageLaws.{ref_b, class_ref, long_class, short_class, wrong_accept, valid_run}
@@ -71,10 +70,10 @@ passed p n refs xs = cond (accept_of (stage_after p xs)) (Measured.Ops (n + leng
 
 walk_one : (q : Stage) (n refs : ℕ) (xs : List ℕ) → refs ≤ 2147483647
     → ((s : SoFar) → s.refs ≤ 2147483647 → walk_of s xs ≡ passed s.stage s.n s.refs xs)
-    → on_took (cond (is_wrong q) Stop (More (record { stage = q; n = n; refs = refs }))) (λ t. walk_of t xs) Measured.Bad ≡ passed q n refs xs
+    → on_took (cond (is_wrong q) None (Some (record { stage = q; n = n; refs = refs }))) (λ t. walk_of t xs) Measured.Bad ≡ passed q n refs xs
 walk_one q n refs xs h ih = go (is_wrong q) refl
   where
-    go : (t : Bool) → is_wrong q ≡ t → on_took (cond t Stop (More (record { stage = q; n = n; refs = refs }))) (λ t. walk_of t xs) Measured.Bad ≡ passed q n refs xs
+    go : (t : Bool) → is_wrong q ≡ t → on_took (cond t None (Some (record { stage = q; n = n; refs = refs }))) (λ t. walk_of t xs) Measured.Bad ≡ passed q n refs xs
     go true e = rw (wrong_accept q xs e) refl
     go false e = ih (record { stage = q; n = n; refs = refs }) h
 
@@ -102,13 +101,13 @@ walk_measured xs =
     ∙ ap (λ (n : ℕ). cond (valid_mapped xs) (Measured.Ops n (clamp32 (pos (sum_of ref_len xs)))) Measured.Bad) {x = 0 + length xs} {y = length xs} (omega arith)
 
 -- one op more keeps the bounds
-pub took_fits : (s t : SoFar) (len : ℕ) (k : Class) → took_of s len k ≡ More t → (t.n ≡ s.n + 1) × (t.refs ≤ 2147483647)
+pub took_fits : (s t : SoFar) (len : ℕ) (k : Class) → took_of s len k ≡ Some t → (t.n ≡ s.n + 1) × (t.refs ≤ 2147483647)
 took_fits s t len k e = go (is_wrong (step_of s.stage k)) e
   where
     more : SoFar
     more = record { stage = step_of s.stage k; n = s.n + 1; refs = min (s.refs + ref_bases_of k len) 2147483647 }
 
-    go : (w : Bool) → cond w Stop (More (record { stage = step_of s.stage k; n = s.n + 1; refs = min (s.refs + ref_bases_of k len) 2147483647 })) ≡ More t → (t.n ≡ s.n + 1) × (t.refs ≤ 2147483647)
+    go : (w : Bool) → cond w None (Some (record { stage = step_of s.stage k; n = s.n + 1; refs = min (s.refs + ref_bases_of k len) 2147483647 })) ≡ Some t → (t.n ≡ s.n + 1) × (t.refs ≤ 2147483647)
     go true q = never (cc)
     go false q =
         let g : ◌≡◌ {A = SoFar} (record { stage = step_of s.stage k; n = s.n + 1; refs = min (s.refs + ref_bases_of k len) 2147483647 }) t = cc in
@@ -117,13 +116,13 @@ took_fits s t len k e = go (is_wrong (step_of s.stage k)) e
 
 -- one turn of the walk over a list
 module _ (s : SoFar) (o : ℕ) (xs : List ℕ) where
-  pub walk_more : (t : SoFar) → took_of s (len_of o) (class_of o) ≡ More t → walk_of s (o ∷ xs) ≡ walk_of t xs
+  pub walk_more : (t : SoFar) → took_of s (len_of o) (class_of o) ≡ Some t → walk_of s (o ∷ xs) ≡ walk_of t xs
   unfolding walk_of
-  walk_more t e = ap (λ (x : Took). on_took x (λ t. walk_of t xs) Measured.Bad) e
+  walk_more t e = ap (λ (x : Option SoFar). on_took x (λ t. walk_of t xs) Measured.Bad) e
 
-  pub walk_stop : took_of s (len_of o) (class_of o) ≡ Stop → walk_of s (o ∷ xs) ≡ Measured.Bad
+  pub walk_stop : took_of s (len_of o) (class_of o) ≡ None → walk_of s (o ∷ xs) ≡ Measured.Bad
   unfolding walk_of
-  walk_stop e = ap (λ (x : Took). on_took x (λ t. walk_of t xs) Measured.Bad) e
+  walk_stop e = ap (λ (x : Option SoFar). on_took x (λ t. walk_of t xs) Measured.Bad) e
 
 -- ---- the pass over a text
 
@@ -143,11 +142,11 @@ module _ (s : SoFar) (len code : ℕ) (some : 0 < len) (few : code < 9) (row : B
       let k : class_of (op_of len code) ≡ code_class code = long_class (op_of len code) (omega arith) ∙ ap code_class c in
       rw (l, k) refl
 
-  pub left_more : (t : SoFar) → took_of s len (code_class code) ≡ More t → left_of s row (op_of len code ∷ xs) ≡ left_of t row xs
+  pub left_more : (t : SoFar) → took_of s len (code_class code) ≡ Some t → left_of s row (op_of len code ∷ xs) ≡ left_of t row xs
   unfolding left_of
   left_more t e = ap (λ (m : Measured). cond row m Measured.Bad) (walk_more s (op_of len code) xs t (sym same_took ∙ e))
 
-  pub left_stop : took_of s len (code_class code) ≡ Stop → left_of s row (op_of len code ∷ xs) ≡ Measured.Bad
+  pub left_stop : took_of s len (code_class code) ≡ None → left_of s row (op_of len code ∷ xs) ≡ Measured.Bad
   unfolding left_of
   left_stop e = ap (λ (m : Measured). cond row m Measured.Bad) (walk_stop s (op_of len code) xs (sym same_took ∙ e)) ∙ go row
     where
@@ -172,8 +171,8 @@ module _ (s : List ℕ) (i : ℕ) (seen : SoFar) where
     at_op : left_at seen i s ≡ left_of seen (is_row (drop next s)) (op_of len code ∷ text_ops (drop next s))
     at_op = rw (o.row, o.ops) refl
 
-    pub pass-more : (t : SoFar) → took_of seen len (code_class code) ≡ More t → left_at seen i s ≡ left_at t next s
+    pub pass-more : (t : SoFar) → took_of seen len (code_class code) ≡ Some t → left_at seen i s ≡ left_at t next s
     pass-more t e = at_op ∙ left_more seen len code o.some o.known (is_row (drop next s)) (text_ops (drop next s)) t e
 
-    pub pass-stop : took_of seen len (code_class code) ≡ Stop → left_at seen i s ≡ Measured.Bad
+    pub pass-stop : took_of seen len (code_class code) ≡ None → left_at seen i s ≡ Measured.Bad
     pass-stop e = at_op ∙ left_stop seen len code o.some o.known (is_row (drop next s)) (text_ops (drop next s)) e

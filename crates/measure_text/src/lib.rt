@@ -20,12 +20,6 @@ pub struct SoFar {
     pub refs: u32,
 }
 
-#[derive(Clone, Copy)]
-pub enum Took {
-    More(SoFar),
-    Stop,
-}
-
 // The reference bases of an op.
 fn ref_bases(code: u32, len: u32) -> u32
     requires { code < 16 }
@@ -50,16 +44,16 @@ fn further(refs: u32, code: u32, len: u32) -> u32
 }
 
 // One op more.
-fn take_op(seen: SoFar, len: u32, code: u32) -> Took
+fn take_op(seen: SoFar, len: u32, code: u32) -> Option<SoFar>
     requires { (seen.n < 18446744073709551615) × (seen.refs ≤ 2147483647) × (len ≤ 268435455) × (code < 16) }
     ensures { result ≡ took_of seen len (code_class code) }
 {
     let p = seen.stage;
     let q = validity::step(p, code);
     if validity::is_wrong(q) {
-        return Took::Stop;
+        return None;
     }
-    Took::More(SoFar {
+    Some(SoFar {
         stage: q,
         n: seen.n + 1,
         refs: further(seen.refs, code, len),
@@ -92,7 +86,7 @@ pub fn measure(text: &[u8]) -> Measured
         else {
             return Measured::Bad;
         };
-        let Took::More(more) = take_op(seen, len, code) else {
+        let Some(more) = take_op(seen, len, code) else {
             return Measured::Bad;
         };
         seen = more;

@@ -8,7 +8,7 @@ ghost use Rattle.sam.specs.Op.{len_of, is_ref, is_query, ref_len, query_len};
 ghost use Rattle.oplist.specs.Ops.{ops_of};
 ghost use Rattle.length_rules.specs.Lengths.{as_int};
 
-use answers::{Int, Refusal};
+use answers::{Answer, Refusal};
 use oplist::Ops;
 
 // The reference and query bases of an op list.
@@ -98,13 +98,13 @@ pub fn short_sums(words: &[u32], rec: &[u8], list: Ops) -> Totals
 }
 
 // n as a signed number, or refusal 4.
-pub fn as_int(n: u64) -> Int
+pub fn as_int(n: u64) -> Answer<i32>
     ensures { result ≡ as_int n }
 {
     if 2147483647 < n {
-        return Int::Refused(Refusal::Overflow);
+        return Err(Refusal::Overflow);
     }
-    Int::Number(n as i32)
+    Ok(n as i32)
 }
 
 // n, or the largest signed number where n is larger.

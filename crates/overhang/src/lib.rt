@@ -9,7 +9,7 @@ ghost use Rattle.overhang_rules.specs.Reach.{bases_up_to, soft_clip, up_to};
 ghost use Rattle.overhang_rules.specs.Overhang.{end_of, overhang_of, bases_extending};
 ghost use Rattle.overhang_rules.specs.InnerSides.{past_of};
 
-use answers::{Count, Pos1, Refusal};
+use answers::{Answer, Pos1, Refusal};
 use oplist::Ops;
 use overhang_places::Extent;
 
@@ -272,14 +272,14 @@ pub fn bases_extending_past_mate_ops(
     this_ops: &[u32],
     mate_pos: Pos1,
     mate_ops: &[u32],
-) -> Count
+) -> Answer<u64>
     ensures { result ≡ bases_extending is_reverse this_pos.0 this_ops.now mate_pos.0 mate_ops.now }
 {
     if oplist::MOST_OPS < this_ops.len() {
-        return Count::Refused(Refusal::TooManyOps);
+        return Err(Refusal::TooManyOps);
     }
     if oplist::MOST_OPS < mate_ops.len() {
-        return Count::Refused(Refusal::TooManyOps);
+        return Err(Refusal::TooManyOps);
     }
-    Count::Number(lent_overhang(is_reverse, this_pos, this_ops, mate_pos, mate_ops))
+    Ok(lent_overhang(is_reverse, this_pos, this_ops, mate_pos, mate_ops))
 }

@@ -1,12 +1,13 @@
 -- Document 01, module 10: how many query bases a read has past its mate, `bases_extending_past_mate_ops`; as the Rust (overlap.rs), each step within an i32.
 -- p and xs are the read's start, counted from 1, and ops; m and ys the mate's. A forward read is measured at its right end, a reverse read at its left.
 use Rattle.std.specs.Prelude.{ℕ, ◌-◌, Bool, true, false, cond, List, ℤ, pos, ◌+ℤ◌, ◌-ℤ◌, length, ltb}
+use Rattle.std.specs.Prelude.{Err, Ok}
+use Rattle.answers.specs.Answer.{Answer}
 use Rattle.std.specs.Int.Signed.{lt_z}
 use Rattle.lists.specs.Lists.{sum_of}
 use Rattle.signed.specs.Whole.{natural, clamp32}
 use Rattle.sam.specs.Op.{query_len, ref_len}
 use Rattle.answers.specs.declared.Refusal.TheVariants.{TooManyOps}
-use Rattle.answers.specs.declared.Count.{Count}
 use Rattle.oplist.specs.Ops.{most_ops}
 use Rattle.overhang_rules.specs.Reach.{bases_up_to, soft_clip}
 
@@ -58,8 +59,8 @@ unfoldable pub overhang_of : Bool → ℤ → List ℕ → ℤ → List ℕ → 
 overhang_of reverse p xs m ys = cond reverse (reverse_overhang p xs m ys) (forward_overhang p xs m ys)
 
 -- `bases_extending_past_mate_ops`: 3 where either list is too long
-unfoldable pub bases_extending : Bool → ℤ → List ℕ → ℤ → List ℕ → Count
+unfoldable pub bases_extending : Bool → ℤ → List ℕ → ℤ → List ℕ → Answer ℕ
 bases_extending reverse p xs m ys =
-    cond (ltb most_ops (length xs)) (Count.Refused TooManyOps)
-    (cond (ltb most_ops (length ys)) (Count.Refused TooManyOps)
-    (Count.Number (overhang_of reverse p xs m ys)))
+    cond (ltb most_ops (length xs)) (Err TooManyOps)
+    (cond (ltb most_ops (length ys)) (Err TooManyOps)
+    (Ok (overhang_of reverse p xs m ys)))

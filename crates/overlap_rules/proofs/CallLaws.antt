@@ -1,5 +1,7 @@
 -- The ways out of each call, over plain lists: one test after another, as the definitions have them.
 use Prim.Native.Nat.{ℕ, ◌≤◌, ◌<◌}
+use Rattle.std.specs.Prelude.{Err, Ok, Option}
+use Rattle.answers.specs.Answer.{Answer}
 use mathlib.Core.Path.{◌≡◌, refl, ap}
 use mathlib.Core.Bool.{Bool, true, false, cond}
 use mathlib.Core.List.{List}
@@ -11,13 +13,10 @@ use borrow.Author.Tests.{lt-ltb, le-ltb}
 use Rattle.lists.specs.Lists.{sum_of, splice}
 use Rattle.lists.proofs.Absurd.{never}
 use Rattle.signed.specs.Whole.{clamp32}
-use Rattle.signed.specs.declared.Sum.{Sum}
 use Rattle.sam.specs.Op.{ref_len}
 use Rattle.sam.specs.Record.{pos_of, mate_pos_of}
 use Rattle.answers.specs.Settled.{keeps}
 use Rattle.answers.specs.declared.Refusal.TheVariants.{ShortRecord, TooManyOps, Overflow, NoRoom}
-use Rattle.answers.specs.declared.Flag.{Flag}
-use Rattle.answers.specs.declared.Count.{Count}
 use Rattle.oplist.specs.Ops.{most_ops, record_ops}
 use Rattle.ends_rules.specs.Ends.{plus_one}
 use Rattle.text_rules.specs.Text.{text_ops}
@@ -39,31 +38,31 @@ module _ (fr : Bool) (b : List ℕ) (m : ℤ) where
   unfolding placed_pair
   apart e = simp e
 
-  pub together : {r : PairPlaces} {x y : Sum} → fr ≡ true → x ≡ plus_one (record { 0 = pos_of b }) → y ≡ plus_one (record { 0 = m }) → r ≡ both_places x y → r ≡ placed_pair fr b m
+  pub together : {r : PairPlaces} {x y : Option ℤ} → fr ≡ true → x ≡ plus_one (record { 0 = pos_of b }) → y ≡ plus_one (record { 0 = m }) → r ≡ both_places x y → r ≡ placed_pair fr b m
   unfolding placed_pair
   together e p q h = simp e (rw (← p, ← q) h)
 
 module _ (p : PairPlaces) (b ys : List ℕ) where
-  pub over : is_over p ≡ true → Count.Refused Overflow ≡ overhang_at p b ys
+  pub over : is_over p ≡ true → Err Overflow ≡ overhang_at p b ys
   unfolding overhang_at
   over e = simp e
 
-  pub counted : (n : ℕ) → is_over p ≡ false → n ≡ bases_at p b ys → Count.Number n ≡ overhang_at p b ys
+  pub counted : (n : ℕ) → is_over p ≡ false → n ≡ bases_at p b ys → Ok n ≡ overhang_at p b ys
   unfolding overhang_at
-  counted n e h = simp e (ap Count.Number h)
+  counted n e h = simp e (ap Ok h)
 
 -- ---- the mate's record
 
 module _ (b m : List ℕ) where
-  pub record_short : length b < 32 → Count.Refused ShortRecord ≡ past_mate_record b m
+  pub record_short : length b < 32 → Err ShortRecord ≡ past_mate_record b m
   unfolding past_mate_record
   record_short h = simp (lt-ltb (length b) 32 h)
 
-  pub mate_short : 32 ≤ length b → length m < 32 → Count.Refused ShortRecord ≡ past_mate_record b m
+  pub mate_short : 32 ≤ length b → length m < 32 → Err ShortRecord ≡ past_mate_record b m
   unfolding past_mate_record
   mate_short h k = simp (le-ltb (length b) 32 h, lt-ltb (length m) 32 k)
 
-  pub record_is : {r : Count} {fr : Flag} {ys : List ℕ} {z : ℤ} → 32 ≤ length b → 32 ≤ length m → fr ≡ is_primary_fr b m → z ≡ pos_of m
+  pub record_is : {r : Answer ℕ} {fr : Answer Bool} {ys : List ℕ} {z : ℤ} → 32 ≤ length b → 32 ≤ length m → fr ≡ is_primary_fr b m → z ≡ pos_of m
       → ys ≡ record_ops m → r ≡ pair_overhang fr b z ys → r ≡ past_mate_record b m
   unfolding past_mate_record
   record_is h k f g y e = simp (le-ltb (length b) 32 h, le-ltb (length m) 32 k) (rw (← f, ← g, ← y) e)
@@ -71,32 +70,32 @@ module _ (b m : List ℕ) where
 -- ---- the mate's ops
 
 module _ (b ys : List ℕ) where
-  pub cigar_short : length b < 32 → Count.Refused ShortRecord ≡ past_mate_cigar b ys
+  pub cigar_short : length b < 32 → Err ShortRecord ≡ past_mate_cigar b ys
   unfolding past_mate_cigar
   cigar_short h = simp (lt-ltb (length b) 32 h)
 
   module _ (h : 32 ≤ length b) where
-    pub cigar-many : most_ops < length ys → Count.Refused TooManyOps ≡ past_mate_cigar b ys
+    pub cigar-many : most_ops < length ys → Err TooManyOps ≡ past_mate_cigar b ys
     unfolding past_mate_cigar
     cigar-many k = simp (le-ltb (length b) 32 h, lt-ltb most_ops (length ys) k)
 
     module _ (k : length ys ≤ most_ops) where
-      pub cigar-bad : valid_mapped ys ≡ false → Count.Number 0 ≡ past_mate_cigar b ys
+      pub cigar-bad : valid_mapped ys ≡ false → Ok 0 ≡ past_mate_cigar b ys
       unfolding past_mate_cigar
       cigar-bad e = simp (le-ltb (length b) 32 h, le-ltb most_ops (length ys) k, e)
 
       -- a pair that is not FR, whether or not the list is valid
-      pub cigar-apart : is_no (is_fr_by b ys) ≡ true → Count.Number 0 ≡ past_mate_cigar b ys
+      pub cigar-apart : is_no (is_fr_by b ys) ≡ true → Ok 0 ≡ past_mate_cigar b ys
       unfolding past_mate_cigar placed_pair overhang_at
       cigar-apart e = simp (le-ltb (length b) 32 h, le-ltb most_ops (length ys) k) (go (is_fr_by b ys) (valid_mapped ys) _ e)
         where
-          go : (fr : Flag) (v : Bool) (m : ℤ) → is_no fr ≡ true → Count.Number 0 ≡ cond v (pair_overhang fr b m ys) (Count.Number 0)
-          go (Flag.Is true) v m f = never (cc)
-          go (Flag.Is false) true m f = refl
-          go (Flag.Is false) false m f = refl
-          go (Flag.Refused r) v m f = never (cc)
+          go : (fr : Answer Bool) (v : Bool) (m : ℤ) → is_no fr ≡ true → Ok 0 ≡ cond v (pair_overhang fr b m ys) (Ok 0)
+          go (Ok true) v m f = never (cc)
+          go (Ok false) true m f = refl
+          go (Ok false) false m f = refl
+          go (Err r) v m f = never (cc)
 
-      pub cigar-is : {r : Count} {fr : Flag} {z : ℤ} {xs : List ℕ} → valid_mapped ys ≡ true → fr ≡ is_fr_by b ys → z ≡ mate_pos_of b → xs ≡ ys → r ≡ pair_overhang fr b z xs → r ≡ past_mate_cigar b ys
+      pub cigar-is : {r : Answer ℕ} {fr : Answer Bool} {z : ℤ} {xs : List ℕ} → valid_mapped ys ≡ true → fr ≡ is_fr_by b ys → z ≡ mate_pos_of b → xs ≡ ys → r ≡ pair_overhang fr b z xs → r ≡ past_mate_cigar b ys
       unfolding past_mate_cigar
       cigar-is e f g x q = simp (le-ltb (length b) 32 h, le-ltb most_ops (length ys) k, e) (rw (← f, ← g, ← x) q)
 
@@ -130,7 +129,7 @@ module _ (b s d : List ℕ) where
       unfolding past_mate_text
       text-many k = simp (le-ltb (length b) 32 h, text_taken s n z e, lt-ltb most_ops (length (text_ops s)) (omega (arith, text_count s n z e)))
 
-      pub text-left : (fr : Flag) → n ≤ most_ops → fr ≡ is_fr_with_mate b z → past_mate_text b s d ≡ pair_list_left fr b (text_ops s) d
+      pub text-left : (fr : Answer Bool) → n ≤ most_ops → fr ≡ is_fr_with_mate b z → past_mate_text b s d ≡ pair_list_left fr b (text_ops s) d
       unfolding past_mate_text
       text-left fr k f = simp (le-ltb (length b) 32 h, text_taken s n z e, le-ltb most_ops (length (text_ops s)) (omega (arith, text_count s n z e)), text_span s n z e) (rw f)
 

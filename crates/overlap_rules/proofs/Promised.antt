@@ -1,5 +1,7 @@
 -- What is promised of the calls. Document 01: "An overhang never exceeds the read's query length". Document 02, item 7: overhang calls "pass the refusal on wherever they ask for this length".
 use Prim.Native.Nat.{ℕ, ◌≤◌}
+use Rattle.std.specs.Prelude.{Err, Ok}
+use Rattle.answers.specs.Answer.{Answer}
 use mathlib.Core.Path.{◌≡◌}
 use mathlib.Core.Bool.{Bool, true, false, cond, not}
 use mathlib.Core.List.{List}
@@ -13,8 +15,6 @@ use Rattle.sam.specs.Record.{flags_of, pos_of, mate_pos_of, is_reverse, is_short
 use Rattle.answers.specs.Settled.{Outcome, keeps}
 use Rattle.answers.specs.declared.Refusal.{Refusal}
 use Rattle.answers.specs.declared.Refusal.TheVariants.{ShortRecord, TooManyOps, Overflow, NoRoom}
-use Rattle.answers.specs.declared.Count.{Count}
-use Rattle.answers.specs.declared.Flag.{Flag}
 use Rattle.oplist.specs.Ops.{most_ops, record_ops}
 use Rattle.text_rules.specs.Text.{text_ops}
 use Rattle.text_rules.specs.Valid.{valid_mapped}
@@ -29,23 +29,23 @@ use Rattle.overlap_rules.specs.Overlap.{placed_pair, is_over, bases_at, overhang
 
 -- ---- the pair test's refusal, which is a length's, is the call's: before 4 of a place, and before 6
 
-pub cigar_no_length : (b ys : List ℕ) (r : Refusal) → is_short b ≡ false → ltb most_ops (length ys) ≡ false → valid_mapped ys ≡ true → is_fr_by b ys ≡ Flag.Refused r → past_mate_cigar b ys ≡ Count.Refused r
+pub cigar_no_length : (b ys : List ℕ) (r : Refusal) → is_short b ≡ false → ltb most_ops (length ys) ≡ false → valid_mapped ys ≡ true → is_fr_by b ys ≡ Err r → past_mate_cigar b ys ≡ Err r
 unfolding past_mate_cigar
 cigar_no_length b ys r s m v e = rw (s, m, v) (passed (is_fr_by b ys) e)
   where
-    passed : (fr : Flag) → fr ≡ Flag.Refused r → pair_overhang fr b (mate_pos_of b) ys ≡ Count.Refused r
+    passed : (fr : Answer Bool) → fr ≡ Err r → pair_overhang fr b (mate_pos_of b) ys ≡ Err r
     passed fr f = rw f
 
-pub record_no_length : (b m : List ℕ) (r : Refusal) → is_short b ≡ false → is_short m ≡ false → is_primary_fr b m ≡ Flag.Refused r → past_mate_record b m ≡ Count.Refused r
+pub record_no_length : (b m : List ℕ) (r : Refusal) → is_short b ≡ false → is_short m ≡ false → is_primary_fr b m ≡ Err r → past_mate_record b m ≡ Err r
 unfolding past_mate_record
 record_no_length b m r s t e = rw (s, t, e)
 
-pub text_no_length : (b s d : List ℕ) (r : Refusal) → is_short b ≡ false → strict s ≡ true → ltb most_ops (length (text_ops s)) ≡ false → is_fr_by b (text_ops s) ≡ Flag.Refused r
+pub text_no_length : (b s d : List ℕ) (r : Refusal) → is_short b ≡ false → strict s ≡ true → ltb most_ops (length (text_ops s)) ≡ false → is_fr_by b (text_ops s) ≡ Err r
     → past_mate_text b s d ≡ keeps (Overhang.Refused r) d
 unfolding past_mate_text
 text_no_length b s d r l t m e = rw (l, t, m) (passed (is_fr_by b (text_ops s)) e)
   where
-    passed : (fr : Flag) → fr ≡ Flag.Refused r → pair_list_left fr b (text_ops s) d ≡ keeps (Overhang.Refused r) d
+    passed : (fr : Answer Bool) → fr ≡ Err r → pair_list_left fr b (text_ops s) d ≡ keeps (Overhang.Refused r) d
     passed fr f = rw f
 
 -- ---- the most that an overhang is
@@ -59,7 +59,7 @@ at_most : (p : PairPlaces) (b ys : List ℕ) → Within (overhang_at p b ys) (su
 unfolding overhang_at
 at_most p b ys = go (is_over p)
   where
-    go : (t : Bool) → Within (cond t (Count.Refused Overflow) (Count.Number (bases_at p b ys))) (sum_of query_len (record_ops b))
+    go : (t : Bool) → Within (cond t (Err Overflow) (Ok (bases_at p b ys))) (sum_of query_len (record_ops b))
     go true = tt
     go false = bases_most p b ys
 
@@ -67,20 +67,20 @@ pub ops_most : (b : Bool) (p : ℤ) (xs : List ℕ) (m : ℤ) (ys : List ℕ) �
 unfolding bases_extending
 ops_most b p xs m ys = go (ltb most_ops (length xs)) (ltb most_ops (length ys))
   where
-    go : (t u : Bool) → Within (cond t (Count.Refused TooManyOps) (cond u (Count.Refused TooManyOps) (Count.Number (overhang_of b p xs m ys)))) (sum_of query_len xs)
+    go : (t u : Bool) → Within (cond t (Err TooManyOps) (cond u (Err TooManyOps) (Ok (overhang_of b p xs m ys)))) (sum_of query_len xs)
     go true u = tt
     go false true = tt
     go false false = overhang_most b p xs m ys
 
-pair_most : (fr : Flag) (b : List ℕ) (m : ℤ) (ys : List ℕ) → Within (pair_overhang fr b m ys) (sum_of query_len (record_ops b))
-pair_most (Flag.Is fr) b m ys = at_most (placed_pair fr b m) b ys
-pair_most (Flag.Refused r) b m ys = tt
+pair_most : (fr : Answer Bool) (b : List ℕ) (m : ℤ) (ys : List ℕ) → Within (pair_overhang fr b m ys) (sum_of query_len (record_ops b))
+pair_most (Ok fr) b m ys = at_most (placed_pair fr b m) b ys
+pair_most (Err r) b m ys = tt
 
 pub cigar_most : (b ys : List ℕ) → Within (past_mate_cigar b ys) (sum_of query_len (record_ops b))
 unfolding past_mate_cigar
 cigar_most b ys = go (is_short b) (ltb most_ops (length ys)) (valid_mapped ys)
   where
-    go : (t u v : Bool) → Within (cond t (Count.Refused ShortRecord) (cond u (Count.Refused TooManyOps) (cond v (pair_overhang (is_fr_by b ys) b (mate_pos_of b) ys) (Count.Number 0)))) (sum_of query_len (record_ops b))
+    go : (t u v : Bool) → Within (cond t (Err ShortRecord) (cond u (Err TooManyOps) (cond v (pair_overhang (is_fr_by b ys) b (mate_pos_of b) ys) (Ok 0)))) (sum_of query_len (record_ops b))
     go true u v = tt
     go false true v = tt
     go false false true = pair_most (is_fr_by b ys) b (mate_pos_of b) ys
@@ -90,14 +90,14 @@ pub record_most : (b m : List ℕ) → Within (past_mate_record b m) (sum_of que
 unfolding past_mate_record
 record_most b m = go (is_short b) (is_short m)
   where
-    go : (t u : Bool) → Within (cond t (Count.Refused ShortRecord) (cond u (Count.Refused ShortRecord) (pair_overhang (is_primary_fr b m) b (pos_of m) (record_ops m)))) (sum_of query_len (record_ops b))
+    go : (t u : Bool) → Within (cond t (Err ShortRecord) (cond u (Err ShortRecord) (pair_overhang (is_primary_fr b m) b (pos_of m) (record_ops m)))) (sum_of query_len (record_ops b))
     go true u = tt
     go false true = tt
     go false false = pair_most (is_primary_fr b m) b (pos_of m) (record_ops m)
 
-left_most : (fr : Flag) (b xs d : List ℕ) → WithinText (pair_list_left fr b xs d).answer (sum_of query_len (record_ops b))
+left_most : (fr : Answer Bool) (b xs d : List ℕ) → WithinText (pair_list_left fr b xs d).answer (sum_of query_len (record_ops b))
 unfolding list_left
-left_most (Flag.Is fr) b xs d = go (is_over (placed_pair fr b (mate_pos_of b))) (ltb (length d) (length xs))
+left_most (Ok fr) b xs d = go (is_over (placed_pair fr b (mate_pos_of b))) (ltb (length d) (length xs))
   where
     p : PairPlaces
     p = placed_pair fr b (mate_pos_of b)
@@ -109,7 +109,7 @@ left_most (Flag.Is fr) b xs d = go (is_over (placed_pair fr b (mate_pos_of b))) 
     go true x = tt
     go false true = tt
     go false false = bases_most p b xs
-left_most (Flag.Refused r) b xs d = tt
+left_most (Err r) b xs d = tt
 
 pub text_most : (b s d : List ℕ) → WithinText (past_mate_text b s d).answer (sum_of query_len (record_ops b))
 unfolding past_mate_text

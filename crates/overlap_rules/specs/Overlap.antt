@@ -1,16 +1,15 @@
 -- Document 01, module 10: the calls on records. "There the strict reader's answer decides whether a list is used: refusal 5 gives overhang 0, as in the Rust; 3 and 6
 -- are passed on, in the records' order. It is lent room for the list: an answer leaves the parsed list in the first places, and after 5 the room is unchanged."
 use Rattle.std.specs.Prelude.{ℕ, Bool, true, false, cond, not, List, [], ◌∷◌, ℤ, pos, length, ltb}
+use Rattle.std.specs.Prelude.{Err, None, Ok, Option, Some}
+use Rattle.answers.specs.Answer.{Answer}
 use Rattle.lists.specs.Lists.{sum_of, splice}
 use Rattle.signed.specs.Whole.{clamp32}
-use Rattle.signed.specs.declared.Sum.{Sum}
 use Rattle.sam.specs.Op.{ref_len}
 use Rattle.sam.specs.Record.{pos_of, flags_of, mate_pos_of, is_reverse, is_short}
 use Rattle.answers.specs.Answers.{Told, answered, refused}
 use Rattle.answers.specs.Settled.{Outcome, keeps}
 use Rattle.answers.specs.declared.Refusal.TheVariants.{ShortRecord, TooManyOps, Overflow, NoRoom}
-use Rattle.answers.specs.declared.Count.{Count}
-use Rattle.answers.specs.declared.Flag.{Flag}
 use Rattle.oplist.specs.Ops.{most_ops, record_ops}
 use Rattle.ends_rules.specs.Ends.{plus_one}
 use Rattle.text_rules.specs.Text.{text_ops}
@@ -22,10 +21,10 @@ use Rattle.overlap_rules.specs.declared.PairPlaces.{PairPlaces}
 use Rattle.overlap_rules.specs.declared.Overhang.{Overhang}
 
 -- of an FR pair, the read's and the mate's place counted from 1; either sum may overflow
-abbrev pub both_places : Sum → Sum → PairPlaces
-both_places (Sum.Number p) (Sum.Number m) = PairPlaces.At (record { 0 = p }) (record { 0 = m })
-both_places (Sum.Number p) Sum.Over = PairPlaces.Over
-both_places Sum.Over m = PairPlaces.Over
+abbrev pub both_places : Option ℤ → Option ℤ → PairPlaces
+both_places (Some p) (Some m) = PairPlaces.At (record { 0 = p }) (record { 0 = m })
+both_places (Some p) None = PairPlaces.Over
+both_places None m = PairPlaces.Over
 
 -- whether the pair is FR, and the mate's place as a record has it
 unfoldable pub placed_pair : Bool → List ℕ → ℤ → PairPlaces
@@ -43,30 +42,30 @@ bases_at (PairPlaces.At p m) b ys = overhang_of (is_reverse (flags_of b)) p.0 (r
 bases_at PairPlaces.Over b ys = 0
 
 -- 4
-unfoldable pub overhang_at : PairPlaces → List ℕ → List ℕ → Count
-overhang_at p b ys = cond (is_over p) (Count.Refused Overflow) (Count.Number (bases_at p b ys))
+unfoldable pub overhang_at : PairPlaces → List ℕ → List ℕ → Answer ℕ
+overhang_at p b ys = cond (is_over p) (Err Overflow) (Ok (bases_at p b ys))
 
 -- the same by the pair test, whose refusal, a length's, is passed on before the places are looked at
-abbrev pub pair_overhang : Flag → List ℕ → ℤ → List ℕ → Count
-pair_overhang (Flag.Is fr) b m ys = overhang_at (placed_pair fr b m) b ys
-pair_overhang (Flag.Refused r) b m ys = Count.Refused r
+abbrev pub pair_overhang : Answer Bool → List ℕ → ℤ → List ℕ → Answer ℕ
+pair_overhang (Ok fr) b m ys = overhang_at (placed_pair fr b m) b ys
+pair_overhang (Err r) b m ys = Err r
 
 -- the pair test by the mate's ops
-abbrev pub is_fr_by : List ℕ → List ℕ → Flag
+abbrev pub is_fr_by : List ℕ → List ℕ → Answer Bool
 is_fr_by b ys = is_fr_with_mate b (clamp32 (pos (sum_of ref_len ys)))
 
 -- mate ops: 1, 3; 0 for a list that is no valid mapped CIGAR; 2, 4
-unfoldable pub past_mate_cigar : List ℕ → List ℕ → Count
+unfoldable pub past_mate_cigar : List ℕ → List ℕ → Answer ℕ
 past_mate_cigar b ys =
-    cond (is_short b) (Count.Refused ShortRecord)
-    (cond (ltb most_ops (length ys)) (Count.Refused TooManyOps)
-    (cond (valid_mapped ys) (pair_overhang (is_fr_by b ys) b (mate_pos_of b) ys) (Count.Number 0)))
+    cond (is_short b) (Err ShortRecord)
+    (cond (ltb most_ops (length ys)) (Err TooManyOps)
+    (cond (valid_mapped ys) (pair_overhang (is_fr_by b ys) b (mate_pos_of b) ys) (Ok 0)))
 
 -- the mate's record: 1, 2, 4
-unfoldable pub past_mate_record : List ℕ → List ℕ → Count
+unfoldable pub past_mate_record : List ℕ → List ℕ → Answer ℕ
 past_mate_record b m =
-    cond (is_short b) (Count.Refused ShortRecord)
-    (cond (is_short m) (Count.Refused ShortRecord)
+    cond (is_short b) (Err ShortRecord)
+    (cond (is_short m) (Err ShortRecord)
     (pair_overhang (is_primary_fr b m) b (pos_of m) (record_ops m)))
 
 -- mate text, with room d for its ops xs: 4, 6
@@ -77,9 +76,9 @@ list_left p b xs d =
     (record { answer = Overhang.Bases (bases_at p b xs) (length xs); left = splice d 0 xs }))
 
 -- the same by the pair test: 2, 4
-abbrev pub pair_list_left : Flag → List ℕ → List ℕ → List ℕ → Outcome Overhang
-pair_list_left (Flag.Is fr) b xs d = list_left (placed_pair fr b (mate_pos_of b)) b xs d
-pair_list_left (Flag.Refused r) b xs d = keeps (Overhang.Refused r) d
+abbrev pub pair_list_left : Answer Bool → List ℕ → List ℕ → List ℕ → Outcome Overhang
+pair_list_left (Ok fr) b xs d = list_left (placed_pair fr b (mate_pos_of b)) b xs d
+pair_list_left (Err r) b xs d = keeps (Overhang.Refused r) d
 
 -- mate text: 1; overhang 0 for a text that the strict reader refuses by 5; 3
 unfoldable pub past_mate_text : List ℕ → List ℕ → List ℕ → Outcome Overhang

@@ -8,7 +8,7 @@ ghost use Rattle.sam.specs.Record.{mate_pos_of};
 ghost use Rattle.text_rules.specs.Text.{text_ops};
 ghost use Rattle.overlap_rules.specs.Overlap.{placed_pair, list_left, past_mate_text};
 
-use answers::{Flag, Refusal};
+use answers::Refusal;
 use oplist::Ops;
 use overlap_rules::Overhang;
 use parsed_rules::Measured;
@@ -49,7 +49,7 @@ pub fn num_bases_extending_past_mate_text_raw(bam: &[u8], text: &[u8], out: &mut
         return Overhang::Refused(Refusal::TooManyOps);
     }
     match pairs::fr_with_mate(bam, span) {
-        Flag::Is(fr) => list_left(fr, bam, text, n, out),
-        Flag::Refused(why) => Overhang::Refused(why),
+        Ok(fr) => list_left(fr, bam, text, n, out),
+        Err(why) => Overhang::Refused(why),
     }
 }

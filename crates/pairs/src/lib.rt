@@ -7,7 +7,7 @@ ghost use Rattle.std.specs.Int.Signed.{le_z};
 ghost use Rattle.sam.specs.Record.{flags_of, is_reverse};
 ghost use Rattle.pairs_rules.specs.Pairs.{both_mapped, is_opposite, start_of, last_of, mate_starts_before, fr_by, is_fr, is_fr_with_mate, are_opposite, is_primary_fr, opposite_pair, fr_pair, primary_fr_pair};
 
-use answers::{Flag, Int, Pos0, Refusal};
+use answers::{Answer, Pos0, Refusal};
 
 fn differ(a: bool, b: bool) -> bool
     ensures { result ≡ xor a b }
@@ -60,15 +60,15 @@ fn starts_before_end(s: Pos0, p: Pos0, n: i32) -> bool
 }
 
 // A reverse record's test: its mate's start against its own end. The refusal of its length is passed on.
-fn mate_starts_before(bam: &[u8]) -> Flag
+fn mate_starts_before(bam: &[u8]) -> Answer<bool>
     requires { 32 ≤ length bam.now }
     ensures { result ≡ mate_starts_before bam.now }
 {
     let mate = fields::mate_place(bam);
     let own = fields::own_place(bam);
     match lengths::reference_length_from_raw_bam(bam) {
-        Int::Number(n) => Flag::Is(starts_before_end(mate, own, n)),
-        Int::Refused(why) => Flag::Refused(why),
+        Ok(n) => Ok(starts_before_end(mate, own, n)),
+        Err(why) => Err(why),
     }
 }
 
@@ -79,19 +79,19 @@ fn at_least_one(n: i32) -> bool
 }
 
 // FR of a reverse record, whatever the test of a forward one.
-fn reverse_fr(bam: &[u8]) -> Flag
+fn reverse_fr(bam: &[u8]) -> Answer<bool>
     requires in_bounds { 32 ≤ length bam.now }
     requires bam_value { is_reverse (flags_of bam.now) ≡ true }
     ensures { (forward : Bool) → result ≡ fr_by forward bam.now }
 {
     if !opposite(bam) {
-        return Flag::Is(false);
+        return Ok(false);
     }
     mate_starts_before(bam)
 }
 
 // FR by the record alone; a forward record's template length decides.
-fn fr(bam: &[u8]) -> Flag
+fn fr(bam: &[u8]) -> Answer<bool>
     requires { 32 ≤ length bam.now }
     ensures { result ≡ is_fr bam.now }
 {
@@ -99,13 +99,13 @@ fn fr(bam: &[u8]) -> Flag
         return reverse_fr(bam);
     }
     if !opposite(bam) {
-        return Flag::Is(false);
+        return Ok(false);
     }
-    Flag::Is(at_least_one(little_endian::i32_at(bam, 28)))
+    Ok(at_least_one(little_endian::i32_at(bam, 28)))
 }
 
 // FR by the record and the mate's reference length.
-pub fn fr_with_mate(bam: &[u8], n: i32) -> Flag
+pub fn fr_with_mate(bam: &[u8], n: i32) -> Answer<bool>
     requires { 32 ≤ length bam.now }
     ensures { result ≡ is_fr_with_mate bam.now n }
 {
@@ -113,11 +113,11 @@ pub fn fr_with_mate(bam: &[u8], n: i32) -> Flag
         return reverse_fr(bam);
     }
     if !opposite(bam) {
-        return Flag::Is(false);
+        return Ok(false);
     }
     let own = fields::own_place(bam);
     let mate = fields::mate_place(bam);
-    Flag::Is(starts_before_end(own, mate, n))
+    Ok(starts_before_end(own, mate, n))
 }
 
 // Of two records: all of them mapped, same reference, strands differ.
@@ -140,12 +140,12 @@ fn both_opposite(a: &[u8], b: &[u8]) -> bool
 }
 
 // FR by both records; the reverse one decides.
-pub fn primary_fr(a: &[u8], b: &[u8]) -> Flag
+pub fn primary_fr(a: &[u8], b: &[u8]) -> Answer<bool>
     requires { (32 ≤ length a.now) × (32 ≤ length b.now) }
     ensures { result ≡ is_primary_fr a.now b.now }
 {
     if !both_opposite(a, b) {
-        return Flag::Is(false);
+        return Ok(false);
     }
     if fields::is_reverse(little_endian::u16_at(a, 14)) {
         return reverse_fr(a);
@@ -154,34 +154,34 @@ pub fn primary_fr(a: &[u8], b: &[u8]) -> Flag
 }
 
 // Paired, both mapped, same reference, strands differ. Refusal 1.
-pub fn is_mapped_opposite_strand_pair_raw(bam: &[u8]) -> Flag
+pub fn is_mapped_opposite_strand_pair_raw(bam: &[u8]) -> Answer<bool>
     ensures { result ≡ opposite_pair bam.now }
 {
     if bam.len() < 32 {
-        return Flag::Refused(Refusal::ShortRecord);
+        return Err(Refusal::ShortRecord);
     }
-    Flag::Is(opposite(bam))
+    Ok(opposite(bam))
 }
 
 // FR by the record alone. Refusals 1, 2 and 4.
-pub fn is_fr_pair_raw(bam: &[u8]) -> Flag
+pub fn is_fr_pair_raw(bam: &[u8]) -> Answer<bool>
     ensures { result ≡ fr_pair bam.now }
 {
     if bam.len() < 32 {
-        return Flag::Refused(Refusal::ShortRecord);
+        return Err(Refusal::ShortRecord);
     }
     fr(bam)
 }
 
 // FR by both records. Refusals 1, 2 and 4.
-pub fn is_primary_fr_pair_raw(a: &[u8], b: &[u8]) -> Flag
+pub fn is_primary_fr_pair_raw(a: &[u8], b: &[u8]) -> Answer<bool>
     ensures { result ≡ primary_fr_pair a.now b.now }
 {
     if a.len() < 32 {
-        return Flag::Refused(Refusal::ShortRecord);
+        return Err(Refusal::ShortRecord);
     }
     if b.len() < 32 {
-        return Flag::Refused(Refusal::ShortRecord);
+        return Err(Refusal::ShortRecord);
     }
     primary_fr(a, b)
 }

@@ -1,5 +1,6 @@
 -- A pair test's answer needs only the fields that document 01 names, and `is_primary_fr_pair_raw` is symmetric: the definitions read nothing else, and the reverse record decides either way.
 use mathlib.Core.Path.{◌≡◌, refl, ap, ◌∙◌}
+use Rattle.std.specs.Prelude.{Err, Ok}
 use mathlib.Core.Bool.{Bool, true, false, cond, xor, ◌&&◌}
 use mathlib.Core.List.{List}
 use Prim.Native.Nat.{ℕ}
@@ -7,7 +8,6 @@ use Rattle.signed.specs.Equal.{eqℤ}
 use Rattle.signed.proofs.EqualLaws.{eqℤ_sym}
 use Rattle.sam.specs.Record.{ref_id_of, flags_of, template_len_of, is_reverse, is_short}
 use Rattle.answers.specs.declared.Refusal.TheVariants.{ShortRecord}
-use Rattle.answers.specs.declared.Flag.TheVariants as Flag
 use Rattle.pairs_rules.specs.Needed.{SamePair, SameReverse}
 use Rattle.pairs_rules.specs.Pairs.{both_mapped, is_opposite, mate_starts_before, fr_by, is_fr, are_opposite, is_primary_fr, opposite_pair, fr_pair, primary_fr_pair}
 
@@ -31,7 +31,7 @@ module _ (a b : List ℕ) (s : SamePair a b) where
   fr_needs_forward e t = rw (opposite_needs a b s, ← s.reverse, e, t)
 
 -- of two records one is reverse, and it decides
-which : (x y m : Bool) (a b : List ℕ) → cond (m && xor x y) (is_fr (cond x a b)) (Flag.Is false) ≡ cond (m && xor y x) (is_fr (cond y b a)) (Flag.Is false)
+which : (x y m : Bool) (a b : List ℕ) → cond (m && xor x y) (is_fr (cond x a b)) (Ok false) ≡ cond (m && xor y x) (is_fr (cond y b a)) (Ok false)
 unfolding xor
 which true true true a b = refl
 which true true false a b = refl
@@ -52,7 +52,7 @@ pub primary_symmetric : (a b : List ℕ) → is_primary_fr a b ≡ is_primary_fr
 unfolding is_primary_fr are_opposite
 primary_symmetric a b =
     which (is_reverse (flags_of a)) (is_reverse (flags_of b)) (both_mapped (flags_of a) && both_mapped (flags_of b) && eqℤ (ref_id_of a) (ref_id_of b)) a b
-    ∙ ap (λ (m : Bool). cond (m && xor (is_reverse (flags_of b)) (is_reverse (flags_of a))) (is_fr (cond (is_reverse (flags_of b)) b a)) (Flag.Is false))
+    ∙ ap (λ (m : Bool). cond (m && xor (is_reverse (flags_of b)) (is_reverse (flags_of a))) (is_fr (cond (is_reverse (flags_of b)) b a)) (Ok false))
     (ap (λ (m : Bool). m && eqℤ (ref_id_of a) (ref_id_of b)) (swap (both_mapped (flags_of a)) (both_mapped (flags_of b)))
     ∙ ap (λ (m : Bool). both_mapped (flags_of b) && both_mapped (flags_of a) && m) (eqℤ_sym (ref_id_of a) (ref_id_of b)))
 
@@ -75,8 +75,8 @@ pub symmetric : (a b : List ℕ) → primary_fr_pair a b ≡ primary_fr_pair b a
 unfolding primary_fr_pair
 symmetric a b = go (is_short a) (is_short b)
   where
-    go : (t u : Bool) → cond t (Flag.Refused ShortRecord) (cond u (Flag.Refused ShortRecord) (is_primary_fr a b))
-        ≡ cond u (Flag.Refused ShortRecord) (cond t (Flag.Refused ShortRecord) (is_primary_fr b a))
+    go : (t u : Bool) → cond t (Err ShortRecord) (cond u (Err ShortRecord) (is_primary_fr a b))
+        ≡ cond u (Err ShortRecord) (cond t (Err ShortRecord) (is_primary_fr b a))
     go true true = refl
     go true false = refl
     go false true = refl

@@ -1,5 +1,7 @@
 -- The tests of each pair rule, one by one, as the definitions have them; f is a record's flag, as it was read.
 use Prim.Native.Nat.{ℕ, ◌+◌, ◌<◌, ◌≤◌}
+use Rattle.std.specs.Prelude.{Ok}
+use Rattle.answers.specs.Answer.{Answer}
 use mathlib.Core.Path.{◌≡◌, refl, sym, ap, ◌∙◌}
 use mathlib.Core.Bool.{Bool, true, false, cond, not, xor, ◌&&◌}
 use mathlib.Core.List.{List}
@@ -13,7 +15,6 @@ use Rattle.signed.specs.Equal.{eqℤ}
 use Rattle.signed.specs.Whole.{raised}
 use Rattle.signed.proofs.Halves.{up, dn, plus, minus, leℤ, gtℤ, raise_fact}
 use Rattle.sam.specs.Record.{ref_id_of, flags_of, mate_ref_id_of, is_paired, is_unmapped, is_mate_unmapped, is_reverse, is_mate_reverse}
-use Rattle.answers.specs.declared.Flag.{Flag}
 use Rattle.pairs_rules.specs.Pairs.{both_mapped, is_opposite, start_of, last_of, mate_starts_before, fr_by, is_fr, are_opposite, is_primary_fr}
 
 pub first_true : (a b : Bool) → a ≡ true → not b ≡ xor a b
@@ -53,7 +54,7 @@ module _ (b : List ℕ) (f : ℕ) (e : f ≡ flags_of b) where
   unfolding is_opposite
   strands r x y p q s t u v = simp (sym e, p, q, s, sym t, sym u) v
 
-  pub fr_forward : (forward : Bool) → is_opposite b ≡ true → is_reverse f ≡ false → Flag.Is forward ≡ fr_by forward b
+  pub fr_forward : (forward : Bool) → is_opposite b ≡ true → is_reverse f ≡ false → Ok forward ≡ fr_by forward b
   unfolding fr_by
   fr_forward forward o p = simp (o, sym e, p)
 
@@ -61,7 +62,7 @@ pub fr_reverse : (b : List ℕ) → is_opposite b ≡ true → is_reverse (flags
 unfolding fr_by
 fr_reverse b o p forward = simp (o, p)
 
-pub not_fr : (forward : Bool) (b : List ℕ) → is_opposite b ≡ false → Flag.Is false ≡ fr_by forward b
+pub not_fr : (forward : Bool) (b : List ℕ) → is_opposite b ≡ false → Ok false ≡ fr_by forward b
 unfolding fr_by
 not_fr forward b o = simp o
 
@@ -98,11 +99,11 @@ pub second_reverse : (a b : List ℕ) (f : ℕ) → are_opposite a b ≡ true �
 unfolding are_opposite
 second_reverse a b f o e p = last-of (both_mapped (flags_of a) && both_mapped (flags_of b) && eqℤ (ref_id_of a) (ref_id_of b)) (is_reverse (flags_of a)) (is_reverse (flags_of b)) o (ap is_reverse (sym e) ∙ p)
 
-pub no_pair : (a b : List ℕ) → are_opposite a b ≡ false → Flag.Is false ≡ is_primary_fr a b
+pub no_pair : (a b : List ℕ) → are_opposite a b ≡ false → Ok false ≡ is_primary_fr a b
 unfolding is_primary_fr
 no_pair a b o = simp o
 
-pub decided : (a b : List ℕ) (f : ℕ) (r : Flag) (t : Bool) → are_opposite a b ≡ true → f ≡ flags_of a → is_reverse f ≡ t → r ≡ is_fr (cond t a b) → r ≡ is_primary_fr a b
+pub decided : (a b : List ℕ) (f : ℕ) (r : Answer Bool) (t : Bool) → are_opposite a b ≡ true → f ≡ flags_of a → is_reverse f ≡ t → r ≡ is_fr (cond t a b) → r ≡ is_primary_fr a b
 unfolding is_primary_fr
 decided a b f r t o e p w = simp (o, sym e, p) w
 

@@ -1,5 +1,6 @@
 -- What is answered of a text, one test after another: of each case the answer that is due.
 use Prim.Native.Nat.{ℕ, ◌≤◌, ◌<◌}
+use Rattle.std.specs.Prelude.{Err, Ok}
 use mathlib.Core.Path.{◌≡◌, refl}
 use mathlib.Core.Bool.{Bool, true, false, cond, ◌&&◌}
 use mathlib.Core.List.{List}
@@ -13,7 +14,6 @@ use Rattle.sam.specs.Op.{ref_len}
 use Rattle.oplist.specs.Ops.{most_ops}
 use Rattle.answers.specs.Settled.{keeps}
 use Rattle.answers.specs.declared.Refusal.TheVariants.{NotACigar, TooManyOps, NoRoom}
-use Rattle.answers.specs.declared.Count.TheVariants as Count
 use Rattle.answers.proofs.Unique.{outcome}
 use Rattle.text_rules.specs.Text.{is_row, text_ops}
 use Rattle.text_rules.specs.Valid.{valid_mapped}
@@ -24,20 +24,20 @@ use Rattle.parsed_rules.specs.declared.Measured.{Measured}
 -- ---- the reader
 
 module _ (s d : List ℕ) where
-  pub not_strict : strict s ≡ false → parsed s d ≡ keeps (Count.Refused NotACigar) d
+  pub not_strict : strict s ≡ false → parsed s d ≡ keeps (Err NotACigar) d
   unfolding parsed
   not_strict e = rw e refl
 
   module _ (n : ℕ) (t : strict s ≡ true) (k : length (text_ops s) ≡ n) where
-    pub too_many : most_ops < n → parsed s d ≡ keeps (Count.Refused TooManyOps) d
+    pub too_many : most_ops < n → parsed s d ≡ keeps (Err TooManyOps) d
     unfolding parsed
     too_many h = rw (t, k, lt-ltb most_ops n h) refl
 
-    pub no_place : n ≤ most_ops → length d < n → parsed s d ≡ keeps (Count.Refused NoRoom) d
+    pub no_place : n ≤ most_ops → length d < n → parsed s d ≡ keeps (Err NoRoom) d
     unfolding parsed
     no_place h l = rw (t, k, le-ltb most_ops n h, lt-ltb (length d) n l) refl
 
-    pub all_told : n ≤ most_ops → n ≤ length d → (e : List ℕ) → e ≡ splice d 0 (text_ops s) → parsed s d ≡ record { answer = Count.Number n; left = e }
+    pub all_told : n ≤ most_ops → n ≤ length d → (e : List ℕ) → e ≡ splice d 0 (text_ops s) → parsed s d ≡ record { answer = Ok n; left = e }
     unfolding parsed
     all_told h l e q = rw (t, k, le-ltb most_ops n h, le-ltb (length d) n l) (outcome refl q)
 

@@ -1,5 +1,6 @@
 -- The calls as they are answered: a clip that answers has the rule's list and count, whatever was put to it, and the rule drops a first part of the columns.
 use Prim.Native.Nat.{ℕ}
+use Rattle.std.specs.Prelude.{Ok}
 use mathlib.Core.Path.{◌≡◌, refl, sym, ap, ◌∙◌}
 use mathlib.Core.Bool.{Bool, true, false, cond}
 use mathlib.Core.List.{List}
@@ -11,7 +12,6 @@ use Rattle.lists.proofs.Absurd.{never}
 use Rattle.sam.specs.Op.{len_of}
 use Rattle.answers.specs.Settled.{Outcome, Settled, keeps}
 use Rattle.answers.specs.declared.Refusal.TheVariants.{TooManyOps, TooLong, NoRoom, AmountBeyond}
-use Rattle.answers.specs.declared.Count.TheVariants.{Number}
 use Rattle.lookup_rules.specs.Lookup.{looked_up_to}
 use Rattle.clip_rules.specs.Answer.{clipped_ops, clipped_count, is_beyond, clipped_into, clipped_up_to, clipped_record, written, uncounted, without_count}
 use Rattle.clip_rules.specs.declared.Clipped.{Clipped}
@@ -88,11 +88,11 @@ module _ {Holds : List ℕ → List ℕ → Type 0} (start : Bool) (f : Clipper 
       ap length left_is.0 ∙ p
 
 -- an end call leaves the count out
-pub with_count : (n : ℕ) (c : Clipped) → Number n ≡ uncounted c → (r : ℕ) × (Done n r ≡ c)
+pub with_count : (n : ℕ) (c : Clipped) → Ok n ≡ uncounted c → (r : ℕ) × (Done n r ≡ c)
 with_count n (Done k r) e = let p : n ≡ k = cc in (r, ap (λ (i : ℕ). Done i r) p)
 with_count n (Refused w) e = never (cc)
 
-pub settled_count : (n : ℕ) (o : Outcome Clipped) (m : List ℕ) → Settled (without_count o) (Number n) m → (r : ℕ) × Settled o (Done n r) m
+pub settled_count : (n : ℕ) (o : Outcome Clipped) (m : List ℕ) → Settled (without_count o) (Ok n) m → (r : ℕ) × Settled o (Done n r) m
 settled_count n o m S = let c = with_count n o.answer S.answer in (c.0, record { answer = c.1; memory = S.memory })
 
 pub always : (limit : ℕ) {Holds : List ℕ → List ℕ → Type 0} (f g : Clipper Clipped) → Ruled Holds true f → Ruled Holds false g → Always limit Holds f (λ s a d. without_count (g s a d)) (looked_up_to limit)

@@ -1,5 +1,6 @@
 -- Item 10 at work, and which premises it needs: antt computes each line.
 use Prim.Native.Nat.{ℕ}
+use Rattle.answers.specs.Answer.{Answer}
 use mathlib.Core.Path.{◌≡◌, refl}
 use mathlib.Core.Bool.{Bool, true, false}
 use mathlib.Core.List.{List, [], ◌∷◌}

@@ -1,5 +1,6 @@
 -- Both ends from the one statement, `Drops` of the list as seen from the chosen end: at the start what is seen moves by the part that is gone, and at the end what is left is seen as before.
 use Prim.Native.Nat.{ℕ, ◌+◌, ◌-◌, ◌≤◌, ◌<◌}
+use Rattle.answers.specs.Answer.{Answer}
 use mathlib.Core.Path.{◌≡◌, refl, sym, ap, ◌∙◌}
 use mathlib.Core.Bool.{Bool, true, false}
 use mathlib.Core.List.{List, ◌++◌, reverse}

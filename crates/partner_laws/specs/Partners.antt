@@ -1,10 +1,10 @@
 -- Document 02, item 10, "Kept bases keep their partners": what lookup tells of a list xs, and of ys, which a clip left of it.
 use Rattle.std.specs.Prelude.{ℕ, ◌+◌, ◌≤◌, ◌<◌, ◌≡◌, Bool, false, List, take}
+use Rattle.std.specs.Prelude.{Ok}
+use Rattle.answers.specs.Answer.{Answer}
 use Rattle.lists.specs.Lists.{sum_of}
 use Rattle.sam.specs.Op.{query_len, ref_len}
 use Rattle.answers.specs.Settled.{Settled}
-use Rattle.answers.specs.declared.Count.{Count}
-use Rattle.answers.specs.declared.Count.TheVariants.{Number}
 use Rattle.lookup_rules.specs.Lookup.{Answer, At, Nothing, Refused}
 use Rattle.lookup_rules.specs.Meaning.{InBounds}
 use Rattle.lookup_rules.specs.declared.Found.{Found}
@@ -40,8 +40,8 @@ pub record EndKeeps (look : Lookup) (asked : Bool) (xs ys : List ℕ) (start : �
 
 -- of every list and every amount, as the calls are answered: s holds the list xs; the clip answered that it wrote n ops, with the count r at the start, and left m, whose first n are the
 -- list that is left; and lookup refuses neither list
-pub record Always (limit : ℕ) (Holds : List ℕ → List ℕ → Type 0) (clipStart : Clipper Clipped) (clipEnd : Clipper Count) (look : Lookup) : Type 0 where
+pub record Always (limit : ℕ) (Holds : List ℕ → List ℕ → Type 0) (clipStart : Clipper Clipped) (clipEnd : Clipper (Answer ℕ)) (look : Lookup) : Type 0 where
   pub at_start : (s xs d m : List ℕ) (a n r start : ℕ) → Holds s xs → Settled (clipStart s a d) (Done n r) m
       → InBounds limit xs start → InBounds limit (take n m) (start + r) → StartKeeps look xs (take n m) start r
-  pub at-end : (s xs d m : List ℕ) (a n start : ℕ) (asked : Bool) → Holds s xs → Settled (clipEnd s a d) (Number n) m
+  pub at-end : (s xs d m : List ℕ) (a n start : ℕ) (asked : Bool) → Holds s xs → Settled (clipEnd s a d) (Ok n) m
       → InBounds limit xs start → InBounds limit (take n m) start → EndKeeps look asked xs (take n m) start

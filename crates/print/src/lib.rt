@@ -8,9 +8,8 @@ ghost use Rattle.oplist.specs.Ops.{ops_of};
 ghost use Rattle.print_rules.specs.Text.{op_text, text_of, printed_ops, printed};
 ghost use Rattle.print_rules.specs.Inner.{room_of};
 
-use answers::{Count, Refusal};
+use answers::{Answer, Refusal};
 use oplist::Ops;
-use print_rules::Room;
 
 // Puts an op's text into out from index at, and answers the index after it.
 fn put_op(op: u32, out: &mut [u8], at: usize) -> usize
@@ -28,7 +27,7 @@ fn put_op(op: u32, out: &mut [u8], at: usize) -> usize
 }
 
 // The walk that measures.
-fn room_for(words: &[u32], rec: &[u8], list: Ops) -> Room
+fn room_for(words: &[u32], rec: &[u8], list: Ops) -> Option<usize>
     ensures { result ≡ room_of (ops_of words.now rec.now list) }
 {
     let count = oplist::count(words, rec, list);
@@ -37,12 +36,12 @@ fn room_for(words: &[u32], rec: &[u8], list: Ops) -> Room
     while i < count {
         let op = oplist::op_at(words, rec, list, i);
         if 8 < op % 16 {
-            return Room::BadCode;
+            return None;
         }
         n += decimal::width((op / 16) as u64) + 1;
         i += 1;
     }
-    Room::Bytes(n)
+    Some(n)
 }
 
 // The walk that writes.
@@ -60,25 +59,25 @@ fn put_text(words: &[u32], rec: &[u8], list: Ops, out: &mut [u8])
 }
 
 // The text of a list that lies in a record, in the first places of out. Refusals 7 and 6.
-pub fn print_ops(bam: &[u8], list: Ops, out: &mut [u8]) -> Count
+pub fn print_ops(bam: &[u8], list: Ops, out: &mut [u8]) -> Answer<u64>
     ensures { Settled (printed_ops (ops_of [] bam.now list) out.old) result out.new }
 {
-    let Room::Bytes(n) = room_for(&[], bam, list) else {
-        return Count::Refused(Refusal::BadCode);
+    let Some(n) = room_for(&[], bam, list) else {
+        return Err(Refusal::BadCode);
     };
     if out.len() < n {
-        return Count::Refused(Refusal::NoRoom);
+        return Err(Refusal::NoRoom);
     }
     put_text(&[], bam, list, out);
-    Count::Number(n as u64)
+    Ok(n as u64)
 }
 
 // The text of a record's ops, in the first places of out. Refusals 1, 7 and 6.
-pub fn cigar_to_bytes_into(bam: &[u8], out: &mut [u8]) -> Count
+pub fn cigar_to_bytes_into(bam: &[u8], out: &mut [u8]) -> Answer<u64>
     ensures { Settled (printed bam.now out.old) result out.new }
 {
     if bam.len() < 32 {
-        return Count::Refused(Refusal::ShortRecord);
+        return Err(Refusal::ShortRecord);
     }
     print_ops(bam, oplist::of_record(bam), out)
 }

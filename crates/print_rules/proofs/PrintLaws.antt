@@ -1,5 +1,6 @@
 -- The text goes op by op, each its digits and its letter.
 use Prim.Native.Nat.{ℕ, ◌+◌, ◌≤◌, ◌<◌}
+use Rattle.std.specs.Prelude.{None, Some}
 use mathlib.Core.Path.{◌≡◌, refl, sym, ap, ◌∙◌}
 use mathlib.Core.Bool.{Bool, true, false, cond, ◌||◌}
 use mathlib.Core.List.{List, [], ◌∷◌, ◌++◌}
@@ -13,7 +14,6 @@ use Rattle.ops.specs.Ops.{letter_of}
 use Rattle.decimal.specs.Inner.{Width, last_digits}
 use Rattle.decimal.proofs.DigitLaws.{sets_append, length_digits, decimal-digits}
 use Rattle.print_rules.specs.Text.{op_text, text_of, any_bad}
-use Rattle.print_rules.specs.declared.Room.TheVariants as Room
 
 pub op_text_digits : (op r : ℕ) → Width (len_of op) r → op_text op ≡ last_digits r (len_of op) ++ (letter_of (code_of op) ∷ [])
 unfolding op_text
@@ -56,10 +56,10 @@ op_stores op r w l at =
     ∙ ap (λ (t : List ℕ). sets l at t) (sym (op_text_digits op r w))
 
 -- which case `room_of` is
-pub room_bad : (b : Bool) (t : ℕ) → cond b Room.BadCode (Room.Bytes t) ≡ Room.BadCode → b ≡ true
+pub room_bad : (b : Bool) (t : ℕ) → cond b None (Some t) ≡ None → b ≡ true
 room_bad true t e = refl
 room_bad false t e = never (cc)
 
-pub room_some : (b : Bool) (t n : ℕ) → cond b Room.BadCode (Room.Bytes t) ≡ Room.Bytes n → (b ≡ false) × (t ≡ n)
+pub room_some : (b : Bool) (t n : ℕ) → cond b None (Some t) ≡ Some n → (b ≡ false) × (t ≡ n)
 room_some true t n e = never (cc)
 room_some false t n e = (refl, cc)

@@ -1,12 +1,13 @@
 -- Document 01, module 4: "Decimal without leading zeros, then the letter; length 0 prints as 0. No ops, or an overrun area, gives empty text."
 use Rattle.std.specs.Prelude.{ℕ, Bool, false, cond, ◌||◌, List, [], ◌∷◌, ◌++◌, length, ltb}
+use Rattle.std.specs.Prelude.{Err, Ok}
+use Rattle.answers.specs.Answer.{Answer}
 use Rattle.lists.specs.Lists.{splice}
 use Rattle.sam.specs.Op.{len_of, code_of}
 use Rattle.sam.specs.Record.{is_short}
 use Rattle.oplist.specs.Ops.{record_ops}
 use Rattle.answers.specs.Settled.{Outcome, keeps}
 use Rattle.answers.specs.declared.Refusal.TheVariants.{ShortRecord, BadCode, NoRoom}
-use Rattle.answers.specs.declared.Count.{Count}
 use Rattle.ops.specs.Ops.{letter_of}
 use Rattle.decimal.specs.Decimal.{decimal}
 
@@ -24,12 +25,12 @@ any_bad [] = false
 any_bad (o ∷ xs) = ltb 8 (code_of o) || any_bad xs
 
 -- the text of ops into lent memory d: 7, 6
-abbrev pub printed_ops : List ℕ → List ℕ → Outcome Count
+abbrev pub printed_ops : List ℕ → List ℕ → Outcome (Answer ℕ)
 printed_ops xs d =
-    cond (any_bad xs) (keeps (Count.Refused BadCode) d)
-    (cond (ltb (length d) (length (text_of xs))) (keeps (Count.Refused NoRoom) d)
-    (record { answer = Count.Number (length (text_of xs)); left = splice d 0 (text_of xs) }))
+    cond (any_bad xs) (keeps (Err BadCode) d)
+    (cond (ltb (length d) (length (text_of xs))) (keeps (Err NoRoom) d)
+    (record { answer = Ok (length (text_of xs)); left = splice d 0 (text_of xs) }))
 
 -- `cigar_to_bytes_into` of a record: 1, 7, 6
-unfoldable pub printed : List ℕ → List ℕ → Outcome Count
-printed b d = cond (is_short b) (keeps (Count.Refused ShortRecord) d) (printed_ops (record_ops b) d)
+unfoldable pub printed : List ℕ → List ℕ → Outcome (Answer ℕ)
+printed b d = cond (is_short b) (keeps (Err ShortRecord) d) (printed_ops (record_ops b) d)

@@ -2,8 +2,3 @@
 // How many bytes a text takes, or that a code has no letter.
 #![tactic(auto)]
 
-#[derive(Clone, Copy)]
-pub enum Room {
-    Bytes(usize),
-    BadCode,
-}

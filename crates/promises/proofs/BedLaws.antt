@@ -1,5 +1,6 @@
 -- What document 02, item 5, promises of blocks. Each line is a theorem of `bed_rules`, over the definitions that the contract uses.
 use Prim.Native.Nat.{ℕ, ◌+◌, ◌<◌}
+use Rattle.answers.specs.Answer.{Answer}
 use mathlib.Core.Path.{◌≡◌}
 use mathlib.Core.Bool.{false}
 use mathlib.Core.List.{List, [], ◌∷◌}

@@ -1,5 +1,7 @@
 -- The refusal table across the C border (include/cigar.h): of each shape one law, that what gives a row's number gives it in the struct, where every value is then 0.
 use Prim.Native.Nat.{ℕ, ◌+◌}
+use Rattle.std.specs.Prelude.{Err, None, Ok, Some}
+use Rattle.answers.specs.Answer.{Answer}
 use mathlib.Core.Path.{◌≡◌, refl, subst}
 use mathlib.Core.Bool.{Bool, true, false, cond}
 use mathlib.Core.List.{List}
@@ -9,10 +11,7 @@ use lib.ListN.{length}
 use lib.Signed.{lt_z}
 use Rattle.signed.specs.Whole.{natural, checked, side_of, sum_at}
 use Rattle.signed.specs.declared.Side.TheVariants.{Below, Within, Above}
-use Rattle.signed.specs.declared.Sum.TheVariants as Sum
 use Rattle.answers.specs.declared.Pos1.{Pos1}
-use Rattle.answers.specs.declared.Place1.TheVariants as Place1
-use Rattle.answers.specs.declared.Int.{Int}
 use Rattle.answers.specs.declared.Refusal.{Refusal}
 use Rattle.answers.specs.declared.Refusal.TheVariants.{ShortRecord}
 use Rattle.sam.specs.Record.{pos_of}
@@ -63,42 +62,42 @@ module _ {t : Told} {rows : List Row} (g : Gives t rows) where
 -- ---- the positions that start and end find are never negative, so that they cross as they are
 
 -- a sum that is not negative, where it fits
-sum_is_natural : (n : ℕ) (p : Pos1) → to_place1 (checked (pos n)) ≡ Place1.At p → pos (natural p.0) ≡ p.0
+sum_is_natural : (n : ℕ) (p : Pos1) → to_place1 (checked (pos n)) ≡ Ok (Some p) → pos (natural p.0) ≡ p.0
 unfolding checked side_of
 sum_is_natural n p = go (lt_z (pos n) (negsuc 2147483647)) (lt_z (pos 2147483647) (pos n))
   where
-    go : (low high : Bool) → to_place1 (sum_at (cond low Below (cond high Above (Within (pos n))))) ≡ Place1.At p → pos (natural p.0) ≡ p.0
+    go : (low high : Bool) → to_place1 (sum_at (cond low Below (cond high Above (Within (pos n))))) ≡ Ok (Some p) → pos (natural p.0) ≡ p.0
     go true high e = cc
     go false true e = cc
     go false false e = let f : record { 0 = pos n } ≡ p = cc in subst (λ (q : Pos1). pos (natural q.0) ≡ q.0) f refl
 
 -- past the tests of both calls
-found_is_natural : (t u : Bool) (n m : ℕ) (p : Pos1) → cond t Place1.Nothing (cond u Place1.Nothing (to_place1 (Sum.Number (pos n) ⊕ Sum.Number (pos m)))) ≡ Place1.At p → pos (natural p.0) ≡ p.0
+found_is_natural : (t u : Bool) (n m : ℕ) (p : Pos1) → cond t (Ok None) (cond u (Ok None) (to_place1 (Some (pos n) ⊕ Some (pos m)))) ≡ Ok (Some p) → pos (natural p.0) ≡ p.0
 unfolding both
 found_is_natural true u n m p e = cc
 found_is_natural false true n m p e = cc
 found_is_natural false false n m p e = sum_is_natural (n + m) p e
 
-pub start_is_natural : (b : List ℕ) (p : Pos1) → alignment_start b ≡ Place1.At p → pos (natural p.0) ≡ p.0
+pub start_is_natural : (b : List ℕ) (p : Pos1) → alignment_start b ≡ Ok (Some p) → pos (natural p.0) ≡ p.0
 unfolding alignment_start plus_one
 start_is_natural b p = go (ltb (length b) 32) (pos_of b)
   where
-    go : (t : Bool) (z : ℤ) → cond t (Place1.Refused ShortRecord) (cond (lt_z z (pos 0)) Place1.Nothing (to_place1 (Sum.Number z ⊕ Sum.Number (pos 1)))) ≡ Place1.At p → pos (natural p.0) ≡ p.0
+    go : (t : Bool) (z : ℤ) → cond t (Err ShortRecord) (cond (lt_z z (pos 0)) (Ok None) (to_place1 (Some z ⊕ Some (pos 1)))) ≡ Ok (Some p) → pos (natural p.0) ≡ p.0
     go true z e = cc
     go false (negsuc n) e = cc
     go false (pos n) e = found_is_natural (ltb n 0) false n 1 p e
 
-pub end_is_natural : (b : List ℕ) (p : Pos1) → alignment_end b ≡ Place1.At p → pos (natural p.0) ≡ p.0
+pub end_is_natural : (b : List ℕ) (p : Pos1) → alignment_end b ≡ Ok (Some p) → pos (natural p.0) ≡ p.0
 unfolding alignment_end
 end_is_natural b p = go (ltb (length b) 32) (pos_of b) (checked_ref_length b)
   where
-    passed : (t : Bool) (r : Refusal) → cond t Place1.Nothing (Place1.Refused r) ≡ Place1.At p → pos (natural p.0) ≡ p.0
+    passed : (t : Bool) (r : Refusal) → cond t (Ok None) (Err r) ≡ Ok (Some p) → pos (natural p.0) ≡ p.0
     passed true r e = cc
     passed false r e = cc
 
-    go : (t : Bool) (z : ℤ) (y : Int) → cond t (Place1.Refused ShortRecord) (cond (lt_z z (pos 0)) Place1.Nothing (end_at z y)) ≡ Place1.At p → pos (natural p.0) ≡ p.0
+    go : (t : Bool) (z : ℤ) (y : Answer ℤ) → cond t (Err ShortRecord) (cond (lt_z z (pos 0)) (Ok None) (end_at z y)) ≡ Ok (Some p) → pos (natural p.0) ≡ p.0
     go true z y e = cc
     go false (negsuc n) y e = cc
-    go false (pos n) (Int.Number (negsuc m)) e = found_is_natural (ltb n 0) true n 0 p e
-    go false (pos n) (Int.Number (pos m)) e = found_is_natural (ltb n 0) (eqb m 0) n m p e
-    go false (pos n) (Int.Refused r) e = passed (ltb n 0) r e
+    go false (pos n) (Ok (negsuc m)) e = found_is_natural (ltb n 0) true n 0 p e
+    go false (pos n) (Ok (pos m)) e = found_is_natural (ltb n 0) (eqb m 0) n m p e
+    go false (pos n) (Err r) e = passed (ltb n 0) r e

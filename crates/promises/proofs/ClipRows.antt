@@ -1,5 +1,6 @@
 -- The refusal table of clipping: each test of a definition is a row, in the same order, and an answer keeps its rows without its count.
 use Prim.Native.Nat.{ℕ}
+use Rattle.std.specs.Prelude.{Ok}
 use mathlib.Core.Path.{refl, sym, ap}
 use mathlib.Core.Bool.{Bool, true, false}
 use mathlib.Core.List.{List, ◌∷◌}
@@ -13,7 +14,6 @@ use Rattle.oplist.specs.Ops.{most_ops, record_ops}
 use Rattle.answers.specs.Answers.{tell_count}
 use Rattle.answers.specs.Settled.{Outcome}
 use Rattle.answers.specs.declared.Refusal.TheVariants.{ShortRecord, TooManyOps, TooLong, NoRoom, AmountBeyond}
-use Rattle.answers.specs.declared.Count.TheVariants.{Number}
 use Rattle.clip_rules.specs.Answer.{clipped_ops, clipped_count, clippable, is_beyond, clipped_into, clipped_up_to, clipped_record, uncounted, without_count, clipped_start, clipped_end, record_start, record_end, tell_clipped}
 use Rattle.clip_rules.specs.declared.Clipped.{Clipped}
 use Rattle.clip_rules.specs.declared.Clipped.TheVariants.{Done, Refused}
@@ -59,7 +59,7 @@ module _ (xs : List ℕ) (amount : ℕ) (d : List ℕ) where
   pub clip_cigar_start_raw : GivesFilled tell_clipped (clipped_start xs amount d) d (clip_rows xs amount true d) (Done (length (clipped_ops xs amount true)) (clipped_count xs amount true)) (clipped_ops xs amount true)
   clip_cigar_start_raw = list_rows amount true d most_ops xs
 
-  pub clip_cigar_end_raw : GivesFilled tell_count (clipped_end xs amount d) d (clip_rows xs amount false d) (Number (length (clipped_ops xs amount false))) (clipped_ops xs amount false)
+  pub clip_cigar_end_raw : GivesFilled tell_count (clipped_end xs amount d) d (clip_rows xs amount false d) (Ok (length (clipped_ops xs amount false))) (clipped_ops xs amount false)
   clip_cigar_end_raw = uncounted_rows (list_rows amount false d most_ops xs)
 
 module _ (b : List ℕ) (amount : ℕ) (d : List ℕ) where
@@ -67,5 +67,5 @@ module _ (b : List ℕ) (amount : ℕ) (d : List ℕ) where
       (Done (length (clipped_ops (record_ops b) amount true)) (clipped_count (record_ops b) amount true)) (clipped_ops (record_ops b) amount true)
   clip_cigar_start = record_rows amount true d b
 
-  pub clip_cigar_end : GivesFilled tell_count (record_end b amount d) d (clip_record_rows b amount false d) (Number (length (clipped_ops (record_ops b) amount false))) (clipped_ops (record_ops b) amount false)
+  pub clip_cigar_end : GivesFilled tell_count (record_end b amount d) d (clip_record_rows b amount false d) (Ok (length (clipped_ops (record_ops b) amount false))) (clipped_ops (record_ops b) amount false)
   clip_cigar_end = uncounted_rows (record_rows amount false d b)

@@ -1,5 +1,6 @@
 -- What document 02, item 11, promises of CSI bins beside the answers, over the bins of `sam`. Each line is a theorem of the crate that it is cited from.
 use Prim.Native.Nat.{ℕ, suc, ◌+◌, ◌-◌, ◌*◌, ◌/◌, ◌<◌, ◌≤◌, ◌^◌}
+use Rattle.std.specs.Prelude.{Ok}
 use mathlib.Core.Path.{◌≡◌, refl, sym, ◌∙◌}
 use mathlib.Core.Bool.{true}
 use mathlib.Core.List.{Memᴰ}
@@ -8,7 +9,6 @@ use Rattle.lists.specs.Lists.{Each}
 use Rattle.signed.specs.Whole.{natural}
 use Rattle.sam.specs.Bins.{MeetingBin, SmallestBin, AllBins}
 use Rattle.sam.proofs.BinLaws as Bins
-use Rattle.answers.specs.declared.Nat.TheVariants.{Number}
 use Rattle.bin_rules.specs.Bin.{reg2bin}
 use Rattle.bin_rules.proofs.Smallest as Bai
 use Rattle.csi_rules.specs.Csi.{served, inside, region_bin, region_bins, csi_bin}
@@ -19,7 +19,7 @@ use Rattle.csi_rules.proofs.Meaning as Meaning
 -- ---- where neither 17 nor 18 is due
 module _ (beg end : ℤ) (s d : ℕ) (u : inside s d beg end ≡ true) where
   -- "it is the smallest bin holding the region", "shown once over depth and shift"
-  pub csi_smallest : served s d ≡ true → (csi_bin beg end s d ≡ Number (region_bin beg end s d)) × SmallestBin s d (natural beg) (natural end) (region_bin beg end s d)
+  pub csi_smallest : served s d ≡ true → (csi_bin beg end s d ≡ Ok (region_bin beg end s d)) × SmallestBin s d (natural beg) (natural end) (region_bin beg end s d)
   csi_smallest t = (Cases.bin_answer beg end s d t u, Meaning.smallest beg end s d u)
 
   -- "all bins that may overlap a region, each once, level by level from the coarsest, ascending in each"

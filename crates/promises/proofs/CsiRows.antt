@@ -1,5 +1,6 @@
 -- The refusal table of CSI bins: each test of the region is a row, in the same order, and the calls pass its refusal on.
 use Prim.Native.Nat.{ℕ}
+use Rattle.std.specs.Prelude.{Err, Ok}
 use mathlib.Core.Path.{◌≡◌, refl}
 use mathlib.Core.Bool.{Bool, true, false, cond, not}
 use mathlib.Core.List.{List, ◌∷◌}
@@ -9,7 +10,6 @@ use lib.ListN.{length}
 use Rattle.answers.specs.Answers.{Told, tell_nat, tell_count}
 use Rattle.answers.specs.Settled.{Outcome, keeps}
 use Rattle.answers.specs.declared.Refusal.TheVariants.{NoRoom, BadLevels, BadRegion}
-use Rattle.answers.specs.declared.Count.TheVariants as Count
 use Rattle.csi_rules.specs.declared.Region.{Region}
 use Rattle.csi_rules.specs.declared.Region.TheVariants.{Refused}
 use Rattle.csi_rules.specs.Csi.{served, inside, region_of, bin_in, bins_in, region_bins, csi_bin, csi_bins}
@@ -37,9 +37,9 @@ csi_reg2bin beg end s d =
 
 -- where no row holds, the list stands in the first places; a refusal, 6 too, leaves the room as it was
 pub csi_reg2bins : (beg end : ℤ) (s d : ℕ) (out : List ℕ)
-    → GivesFilled tell_count (csi_bins beg end s d out) out (csi_list_rows beg end s d out) (Count.Number (length (region_bins beg end s d))) (region_bins beg end s d)
+    → GivesFilled tell_count (csi_bins beg end s d out) out (csi_list_rows beg end s d out) (Ok (length (region_bins beg end s d))) (region_bins beg end s d)
 unfolding csi_bins region_of
 csi_reg2bins beg end s d out =
-    kept_through tell_count (bins_in s d out) (not (served s d)) (Refused BadLevels) _ (Count.Refused BadLevels) 17 refl refl refl
-    (kept_through tell_count (bins_in s d out) (not (inside s d beg end)) (Refused BadRegion) _ (Count.Refused BadRegion) 18 refl refl refl
-    (last_row tell_count (region_bins beg end s d) (Count.Refused NoRoom) _ refl refl))
+    kept_through tell_count (bins_in s d out) (not (served s d)) (Refused BadLevels) _ (Err BadLevels) 17 refl refl refl
+    (kept_through tell_count (bins_in s d out) (not (inside s d beg end)) (Refused BadRegion) _ (Err BadRegion) 18 refl refl refl
+    (last_row tell_count (region_bins beg end s d) (Err NoRoom) _ refl refl))

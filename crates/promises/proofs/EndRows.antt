@@ -1,5 +1,7 @@
 -- The refusal table of the ends and of lookup: each test of a definition is a row, and each checked sum one of those that row 4 names.
 use Prim.Native.Nat.{ℕ, ◌-◌}
+use Rattle.std.specs.Prelude.{Err, None, Ok, Option, Some}
+use Rattle.answers.specs.Answer.{Answer}
 use mathlib.Core.Path.{◌≡◌, refl}
 use mathlib.Core.Bool.{Bool, true, false, cond, not}
 use mathlib.Core.List.{List, [], ◌∷◌}
@@ -8,7 +10,6 @@ use lib.ListN.{length}
 use lib.Dec.{ltb, eqb}
 use lib.Signed.{lt_z}
 use Rattle.lists.specs.Lists.{sum_of}
-use Rattle.signed.specs.declared.Sum.{Sum}
 use Rattle.sam.specs.Columns.{Over, Base, Gap, Off}
 use Rattle.sam.specs.Op.{ref_len}
 use Rattle.sam.specs.Record.{pos_of, flags_of, is_unmapped, is_reverse, is_short}
@@ -16,9 +17,6 @@ use Rattle.clip_run_rules.specs.Clips.{leading_clips, clips_after_reference}
 use Rattle.oplist.specs.Ops.{most_ops, record_ops}
 use Rattle.answers.specs.Answers.{Told, tell_place0, tell_place1}
 use Rattle.answers.specs.declared.Pos0.{Pos0}
-use Rattle.answers.specs.declared.Int.TheVariants as Int
-use Rattle.answers.specs.declared.Place0.TheVariants as Place0
-use Rattle.answers.specs.declared.Place1.TheVariants as Place1
 use Rattle.answers.specs.declared.Refusal.TheVariants.{ShortRecord, TooManyOps, BadStart}
 use Rattle.ends_rules.specs.Sums.{both, ◌⊕◌, ◌⊖◌}
 use Rattle.ends_rules.specs.Tails.{greatest_run}
@@ -31,21 +29,21 @@ use Rattle.promises.specs.Rows.{over, refs_of, end_sums, place_rows, unclipped_r
 use Rattle.promises.proofs.RowLaws.{number_alone, answer, row, row-past, row_either, row_unless, row_sum}
 use Rattle.promises.proofs.LengthRows.{passes_on, length-rows}
 
-module _ {A : Type 0} (tell : A → Told) (to : Sum → A) (stops : tell (to Sum.Over) ≡ number_alone 4) (goes : (z : ℤ) → (tell (to (Sum.Number z))).number ≡ 0) where
+module _ {A : Type 0} (tell : A → Told) (to : Option ℤ → A) (stops : tell (to None) ≡ number_alone 4) (goes : (z : ℤ) → (tell (to (Some z))).number ≡ 0) where
   -- the sums of an unclipped end
   end-sums : (reverse : Bool) (at : ℤ) (xs : List ℕ) → Gives (tell (to (five_prime reverse at xs))) (over (end_sums reverse at xs) ∷ [])
   unfolding five_prime unclipped_start unclipped_end trailing_sum both
   end-sums false at xs =
-      row_sum tell (λ s. to (Sum.Number at ⊖ s)) clips ((at -ℤ clips) ∷ []) stops
+      row_sum tell (λ s. to (Some at ⊖ s)) clips ((at -ℤ clips) ∷ []) stops
       (row_sum tell to (at -ℤ clips) [] stops (answer (goes (at -ℤ clips)) refl))
     where
       clips : ℤ
       clips = pos (leading_clips xs)
   end-sums true at xs =
-      row_sum tell (λ s. to (Sum.Number at ⊕ s ⊕ trailing_sum xs ⊖ Sum.Number (pos 1))) refs (with-refs ∷ most ∷ with-clips ∷ last ∷ []) stops
-      (row_sum tell (λ s. to (s ⊕ trailing_sum xs ⊖ Sum.Number (pos 1))) with-refs (most ∷ with-clips ∷ last ∷ []) stops
-      (row_sum tell (λ s. to (Sum.Number with-refs ⊕ provided s (Sum.Number clips) ⊖ Sum.Number (pos 1))) most (with-clips ∷ last ∷ []) stops
-      (row_sum tell (λ s. to (s ⊖ Sum.Number (pos 1))) with-clips (last ∷ []) stops
+      row_sum tell (λ s. to (Some at ⊕ s ⊕ trailing_sum xs ⊖ Some (pos 1))) refs (with-refs ∷ most ∷ with-clips ∷ last ∷ []) stops
+      (row_sum tell (λ s. to (s ⊕ trailing_sum xs ⊖ Some (pos 1))) with-refs (most ∷ with-clips ∷ last ∷ []) stops
+      (row_sum tell (λ s. to (Some with-refs ⊕ provided s (Some clips) ⊖ Some (pos 1))) most (with-clips ∷ last ∷ []) stops
+      (row_sum tell (λ s. to (s ⊖ Some (pos 1))) with-clips (last ∷ []) stops
       (row_sum tell to last [] stops (answer (goes last) refl)))))
     where
       refs : ℤ
@@ -84,24 +82,24 @@ unclipped_5prime_from_raw_bam b =
 pub unclipped_5prime_raw : (b : List ℕ) (p : Pos0) (reverse : Bool) → Gives (tell_place0 (unclipped_from b p reverse)) (unclipped_from_rows b p.0 reverse)
 unfolding unclipped_from
 unclipped_5prime_raw b p reverse =
-    row tell_place0 (is_short b) (Place0.Refused ShortRecord) _ 1 refl
-    (row_unless tell_place0 (has_no_ops b) (Place0.At p) _ refl
+    row tell_place0 (is_short b) (Err ShortRecord) _ 1 refl
+    (row_unless tell_place0 (has_no_ops b) (Ok p) _ refl
     (end-sums tell_place0 to_place0 refl (λ z. refl) reverse p.0 (record_ops b)))
 
 pub alignment_start_from_raw : (b : List ℕ) → Gives (tell_place1 (alignment_start b)) (start_rows b)
 unfolding alignment_start plus_one both
 alignment_start_from_raw b =
-    row tell_place1 (is_short b) (Place1.Refused ShortRecord) _ 1 refl
-    (row_unless tell_place1 (lt_z (pos_of b) (pos 0)) Place1.Nothing _ refl
+    row tell_place1 (is_short b) (Err ShortRecord) _ 1 refl
+    (row_unless tell_place1 (lt_z (pos_of b) (pos 0)) (Ok None) _ refl
     (row_sum tell_place1 to_place1 (pos_of b +ℤ pos 1) [] refl (answer refl refl)))
 
 pub alignment_end_from_raw : (b : List ℕ) → Gives (tell_place1 (alignment_end b)) (end_rows b)
 unfolding alignment_end both
 alignment_end_from_raw b =
-    row-past tell_place1 (is_short b) (Place1.Refused ShortRecord) _ 1 refl (λ l.
-    row_unless tell_place1 (lt_z (pos_of b) (pos 0)) Place1.Nothing _ refl
-    (length-rows _ (passes_on Int.Refused tell_place1 (end_at (pos_of b)) (λ r. refl)) b l (λ n. only (not none) (over (end ∷ []) ∷ []))
-    (row_unless tell_place1 none Place1.Nothing _ refl (row_sum tell_place1 to_place1 end [] refl (answer refl refl)))))
+    row-past tell_place1 (is_short b) (Err ShortRecord) _ 1 refl (λ l.
+    row_unless tell_place1 (lt_z (pos_of b) (pos 0)) (Ok None) _ refl
+    (length-rows _ (passes_on Err tell_place1 (end_at (pos_of b)) (λ r. refl)) b l (λ n. only (not none) (over (end ∷ []) ∷ []))
+    (row_unless tell_place1 none (Ok None) _ refl (row_sum tell_place1 to_place1 end [] refl (answer refl refl)))))
   where
     none : Bool
     none = eqb (sum_of ref_len (record_ops b)) 0

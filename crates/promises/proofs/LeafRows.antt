@@ -1,5 +1,7 @@
 -- The refusal table of fields, ops, lengths and bins: each test of a definition is a row, in the same order.
 use Prim.Native.Nat.{ℕ, ◌*◌}
+use Rattle.std.specs.Prelude.{Err, None, Ok, Some}
+use Rattle.answers.specs.Answer.{Answer}
 use mathlib.Core.Path.{◌≡◌, refl, sym, ap, subst, ◌∙◌}
 use mathlib.Core.Bool.{Bool, true, false, cond, not, ◌||◌}
 use mathlib.Core.List.{List, [], ◌∷◌}
@@ -13,19 +15,12 @@ use Rattle.sam.specs.Record.{ref_id_of, pos_of, name_len_of, stored_bin_of, op_c
 use Rattle.oplist.specs.Ops.{most_ops, record_ops}
 use Rattle.answers.specs.Answers.{Told, answered, tell_int, tell_nat, tell_count, tell_place0}
 use Rattle.answers.specs.declared.Refusal.TheVariants.{ShortRecord, AreaOverrun, TooManyOps, Overflow, NoRoom, BadLength}
-use Rattle.answers.specs.declared.Int.{Int}
-use Rattle.answers.specs.declared.Nat.{Nat}
-use Rattle.answers.specs.declared.Place0.TheVariants as Place0
-use Rattle.answers.specs.declared.Count.{Count}
 use Rattle.fields.specs.Fields.{int_field, nat_field, pos_field, cigar_area, cigar_part, tell_area}
 use Rattle.fields.specs.declared.Area.{Area}
 use Rattle.kinds.specs.Kinds.{kind_of, from_op_type, tell_kind, new_op, tell_op}
 use Rattle.copied_ops.specs.Copied.{get_ops}
 use Rattle.kinds.specs.declared.CigarKind.{CigarKind}
-use Rattle.kinds.specs.declared.KindFound.TheVariants.{Kind, Nothing}
-use Rattle.kinds.specs.declared.NewOp.TheVariants as NewOp
 use Rattle.length_rules.specs.Lengths.{as_int, ref_length_up_to, query_length_up_to, ref_length, query_length, saturated_length, checked_ref_length, record_query_length, lengths_with, record_lengths, tell_lengths}
-use Rattle.length_rules.specs.declared.Lengths.{Lengths}
 use Rattle.bin_rules.specs.Bin.{bin_to, reg2bin, span_of, bin_up_to, record_bin, with_bin, set_bin, bin_from}
 use Rattle.promises.specs.Table.{Row, ◌when◌, Gives, GivesKept, GivesFilled}
 use Rattle.promises.specs.Rows.{over, any_outside, refs_of, record_rows, ops_rows, new_rows, list_rows, length_rows, checked_rows, lengths_rows, region_rows, bin_rows}
@@ -36,13 +31,13 @@ use Rattle.promises.proofs.LengthRows.{passes_on, length-rows}
 
 -- any signed and any unsigned field, and any position
 int-field : (f : List ℕ → ℤ) (b : List ℕ) → Gives (tell_int (int_field f b)) (record_rows b)
-int-field f b = row tell_int (is_short b) (Int.Refused ShortRecord) (Int.Number (f b)) 1 refl (answer refl refl)
+int-field f b = row tell_int (is_short b) (Err ShortRecord) (Ok (f b)) 1 refl (answer refl refl)
 
 nat-field : (f : List ℕ → ℕ) (b : List ℕ) → Gives (tell_nat (nat_field f b)) (record_rows b)
-nat-field f b = row tell_nat (is_short b) (Nat.Refused ShortRecord) (Nat.Number (f b)) 1 refl (answer refl refl)
+nat-field f b = row tell_nat (is_short b) (Err ShortRecord) (Ok (f b)) 1 refl (answer refl refl)
 
 pos_field_rows : (f : List ℕ → ℤ) (b : List ℕ) → Gives (tell_place0 (pos_field f b)) (record_rows b)
-pos_field_rows f b = row tell_place0 (is_short b) (Place0.Refused ShortRecord) (Place0.At (record { 0 = f b })) 1 refl (answer refl refl)
+pos_field_rows f b = row tell_place0 (is_short b) (Err ShortRecord) (Ok (record { 0 = f b })) 1 refl (answer refl refl)
 
 pub ref_id : (b : List ℕ) → Gives (tell_int (int_field ref_id_of b)) (record_rows b)
 ref_id = int-field ref_id_of
@@ -97,7 +92,7 @@ pub from-op-type : (v : ℕ) → Gives (tell_kind (from_op_type v)) []
 unfolding from_op_type
 from-op-type v = known (ltb 8 v)
   where
-    known : (t : Bool) → Gives (tell_kind (cond t Nothing (Kind (kind_of v)))) []
+    known : (t : Bool) → Gives (tell_kind (cond t None (Some (kind_of v)))) []
     known true = answer refl refl
     known false = answer refl refl
 
@@ -105,13 +100,13 @@ from-op-type v = known (ltb 8 v)
 
 pub op_new : (k : CigarKind) (n : ℕ) → Gives (tell_op (new_op k n)) (new_rows n)
 unfolding new_op
-op_new k n = row_either tell_op (eqb n 0) (ltb 268435455 n) (NewOp.Refused BadLength) _ 10 refl (answer refl refl)
+op_new k n = row_either tell_op (eqb n 0) (ltb 268435455 n) (Err BadLength) _ 10 refl (answer refl refl)
 
-pub get_cigar_ops : (b d : List ℕ) → GivesFilled tell_count (get_ops b d) d (ops_rows b d) (Count.Number (length (record_ops b))) (record_ops b)
+pub get_cigar_ops : (b d : List ℕ) → GivesFilled tell_count (get_ops b d) d (ops_rows b d) (Ok (length (record_ops b))) (record_ops b)
 unfolding get_ops
 get_cigar_ops b d =
-    kept_row tell_count (is_short b) (Count.Refused ShortRecord) 1 refl refl
-    (last_row tell_count (record_ops b) (Count.Refused NoRoom) _ refl refl)
+    kept_row tell_count (is_short b) (Err ShortRecord) 1 refl refl
+    (last_row tell_count (record_ops b) (Err NoRoom) _ refl refl)
 
 -- ---- lengths
 
@@ -124,21 +119,21 @@ top n = by-case (ltb 2147483647 n)
     by-case false = refl
 
 -- a total as an i32
-pub total_rows : {A : Type 0} (tell : A → Told) (to : Int → A) (n : ℕ) → tell (to (Int.Refused Overflow)) ≡ number_alone 4 → (tell (to (Int.Number (pos n)))).number ≡ 0
+pub total_rows : {A : Type 0} (tell : A → Told) (to : Answer ℤ → A) (n : ℕ) → tell (to (Err Overflow)) ≡ number_alone 4 → (tell (to (Ok (pos n)))).number ≡ 0
     → Gives (tell (to (as_int n))) (over (pos n ∷ []) ∷ [])
 unfolding as_int
 total_rows tell to n p q =
     subst (λ t. Gives (tell (to (as_int n))) ((4 when t) ∷ [])) (top n)
-    (row (λ x. tell (to x)) (ltb 2147483647 n) (Int.Refused Overflow) (Int.Number (pos n)) 4 p (answer q refl))
+    (row (λ x. tell (to x)) (ltb 2147483647 n) (Err Overflow) (Ok (pos n)) 4 p (answer q refl))
 
 -- of a list of at most `limit` ops
 pub reference_length_up_to : (limit : ℕ) (xs : List ℕ) → Gives (tell_int (ref_length_up_to limit xs)) ((3 when ltb limit (length xs)) ∷ over (pos (sum_of ref_len xs) ∷ []) ∷ [])
 unfolding ref_length_up_to
-reference_length_up_to limit xs = row tell_int (ltb limit (length xs)) (Int.Refused TooManyOps) _ 3 refl (total_rows tell_int (λ x. x) (sum_of ref_len xs) refl refl)
+reference_length_up_to limit xs = row tell_int (ltb limit (length xs)) (Err TooManyOps) _ 3 refl (total_rows tell_int (λ x. x) (sum_of ref_len xs) refl refl)
 
 pub query-length-up-to : (limit : ℕ) (xs : List ℕ) → Gives (tell_count (query_length_up_to limit xs)) ((3 when ltb limit (length xs)) ∷ [])
 unfolding query_length_up_to
-query-length-up-to limit xs = row tell_count (ltb limit (length xs)) (Count.Refused TooManyOps) _ 3 refl (answer refl refl)
+query-length-up-to limit xs = row tell_count (ltb limit (length xs)) (Err TooManyOps) _ 3 refl (answer refl refl)
 
 pub reference_length_from_cigar : (xs : List ℕ) → Gives (tell_int (ref_length xs)) (length_rows xs)
 reference_length_from_cigar = reference_length_up_to most_ops
@@ -148,13 +143,13 @@ query_length_from_cigar = query-length-up-to most_ops
 
 pub saturating_reference_length : (xs : List ℕ) → Gives (tell_int (saturated_length xs)) (list_rows xs)
 unfolding saturated_length
-saturating_reference_length xs = row tell_int (ltb most_ops (length xs)) (Int.Refused TooManyOps) _ 3 refl (answer refl refl)
+saturating_reference_length xs = row tell_int (ltb most_ops (length xs)) (Err TooManyOps) _ 3 refl (answer refl refl)
 
 pub reference_length_from_raw_bam_checked : (b : List ℕ) → Gives (tell_int (checked_ref_length b)) (checked_rows b)
 unfolding checked_ref_length
 reference_length_from_raw_bam_checked b =
-    row tell_int (is_short b) (Int.Refused ShortRecord) _ 1 refl
-    (row tell_int (ltb (length b) (ops_end b)) (Int.Refused AreaOverrun) _ 2 refl (total_rows tell_int (λ x. x) (sum_of ref_len (record_ops b)) refl refl))
+    row tell_int (is_short b) (Err ShortRecord) _ 1 refl
+    (row tell_int (ltb (length b) (ops_end b)) (Err AreaOverrun) _ 2 refl (total_rows tell_int (λ x. x) (sum_of ref_len (record_ops b)) refl refl))
 
 -- "The default becomes the checked form's refusal"
 pub reference_length_from_raw_bam : (b : List ℕ) → Gives (tell_int (checked_ref_length b)) (checked_rows b)
@@ -162,12 +157,12 @@ reference_length_from_raw_bam = reference_length_from_raw_bam_checked
 
 pub query-length : (b : List ℕ) → Gives (tell_count (record_query_length b)) (record_rows b)
 unfolding record_query_length
-query-length b = row tell_count (is_short b) (Count.Refused ShortRecord) _ 1 refl (answer refl refl)
+query-length b = row tell_count (is_short b) (Err ShortRecord) _ 1 refl (answer refl refl)
 
 pub cigar_lengths : (b : List ℕ) → Gives (tell_lengths (record_lengths b)) (lengths_rows b)
 unfolding record_lengths
 cigar_lengths b =
-    row tell_lengths (is_short b) (Lengths.Refused ShortRecord) _ 1 refl
+    row tell_lengths (is_short b) (Err ShortRecord) _ 1 refl
     (total_rows tell_lengths (λ x. lengths_with x (record_ops b)) (sum_of ref_len (record_ops b)) refl refl)
 
 -- ---- bins
@@ -182,18 +177,18 @@ reg2bin_rows beg end = region beg end
 pub bin_from_raw_bam : (b : List ℕ) → Gives (tell_nat (record_bin b)) (bin_rows b)
 unfolding record_bin bin_from bin_up_to
 bin_from_raw_bam b =
-    row-past tell_nat (is_short b) (Nat.Refused ShortRecord) _ 1 refl (λ l.
-    row_unless tell_nat (lt_z (pos_of b) (pos 0)) (Nat.Number 4680) _ refl
-    (length-rows _ (passes_on Int.Refused tell_nat (bin_from (pos_of b)) (λ r. refl)) b l (λ n. over (end ∷ (end -ℤ pos 1) ∷ []) ∷ [])
+    row-past tell_nat (is_short b) (Err ShortRecord) _ 1 refl (λ l.
+    row_unless tell_nat (lt_z (pos_of b) (pos 0)) (Ok 4680) _ refl
+    (length-rows _ (passes_on Err tell_nat (bin_from (pos_of b)) (λ r. refl)) b l (λ n. over (end ∷ (end -ℤ pos 1) ∷ []) ∷ [])
     (row_sum tell_nat (bin_up_to (pos_of b)) end ((end -ℤ pos 1) ∷ []) refl (region (pos_of b) end))))
   where
     end : ℤ
     end = pos_of b +ℤ span_of (refs_of b)
 
 -- a refusal writes nothing
-with-bin : (b : List ℕ) (a : Nat) (rows : List Row) → Gives (tell_nat a) rows → GivesKept tell_nat (with_bin b a) b rows
-with-bin b (Nat.Number n) rows q = record { gives = q; kept = λ e. absurd (subst T (sym (ap (λ k. not (eqb k 0)) q.number ∙ e)) tt) }
-with-bin b (Nat.Refused r) rows q = record { gives = q; kept = λ e. refl }
+with-bin : (b : List ℕ) (a : Answer ℕ) (rows : List Row) → Gives (tell_nat a) rows → GivesKept tell_nat (with_bin b a) b rows
+with-bin b (Ok n) rows q = record { gives = q; kept = λ e. absurd (subst T (sym (ap (λ k. not (eqb k 0)) q.number ∙ e)) tt) }
+with-bin b (Err r) rows q = record { gives = q; kept = λ e. refl }
 
 pub set_bin_from_raw_bam : (b : List ℕ) → GivesKept tell_nat (set_bin b) b (bin_rows b)
 unfolding set_bin

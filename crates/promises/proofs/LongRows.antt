@@ -1,5 +1,6 @@
 -- The refusal table of long op lists: the reader gives the first of its rows, tag by tag; what a call refuses of the ops comes behind.
 use Prim.Native.Nat.{ℕ, ◌+◌}
+use Rattle.std.specs.Prelude.{Err, Ok}
 use mathlib.Core.Path.{◌≡◌, refl, sym, ap, ◌∙◌}
 use mathlib.Core.Bool.{Bool, true, false, cond, not, ◌||◌, ◌&&◌}
 use mathlib.Core.List.{List, [], ◌++◌}
@@ -14,12 +15,10 @@ use Rattle.answers.specs.Answers.{Told, number_of, tell_int, tell_count}
 use Rattle.answers.specs.Settled.{Outcome}
 use Rattle.answers.specs.declared.Refusal.{Refusal}
 use Rattle.answers.specs.declared.Refusal.TheVariants.{ShortRecord, AreaOverrun, TooManyOps, BadTags, OtherCg, NoRoom, BadCode}
-use Rattle.answers.specs.declared.Count.TheVariants as Count
 use Rattle.answers.proofs.Numbers.{not-zero}
 use Rattle.copied_ops.specs.Copied.{copied_ops}
 use Rattle.print_rules.specs.Text.{any_bad, text_of, printed_ops}
 use Rattle.length_rules.specs.Lengths.{list_lengths, lengths_with, long_ref_length, long_query_length, tell_lengths}
-use Rattle.length_rules.specs.declared.Lengths.{Lengths}
 use Rattle.lookup_rules.specs.Lookup.{long_looked, tell_found}
 use Rattle.ends_rules.specs.Ends.{unclipped_by, tell_unclipped}
 use Rattle.ends_rules.specs.declared.Unclipped.TheVariants as Unclipped
@@ -132,19 +131,19 @@ reads_into tell stop p d make rows done out q b = go (true_list b) (reader_numbe
     go (At at n) e = like_filled tell (past_reader b (rows (ops_in b at n)) e) (q (ops_in b at n))
     go (Refused r) e = kept_refusal tell (stop r) (p r) (by_reader b (rows []) r e) (not-zero r)
 
-pub true_cigar_ops : (b d : List ℕ) → GivesFilled tell_count (true_ops b d) d (true_ops_rows b d) (Count.Number (length (held_ops b))) (held_ops b)
+pub true_cigar_ops : (b d : List ℕ) → GivesFilled tell_count (true_ops b d) d (true_ops_rows b d) (Ok (length (held_ops b))) (held_ops b)
 true_cigar_ops b d =
-    reads_into tell_count Count.Refused (λ r. refl) d (λ xs. copied_ops xs d) _ (λ xs. Count.Number (length xs)) (λ xs. xs) (λ xs. last_row tell_count xs (Count.Refused NoRoom) _ refl refl) b
+    reads_into tell_count Err (λ r. refl) d (λ xs. copied_ops xs d) _ (λ xs. Ok (length xs)) (λ xs. xs) (λ xs. last_row tell_count xs (Err NoRoom) _ refl refl) b
 
-pub true_cigar_to_bytes_into : (b d : List ℕ) → GivesFilled tell_count (true_printed b d) d (true_print_rows b d) (Count.Number (length (text_of (held_ops b)))) (text_of (held_ops b))
+pub true_cigar_to_bytes_into : (b d : List ℕ) → GivesFilled tell_count (true_printed b d) d (true_print_rows b d) (Ok (length (text_of (held_ops b)))) (text_of (held_ops b))
 true_cigar_to_bytes_into b d =
-    reads_into tell_count Count.Refused (λ r. refl) d (λ xs. printed_ops xs d) _ (λ xs. Count.Number (length (text_of xs))) text_of
-    (λ xs. kept_row tell_count (any_bad xs) (Count.Refused BadCode) 7 refl refl (last_row tell_count (text_of xs) (Count.Refused NoRoom) _ refl refl))
+    reads_into tell_count Err (λ r. refl) d (λ xs. printed_ops xs d) _ (λ xs. Ok (length (text_of xs))) text_of
+    (λ xs. kept_row tell_count (any_bad xs) (Err BadCode) 7 refl refl (last_row tell_count (text_of xs) (Err NoRoom) _ refl refl))
     b
 
 pub true_cigar_lengths : (b : List ℕ) → Gives (tell_lengths (true_lengths b)) (true_lengths_rows b)
 true_cigar_lengths b =
-    reads tell_lengths Lengths.Refused list_lengths _ (λ r. refl) (λ xs. total_rows tell_lengths (λ x. lengths_with x xs) (sum_of ref_len xs) refl refl) b
+    reads tell_lengths Err list_lengths _ (λ r. refl) (λ xs. total_rows tell_lengths (λ x. lengths_with x xs) (sum_of ref_len xs) refl refl) b
 
 pub true_unclipped_5prime_from_raw_bam : (b : List ℕ) → Gives (tell_unclipped (true_unclipped b)) (true_unclipped_rows b)
 unfolding true_unclipped
@@ -164,7 +163,7 @@ module _ (b : List ℕ) (amount : ℕ) (d : List ℕ) where
       (Clipped.Done (length (clipped_ops (held_ops b) amount true)) (clipped_count (held_ops b) amount true)) (clipped_ops (held_ops b) amount true)
   true_clip_cigar_start = true_clip b amount true d
 
-  pub true_clip_cigar_end : GivesFilled tell_count (true_end b amount d) d (true_clip_rows b amount false d) (Count.Number (length (clipped_ops (held_ops b) amount false))) (clipped_ops (held_ops b) amount false)
+  pub true_clip_cigar_end : GivesFilled tell_count (true_end b amount d) d (true_clip_rows b amount false d) (Ok (length (clipped_ops (held_ops b) amount false))) (clipped_ops (held_ops b) amount false)
   true_clip_cigar_end = uncounted_rows (true_clip b amount false d)
 
 -- ---- lent lists
@@ -183,5 +182,5 @@ module _ (xs : List ℕ) (amount : ℕ) (d : List ℕ) where
       (Clipped.Done (length (clipped_ops xs amount true)) (clipped_count xs amount true)) (clipped_ops xs amount true)
   long_clip_cigar_start_raw = list_rows amount true d most_long_ops xs
 
-  pub long_clip_cigar_end_raw : GivesFilled tell_count (long_end xs amount d) d (long_clip_rows xs amount false d) (Count.Number (length (clipped_ops xs amount false))) (clipped_ops xs amount false)
+  pub long_clip_cigar_end_raw : GivesFilled tell_count (long_end xs amount d) d (long_clip_rows xs amount false d) (Ok (length (clipped_ops xs amount false))) (clipped_ops xs amount false)
   long_clip_cigar_end_raw = uncounted_rows (list_rows amount false d most_long_ops xs)

@@ -1,5 +1,7 @@
 -- What document 02, item 13, promises of matches told apart from MD. Each line is a theorem of `md_rules`, over the definitions that the contract uses.
 use Prim.Native.Nat.{ℕ}
+use Rattle.std.specs.Prelude.{Ok}
+use Rattle.answers.specs.Answer.{Answer}
 use mathlib.Core.Path.{◌≡◌, sym, ap, ◌∙◌, subst}
 use mathlib.Core.Bool.{true, false}
 use mathlib.Core.List.{List, map}
@@ -9,7 +11,6 @@ use Rattle.sam.specs.Op.{ref_len, query_len}
 use Rattle.sam.specs.Columns.{columns, refs, queries}
 use Rattle.sam.proofs.LengthLaws.{query-length, reference_length}
 use Rattle.sam.specs.Md.{MdColumn, SpellsMd}
-use Rattle.answers.specs.declared.Count.TheVariants as Count
 use Rattle.md_rules.specs.Md.{well_formed, columns_of}
 use Rattle.md_rules.specs.Rule.{is_told, agrees, told, match_ops}
 use Rattle.md_rules.specs.Meaning.{Replaces, Tells, others, read_back, together}
@@ -25,7 +26,7 @@ pub grammar_only : {s : List ℕ} {cs : List MdColumn} → SpellsMd s cs → (we
 grammar_only t = Grammar.spelled t
 
 -- "replace M by runs of = and X": an answer has its M's replaced by alternating runs, none empty, and the columns of its =, X and D are the text's: none is used twice, none is left over
-pub answer_tells : (xs s d : List ℕ) (n : ℕ) → (match_ops xs s d).answer ≡ Count.Number n → Tells xs s (told xs (columns_of s))
+pub answer_tells : (xs s d : List ℕ) (n : ℕ) → (match_ops xs s d).answer ≡ Ok n → Tells xs s (told xs (columns_of s))
 answer_tells xs s d n e =
     let a = Answer.answered xs s d n e in
     let r = Rule.answered xs (columns_of s) a.1 a.2 in

@@ -1,5 +1,7 @@
 -- The refusal table of the pair tests and the overhang calls: each test of a definition is a row, in the same order; 2 and 4 are the reverse record's length's, and then 4 the two places' of an FR pair.
 use Prim.Native.Nat.{ℕ}
+use Rattle.std.specs.Prelude.{Err, Ok, Option}
+use Rattle.answers.specs.Answer.{Answer}
 use mathlib.Core.Path.{◌≡◌, refl, subst}
 use mathlib.Core.Bool.{Bool, true, false, cond, ◌||◌, ◌&&◌}
 use mathlib.Core.List.{List, [], ◌∷◌, ◌++◌}
@@ -9,13 +11,10 @@ use lib.Dec.{ltb}
 use lib.Signed.{lt_z}
 use Rattle.signed.specs.Whole.{checked, side_of, sum_at}
 use Rattle.signed.specs.declared.Side.TheVariants.{Below, Within, Above}
-use Rattle.signed.specs.declared.Sum.{Sum}
 use Rattle.sam.specs.Record.{pos_of, mate_pos_of, is_short}
 use Rattle.answers.specs.Answers.{tell_flag, tell_count}
 use Rattle.answers.specs.declared.Refusal.TheVariants.{ShortRecord, TooManyOps, Overflow, NoRoom}
-use Rattle.answers.specs.declared.Count.TheVariants as Count
 use Rattle.answers.proofs.Numbers.{not-zero}
-use Rattle.answers.specs.declared.Flag.{Flag}
 use Rattle.ends_rules.specs.Sums.{both}
 use Rattle.ends_rules.specs.Ends.{plus_one}
 use Rattle.oplist.specs.Ops.{most_ops, record_ops}
@@ -35,39 +34,39 @@ use Rattle.promises.proofs.LengthRows.{passes_on, pair-rows, both-pair-rows}
 
 pub is_mapped_opposite_strand_pair_raw : (b : List ℕ) → Gives (tell_flag (opposite_pair b)) (record_rows b)
 unfolding opposite_pair
-is_mapped_opposite_strand_pair_raw b = row tell_flag (is_short b) (Flag.Refused ShortRecord) _ 1 refl (answer refl refl)
+is_mapped_opposite_strand_pair_raw b = row tell_flag (is_short b) (Err ShortRecord) _ 1 refl (answer refl refl)
 
 -- past a length that was asked for, a test tells yes or no
-told : (t : Bool) → Gives (tell_flag (Flag.Is t)) []
+told : (t : Bool) → Gives (tell_flag (Ok t)) []
 told t = answer refl refl
 
 pub is_fr_pair_raw : (b : List ℕ) → Gives (tell_flag (fr_pair b)) (fr_rows b)
 unfolding fr_pair
 is_fr_pair_raw b =
-    row-past tell_flag (is_short b) (Flag.Refused ShortRecord) _ 1 refl (λ l.
-    like refl (pair-rows _ (passes_on Flag.Refused tell_flag (λ fr. fr) (λ r. refl)) (λ t. []) told _ b l))
+    row-past tell_flag (is_short b) (Err ShortRecord) _ 1 refl (λ l.
+    like refl (pair-rows _ (passes_on Err tell_flag (λ fr. fr) (λ r. refl)) (λ t. []) told _ b l))
 
 pub is_primary_fr_pair_raw : (a b : List ℕ) → Gives (tell_flag (primary_fr_pair a b)) (two_rows a b)
 unfolding primary_fr_pair
 is_primary_fr_pair_raw a b =
-    row-past tell_flag (is_short a) (Flag.Refused ShortRecord) _ 1 refl (λ l.
-    row-past tell_flag (is_short b) (Flag.Refused ShortRecord) _ 1 refl (λ m.
-    like refl (both-pair-rows _ (passes_on Flag.Refused tell_flag (λ fr. fr) (λ r. refl)) (λ t. []) told a b l m)))
+    row-past tell_flag (is_short a) (Err ShortRecord) _ 1 refl (λ l.
+    row-past tell_flag (is_short b) (Err ShortRecord) _ 1 refl (λ m.
+    like refl (both-pair-rows _ (passes_on Err tell_flag (λ fr. fr) (λ r. refl)) (λ t. []) told a b l m)))
 
 -- ---- the overhang
 
 pub bases_extending_past_mate_ops : (reverse : Bool) (p : ℤ) (xs : List ℕ) (m : ℤ) (ys : List ℕ) → Gives (tell_count (bases_extending reverse p xs m ys)) (extending_rows xs ys)
 unfolding bases_extending
 bases_extending_past_mate_ops reverse p xs m ys =
-    row tell_count (ltb most_ops (length xs)) (Count.Refused TooManyOps) _ 3 refl
-    (row tell_count (ltb most_ops (length ys)) (Count.Refused TooManyOps) _ 3 refl (answer refl refl))
+    row tell_count (ltb most_ops (length xs)) (Err TooManyOps) _ 3 refl
+    (row tell_count (ltb most_ops (length ys)) (Err TooManyOps) _ 3 refl (answer refl refl))
 
 -- an FR pair is not placed where either place overflows
 sums_over : (p m : ℤ) → is_over (both_places (checked p) (checked m)) ≡ any_outside (p ∷ m ∷ [])
 unfolding checked side_of
 sums_over p m = by-sides (lt_z p (negsuc 2147483647)) (lt_z (pos 2147483647) p) (lt_z m (negsuc 2147483647)) (lt_z (pos 2147483647) m)
   where
-    sum : (low high : Bool) (z : ℤ) → Sum
+    sum : (low high : Bool) (z : ℤ) → Option ℤ
     sum low high z = sum_at (cond low Below (cond high Above (Within z)))
 
     by-sides : (low high low' high' : Bool) → is_over (both_places (sum low high p) (sum low' high' m)) ≡ (low || high || (low' || high' || false))
@@ -86,23 +85,23 @@ overhang_rows : (fr : Bool) (b ys : List ℕ) (m : ℤ) → Gives (tell_count (o
 unfolding overhang_at
 overhang_rows fr b ys m =
     subst (λ t. Gives (tell_count (overhang_at (placed_pair fr b m) b ys)) ((4 when t) ∷ [])) (placed_over fr b m)
-    (row tell_count (is_over (placed_pair fr b m)) (Count.Refused Overflow) _ 4 refl (answer refl refl))
+    (row tell_count (is_over (placed_pair fr b m)) (Err Overflow) _ 4 refl (answer refl refl))
 
 pub num_bases_extending_past_mate_cigar_raw : (b ys : List ℕ) → Gives (tell_count (past_mate_cigar b ys)) (mate_cigar_rows b ys)
 unfolding past_mate_cigar
 num_bases_extending_past_mate_cigar_raw b ys =
-    row-past tell_count (is_short b) (Count.Refused ShortRecord) _ 1 refl (λ l.
-    row tell_count (ltb most_ops (length ys)) (Count.Refused TooManyOps) _ 3 refl
-    (row_where tell_count (valid_mapped ys) (Count.Number 0) _ refl
-    (pair-rows _ (passes_on Flag.Refused tell_count (λ fr. pair_overhang fr b (mate_pos_of b) ys) (λ r. refl)) (λ t. place_row t (pos_of b) (mate_pos_of b) ∷ [])
+    row-past tell_count (is_short b) (Err ShortRecord) _ 1 refl (λ l.
+    row tell_count (ltb most_ops (length ys)) (Err TooManyOps) _ 3 refl
+    (row_where tell_count (valid_mapped ys) (Ok 0) _ refl
+    (pair-rows _ (passes_on Err tell_count (λ fr. pair_overhang fr b (mate_pos_of b) ys) (λ r. refl)) (λ t. place_row t (pos_of b) (mate_pos_of b) ∷ [])
     (λ t. overhang_rows t b ys (mate_pos_of b)) _ b l)))
 
 pub num_bases_extending_past_mate_vs_mate_raw : (b m : List ℕ) → Gives (tell_count (past_mate_record b m)) (mate_record_rows b m)
 unfolding past_mate_record
 num_bases_extending_past_mate_vs_mate_raw b m =
-    row-past tell_count (is_short b) (Count.Refused ShortRecord) _ 1 refl (λ l.
-    row-past tell_count (is_short m) (Count.Refused ShortRecord) _ 1 refl (λ k.
-    both-pair-rows _ (passes_on Flag.Refused tell_count (λ fr. pair_overhang fr b (pos_of m) (record_ops m)) (λ r. refl)) (λ t. place_row t (pos_of b) (pos_of m) ∷ [])
+    row-past tell_count (is_short b) (Err ShortRecord) _ 1 refl (λ l.
+    row-past tell_count (is_short m) (Err ShortRecord) _ 1 refl (λ k.
+    both-pair-rows _ (passes_on Err tell_count (λ fr. pair_overhang fr b (pos_of m) (record_ops m)) (λ r. refl)) (λ t. place_row t (pos_of b) (pos_of m) ∷ [])
     (λ t. overhang_rows t b (record_ops m) (pos_of m)) b m l k))
 
 -- 4, then 6, before the list is written
@@ -114,7 +113,7 @@ list_rows fr b xs d m =
     (kept_row tell_overhang (is_over (placed_pair fr b m)) (Overhang.Refused Overflow) 4 refl refl (last_row tell_overhang xs (Overhang.Refused NoRoom) _ refl refl))
 
 -- what is left of the room by the pair test
-abbrev LeftBy : List ℕ → List ℕ → List ℕ → Flag → List Row → Type 0
+abbrev LeftBy : List ℕ → List ℕ → List ℕ → Answer Bool → List Row → Type 0
 LeftBy b xs d fr rows = GivesFilled tell_overhang (pair_list_left fr b xs d) d rows (Overhang.Bases (bases_at (placed_pair (is_yes fr) b (mate_pos_of b)) b xs) (length xs)) xs
 
 left_rows : (b xs d : List ℕ) → is_short b ≡ false → LeftBy b xs d (is_fr_by b xs) (pair_rows b ++ (place_row (is_yes (is_fr_by b xs)) (pos_of b) (mate_pos_of b) ∷ no_room d (length xs) ∷ []))

@@ -1,5 +1,7 @@
 -- Item 10 of the public calls: demand 3's premises have the clip answered, and what is left short enough for lookup; the rest holds of every list and amount.
 use Prim.Native.Nat.{ℕ, ◌≤◌}
+use Rattle.std.specs.Prelude.{Ok}
+use Rattle.answers.specs.Answer.{Answer}
 use mathlib.Core.Path.{sym, ap, ◌∙◌}
 use mathlib.Core.Bool.{Bool, true, false}
 use mathlib.Core.List.{List}
@@ -7,8 +9,6 @@ use native.Mathlib.Omega.{arith}
 use lib.ListN.{length, take}
 use Rattle.lists.specs.Lists.{facing}
 use Rattle.answers.specs.Settled.{Outcome, Settled}
-use Rattle.answers.specs.declared.Count.{Count}
-use Rattle.answers.specs.declared.Count.TheVariants.{Number}
 use Rattle.oplist.specs.Ops.{most_ops, most_long_ops}
 use Rattle.lookup_rules.specs.Lookup.{looked_up_to, looked, long_looked}
 use Rattle.lookup_rules.specs.Meaning.{InBounds}
@@ -63,13 +63,13 @@ module _ (limit : ℕ) {Holds : List ℕ → List ℕ → Type 0} (f g : Clipper
       let e = Call.as_long true f F s xs d m a n r T.holds S O.ys (length O.ys) O.count (sym (ap (λ (o : Outcome Clipped). o.answer) (O.gives O.ys (omega arith)))) in
       omega arith
 
-  end_few : (s xs d m : List ℕ) (a n : ℕ) → Given limit Holds false s xs a → Settled (without_count (g s a d)) (Number n) m → length (take n m) ≤ limit
+  end_few : (s xs d m : List ℕ) (a n : ℕ) → Given limit Holds false s xs a → Settled (without_count (g s a d)) (Ok n) m → length (take n m) ≤ limit
   end_few s xs d m a n T S =
       let O = Q.once s xs a T in
       let l = O.clips.long in
       let w = T.takes.few in
       let c = Call.settled_count n (g s a d) m S in
-      let b = Call.with_count (length O.ys) (g s a O.ys).answer (sym (ap (λ (o : Outcome Count). o.answer) (O.gives O.ys (omega arith)))) in
+      let b = Call.with_count (length O.ys) (g s a O.ys).answer (sym (ap (λ (o : Outcome (Answer ℕ)). o.answer) (O.gives O.ys (omega arith)))) in
       let e = Call.as_long false g G s xs d m a n c.0 T.holds c.1 O.ys (length O.ys) b.0 b.1 in
       omega arith
 
@@ -86,7 +86,7 @@ module _ (limit : ℕ) {Holds : List ℕ → List ℕ → Type 0} (f g : Clipper
         end_answers = λ s xs d m a c T room S.
             let O = Q.once s xs a T in
             let l = O.clips.long in
-            (length O.ys, S.answer ∙ ap (λ (o : Outcome Count). o.answer) (O.gives d (omega arith)));
+            (length O.ys, S.answer ∙ ap (λ (o : Outcome (Answer ℕ)). o.answer) (O.gives d (omega arith)));
         at-end = λ s xs d m a n start T S A.
             let w = T.takes.few in
             (Call.always limit f g F G).at-end s xs d m a n start false T.holds S (in_bounds xs (omega arith) A) (in_bounds (take n m) (end_few s xs d m a n T S) A);

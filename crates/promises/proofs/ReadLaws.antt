@@ -1,5 +1,6 @@
 -- What documents 01 and 02 promise of lengths, ends, bins, lookup, pair tests and overhangs beside the answers. Each line is a theorem of the crate that it is cited from, over the definitions that the contracts use.
 use Prim.Native.Nat.{ℕ, ◌+◌, ◌-◌, ◌≤◌, ◌<◌}
+use Rattle.std.specs.Prelude.{Err, Ok, Some}
 use mathlib.Core.Path.{◌≡◌}
 use mathlib.Core.Bool.{Bool, true, false}
 use mathlib.Core.List.{List, ◌∷◌, ◌++◌}
@@ -11,18 +12,12 @@ use borrow.Author.Tests.{ltb-false}
 use mir.Syntax.{w32}
 use mir.Val.{SFits}
 use Rattle.lists.specs.Lists.{facing, sum_of}
-use Rattle.signed.specs.declared.Sum.TheVariants as Sum
 use Rattle.sam.specs.Op.{query_len}
 use Rattle.sam.specs.Columns.{Column, Spot, columns, queries, refs, ref_of, Seen}
 use Rattle.sam.specs.Record.{pos_of, flags_of, mate_pos_of, template_len_of, is_reverse, is_short}
 use Rattle.answers.specs.Settled.{keeps}
 use Rattle.answers.specs.declared.Pos1.{Pos1}
 use Rattle.answers.specs.declared.Refusal.{Refusal}
-use Rattle.answers.specs.declared.Nat.TheVariants as Nat
-use Rattle.answers.specs.declared.Count.TheVariants as Count
-use Rattle.answers.specs.declared.Int.TheVariants as Int
-use Rattle.answers.specs.declared.Flag.TheVariants as Flag
-use Rattle.answers.specs.declared.Place1.TheVariants as Place1
 use Rattle.oplist.specs.Ops.{most_ops, record_ops}
 use Rattle.text_rules.specs.Text.{text_ops}
 use Rattle.text_rules.specs.Valid.{valid_mapped}
@@ -69,19 +64,19 @@ clips_only xs e = (EndClips.all_soft xs e, EndClips.all-hard xs e, EndClips.none
 -- ---- ends: a place that was not refused is the plain sum
 
 -- "forward less the leading S and H"
-pub start_is : (at : ℤ) (xs : List ℕ) (z : ℤ) → unclipped_start at xs ≡ Sum.Number z → at -ℤ pos (leading_clips xs) ≡ z
+pub start_is : (at : ℤ) (xs : List ℕ) (z : ℤ) → unclipped_start at xs ≡ Some z → at -ℤ pos (leading_clips xs) ≡ z
 start_is at xs z e = Ends.start_is at xs z e
 
 -- "reverse plus reference length plus clips after the last reference op, less 1"; the reference length is the count of reference bases in the columns
-pub end_is : (at : ℤ) (xs : List ℕ) (z : ℤ) → unclipped_end at xs ≡ Sum.Number z → at +ℤ pos (refs (columns xs)) +ℤ pos (clips_after_reference xs) -ℤ pos 1 ≡ z
+pub end_is : (at : ℤ) (xs : List ℕ) (z : ℤ) → unclipped_end at xs ≡ Some z → at +ℤ pos (refs (columns xs)) +ℤ pos (clips_after_reference xs) -ℤ pos 1 ≡ z
 end_is at xs z e = Ends.end_is at xs z e
 
 -- "0-based record positions and 1-based answers are kept apart": a record's start is the same place as `pos`, counted from 1
-pub first-is : (b : List ℕ) (p : Pos1) → alignment_start b ≡ Place1.At p → pos_of b +ℤ pos 1 ≡ p.0
+pub first-is : (b : List ℕ) (p : Pos1) → alignment_start b ≡ Ok (Some p) → pos_of b +ℤ pos 1 ≡ p.0
 first-is b p e = Ends.first-is b p e
 
 -- its end is `pos` and the reference length, which counts the last place from 1
-pub last-is : (b : List ℕ) (p : Pos1) (n : ℤ) → checked_ref_length b ≡ Int.Number n → alignment_end b ≡ Place1.At p → pos_of b +ℤ n ≡ p.0
+pub last-is : (b : List ℕ) (p : Pos1) (n : ℤ) → checked_ref_length b ≡ Ok n → alignment_end b ≡ Ok (Some p) → pos_of b +ℤ n ≡ p.0
 last-is b p n l e = Ends.last-is b p n l e
 
 -- 4 "where Rust with overflow checks stops": its one sum of clips, after any number of ops, is at most the greatest run, and comes to it
@@ -121,12 +116,12 @@ pub forward_only : (a b : List ℕ) → is_short a ≡ is_short b → SamePair a
 forward_only a b l s r t = Pairs.forward_only a b l s r t
 
 -- "if mate start ≤ own end": a mate that starts at a reverse record's last base is enough
-pub fr_at_end : (b : List ℕ) → is_short b ≡ false → (n : ℤ) → is_opposite b ≡ true → is_reverse (flags_of b) ≡ true → checked_ref_length b ≡ Int.Number n
-    → start_of (mate_pos_of b) ≡ last_of (pos_of b) n → fr_pair b ≡ Flag.Is true
+pub fr_at_end : (b : List ℕ) → is_short b ≡ false → (n : ℤ) → is_opposite b ≡ true → is_reverse (flags_of b) ≡ true → checked_ref_length b ≡ Ok n
+    → start_of (mate_pos_of b) ≡ last_of (pos_of b) n → fr_pair b ≡ Ok true
 fr_at_end b l n o r k e = Edges.fr_at_end b l n o r k e
 
 -- "if template length is at least 1": a forward record that has none, 0 in the SAM specification, is no FR pair
-pub no_template : (b : List ℕ) → is_short b ≡ false → is_reverse (flags_of b) ≡ false → template_len_of b ≡ pos 0 → fr_pair b ≡ Flag.Is false
+pub no_template : (b : List ℕ) → is_short b ≡ false → is_reverse (flags_of b) ≡ false → template_len_of b ≡ pos 0 → fr_pair b ≡ Ok false
 no_template b l r t = Edges.no_template b l r t
 
 -- which of two records comes first plays no part
@@ -137,40 +132,40 @@ symmetric a b = Pairs.symmetric a b
 
 module _ (b : List ℕ) (l : is_short b ≡ false) where
   -- "A record with negative `pos` still gets bin 4680, because that test comes first"
-  pub negative_bin : lt_z (pos_of b) (pos 0) ≡ true → record_bin b ≡ Nat.Number 4680
+  pub negative_bin : lt_z (pos_of b) (pos 0) ≡ true → record_bin b ≡ Ok 4680
   negative_bin t = Bins.before_first b (ltb-false (length b) 32 l) t
 
   -- "a pair whose flags already fail still answers no"
-  pub flags_first : is_opposite b ≡ false → fr_pair b ≡ Flag.Is false
+  pub flags_first : is_opposite b ≡ false → fr_pair b ≡ Ok false
   flags_first o = Edges.flags_first b l o
 
-  pub both_flags_first : (a : List ℕ) → is_short a ≡ false → are_opposite b a ≡ false → primary_fr_pair b a ≡ Flag.Is false
+  pub both_flags_first : (a : List ℕ) → is_short a ≡ false → are_opposite b a ≡ false → primary_fr_pair b a ≡ Ok false
   both_flags_first a k o = Edges.both_flags_first b a l k o
 
   -- "`alignment_end_from_raw`, bin, the pair tests and overhang pass the refusal on wherever they ask for this length"
-  module _ (r : Refusal) (e : checked_ref_length b ≡ Int.Refused r) where
-    pub no_end : lt_z (pos_of b) (pos 0) ≡ false → alignment_end b ≡ Place1.Refused r
+  module _ (r : Refusal) (e : checked_ref_length b ≡ Err r) where
+    pub no_end : lt_z (pos_of b) (pos 0) ≡ false → alignment_end b ≡ Err r
     no_end t = EndCases.no_end b (ltb-false (length b) 32 l) r t e
 
-    pub no_bin : lt_z (pos_of b) (pos 0) ≡ false → record_bin b ≡ Nat.Refused r
+    pub no_bin : lt_z (pos_of b) (pos 0) ≡ false → record_bin b ≡ Err r
     no_bin t = Bins.no_length b (ltb-false (length b) 32 l) r t e
 
-    pub no_pair : is_opposite b ≡ true → is_reverse (flags_of b) ≡ true → fr_pair b ≡ Flag.Refused r
+    pub no_pair : is_opposite b ≡ true → is_reverse (flags_of b) ≡ true → fr_pair b ≡ Err r
     no_pair o t = Edges.no_length b l r o t e
 
   -- the overhang's pair test is refused by a length alone, and then the call is: before 4 of a place, and before 6
-  pub cigar_no_length : (ys : List ℕ) (r : Refusal) → ltb most_ops (length ys) ≡ false → valid_mapped ys ≡ true → is_fr_by b ys ≡ Flag.Refused r → past_mate_cigar b ys ≡ Count.Refused r
+  pub cigar_no_length : (ys : List ℕ) (r : Refusal) → ltb most_ops (length ys) ≡ false → valid_mapped ys ≡ true → is_fr_by b ys ≡ Err r → past_mate_cigar b ys ≡ Err r
   cigar_no_length ys r m v e = Most.cigar_no_length b ys r l m v e
 
-  pub record_no_length : (m : List ℕ) (r : Refusal) → is_short m ≡ false → is_primary_fr b m ≡ Flag.Refused r → past_mate_record b m ≡ Count.Refused r
+  pub record_no_length : (m : List ℕ) (r : Refusal) → is_short m ≡ false → is_primary_fr b m ≡ Err r → past_mate_record b m ≡ Err r
   record_no_length m r k e = Most.record_no_length b m r l k e
 
-  pub text_no_length : (s d : List ℕ) (r : Refusal) → strict s ≡ true → ltb most_ops (length (text_ops s)) ≡ false → is_fr_by b (text_ops s) ≡ Flag.Refused r
+  pub text_no_length : (s d : List ℕ) (r : Refusal) → strict s ≡ true → ltb most_ops (length (text_ops s)) ≡ false → is_fr_by b (text_ops s) ≡ Err r
       → past_mate_text b s d ≡ keeps (Overhang.Refused r) d
   text_no_length s d r t m e = Most.text_no_length b s d r l t m e
 
 -- `set_bin_from_raw_bam` leaves a record that has no bin as it was
-pub not_written : (b : List ℕ) (r : Refusal) → record_bin b ≡ Nat.Refused r → set_bin b ≡ keeps (Nat.Refused r) b
+pub not_written : (b : List ℕ) (r : Refusal) → record_bin b ≡ Err r → set_bin b ≡ keeps (Err r) b
 not_written b r e = Bins.not_written b r e
 
 -- ---- "An overhang never exceeds the read's query length", of each call

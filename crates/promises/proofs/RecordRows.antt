@@ -1,5 +1,7 @@
 -- The refusal table of clipped records: each test of the definition is a row, in the same order; the two sums of 4 are one.
 use Prim.Native.Nat.{ℕ, ◌≤◌}
+use Rattle.std.specs.Prelude.{Err, Ok}
+use Rattle.answers.specs.Answer.{Answer}
 use mathlib.Core.Path.{◌≡◌, refl, sym, ap, subst, ◌∙◌}
 use mathlib.Core.Bool.{Bool, true, false, cond, not, ◌||◌, ◌&&◌}
 use mathlib.Core.List.{List, [], ◌∷◌}
@@ -18,8 +20,6 @@ use Rattle.oplist.specs.Ops.{record_ops}
 use Rattle.answers.specs.Answers.{tell_count, number_of}
 use Rattle.answers.specs.declared.Refusal.{Refusal}
 use Rattle.answers.specs.declared.Refusal.TheVariants.{ShortRecord, AreaOverrun, Overflow, NoRoom, TooLong, AmountBeyond, QueryDiffers, CountOver}
-use Rattle.answers.specs.declared.Nat.{Nat}
-use Rattle.answers.specs.declared.Count.TheVariants.{Number}
 use Rattle.length_rules.specs.Lengths.{as_int}
 use Rattle.bin_rules.specs.Bin.{bin_to, reg2bin, span_of, bin_up_to, bin_from}
 use Rattle.clip_rules.specs.Answer.{clippable, is_beyond, tell_clipped}
@@ -37,9 +37,9 @@ use Rattle.promises.proofs.ClipRows.{uncounted_rows}
 -- ---- 4 of the bin
 
 -- a bin is refused exactly where a test holds, and by 4
-abbrev Agrees : Nat → Bool → Type 0
-Agrees (Nat.Number n) t = t ≡ false
-Agrees (Nat.Refused r) t = (r ≡ Overflow) × (t ≡ true)
+abbrev Agrees : Answer ℕ → Bool → Type 0
+Agrees (Ok n) t = t ≡ false
+Agrees (Err r) t = (r ≡ Overflow) × (t ≡ true)
 
 to_agrees : (z y : ℤ) → Agrees (bin_to z (checked y)) (outside y || false)
 unfolding bin_to checked side_of
@@ -63,7 +63,7 @@ bin_agrees : (z : ℤ) (refs : ℕ) → refs ≤ 268435455 → Agrees (bin_at z 
 unfolding bin_at bin_from as_int
 bin_agrees z refs h = simp (le-ltb 2147483647 refs (omega arith)) (by_place (lt_z z (pos 0)))
   where
-    by_place : (t : Bool) → Agrees (cond t (Nat.Number 4680) (bin_up_to z (checked (z +ℤ span_of (pos refs))))) (not t && any_outside ((z +ℤ span_of (pos refs)) ∷ ((z +ℤ span_of (pos refs)) -ℤ pos 1) ∷ []))
+    by_place : (t : Bool) → Agrees (cond t (Ok 4680) (bin_up_to z (checked (z +ℤ span_of (pos refs))))) (not t && any_outside ((z +ℤ span_of (pos refs)) ∷ ((z +ℤ span_of (pos refs)) -ℤ pos 1) ∷ []))
     by_place true = refl
     by_place false = up_agrees z (z +ℤ span_of (pos refs))
 
@@ -93,10 +93,10 @@ module _ (b : List ℕ) (amount : ℕ) (start : Bool) (d : List ℕ) where
   room_row = last_row tell_clipped new (Refused NoRoom) done refl refl
 
   -- 4
-  bin_row : (z : ℤ) → z ≡ moved_place b amount start → (n : Nat) → bin_at z (sum_of ref_len ys) ≡ n → (t : Bool) → Agrees n t
+  bin_row : (z : ℤ) → z ≡ moved_place b amount start → (n : Answer ℕ) → bin_at z (sum_of ref_len ys) ≡ n → (t : Bool) → Agrees n t
       → FateGives (binned b ys start (start_count (record_ops b) amount start) z n) ((4 when (false || t)) ∷ no_room d (length new) ∷ [])
   unfolding binned written
-  bin_row z e (Nat.Number m) q t a =
+  bin_row z e (Ok m) q t a =
       let p : m ≡ bin_in (bin_at (moved_place b amount start) (sum_of ref_len ys)) = sym (ap bin_in (ap (λ (y : ℤ). bin_at y (sum_of ref_len ys)) (sym e) ∙ q)) in
       subst (λ (u : Bool). FateGives (Becomes (record { ops = ys; place = z; bin = m; len = new_len b ys; from = first_kept b start (new_len b ys); count = start_count (record_ops b) amount start })) ((4 when (false || u)) ∷ no_room d (length new) ∷ [])) (sym a)
       (like_filled tell_clipped refl
@@ -104,7 +104,7 @@ module _ (b : List ℕ) (amount : ℕ) (start : Bool) (d : List ℕ) where
       (ap (λ (y : ℤ). Becomes (record { ops = ys; place = y; bin = bin_in (bin_at (moved_place b amount start) (sum_of ref_len ys)); len = new_len b ys; from = first_kept b start (new_len b ys); count = start_count (record_ops b) amount start })) (sym e)
       ∙ ap (λ (k : ℕ). Becomes (record { ops = ys; place = z; bin = k; len = new_len b ys; from = first_kept b start (new_len b ys); count = start_count (record_ops b) amount start })) (sym p))
       room_row))
-  bin_row z e (Nat.Refused r) q t a =
+  bin_row z e (Err r) q t a =
       subst (λ (u : Bool). FateGives (Refuses r) ((4 when (false || u)) ∷ no_room d (length new) ∷ [])) (sym a.1)
       (subst (λ (s : Refusal). FateGives (Refuses s) ((4 when true) ∷ no_room d (length new) ∷ [])) (sym a.0)
       (kept_refusal tell_clipped (Refused Overflow) refl refl refl))
@@ -151,5 +151,5 @@ module _ (b : List ℕ) (amount : ℕ) (d : List ℕ) where
       (Done (length (clipped_record b amount true)) (start_count (record_ops b) amount true)) (clipped_record b amount true)
   clip_record_start = fate_rows b amount true d
 
-  pub clip_record_end : GivesFilled tell_count (clipped_record_end b amount d) d (clipped_record_rows b amount false d) (Number (length (clipped_record b amount false))) (clipped_record b amount false)
+  pub clip_record_end : GivesFilled tell_count (clipped_record_end b amount d) d (clipped_record_rows b amount false d) (Ok (length (clipped_record b amount false))) (clipped_record b amount false)
   clip_record_end = uncounted_rows (fate_rows b amount false d)

@@ -1,5 +1,6 @@
 -- One row of the refusal table: a test of the definition, and the refusal that it gives.
 use Prim.Native.Nat.{ℕ, ◌+◌, ◌≤◌}
+use Rattle.std.specs.Prelude.{None, Option, Some}
 use mathlib.Core.Path.{◌≡◌, refl, sym, subst, ap, ◌∙◌}
 use mathlib.Core.Bool.{Bool, true, false, cond, not, ◌||◌}
 use mathlib.Core.List.{List, [], ◌∷◌, ◌++◌}
@@ -14,8 +15,6 @@ use Rattle.lists.specs.Lists.{splice}
 use Rattle.lists.proofs.ListLaws.{length_splice}
 use Rattle.signed.specs.Whole.{checked, side_of, sum_at}
 use Rattle.signed.specs.declared.Side.TheVariants.{Below, Within, Above}
-use Rattle.signed.specs.declared.Sum.{Sum}
-use Rattle.signed.specs.declared.Sum.TheVariants.{Number, Over}
 use Rattle.answers.specs.Answers.{Told}
 use Rattle.answers.specs.Settled.{Outcome, keeps, OutcomeTwo, keeps_both}
 use Rattle.promises.specs.Table.{Row, ◌when◌, only, first, refuses, Gives, Fills, GivesFilled, GivesFilledTwo}
@@ -72,7 +71,7 @@ module _ {A : Type 0} (tell : A → Told) where
   row_where false x y p q = row_unless true x y p q
 
   -- a checked sum, and the sums after it: 4 where it is outside the range
-  pub row_sum : (to : Sum → A) (z : ℤ) (zs : List ℤ) → tell (to Over) ≡ number_alone 4 → Gives (tell (to (Number z))) (over zs ∷ []) → Gives (tell (to (checked z))) (over (z ∷ zs) ∷ [])
+  pub row_sum : (to : Option ℤ → A) (z : ℤ) (zs : List ℤ) → tell (to None) ≡ number_alone 4 → Gives (tell (to (Some z))) (over zs ∷ []) → Gives (tell (to (checked z))) (over (z ∷ zs) ∷ [])
   unfolding checked side_of
   row_sum to z zs p q = by_side (lt_z z (negsuc 2147483647)) (lt_z (pos 2147483647) z)
     where

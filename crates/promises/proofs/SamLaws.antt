@@ -1,6 +1,8 @@
 -- Demand 2: "Op meanings, text, clip placement and bins are also proved against the SAM specification"; and so are the tags (document 02, item 1). Each line is a theorem of the crate that it is cited from,
 -- over the definitions of crate `sam` and those that the contracts use.
 use Prim.Native.Nat.{ℕ, ◌-◌, ◌<◌, ◌≤◌}
+use Rattle.std.specs.Prelude.{Ok}
+use Rattle.answers.specs.Answer.{Answer}
 use mathlib.Core.Path.{◌≡◌, refl}
 use mathlib.Core.Bool.{Bool, true, false}
 use mathlib.Core.List.{List, [], ◌∷◌, ◌++◌}
@@ -20,7 +22,6 @@ use Rattle.sam.proofs.TagByteLaws as Written
 use Rattle.ops.specs.Ops.{letter_of}
 use Rattle.letters.specs.Letters.{entry_of}
 use Rattle.letters.proofs.Table as Table
-use Rattle.answers.specs.declared.Nat.TheVariants.{Number}
 use Rattle.print_rules.specs.Text.{any_bad, text_of}
 use Rattle.print_rules.proofs.CigarLaws as Printed
 use Rattle.text_rules.specs.Text.{text_ops}
@@ -115,7 +116,7 @@ clip_drops xs a start = Dropped.clip_drops xs a start
 
 -- for 0 ≤ beg < end ≤ 2^29 `reg2bin` answers the smallest bin that holds the region
 pub bin_smallest : (beg end : ℕ) → beg < end → end ≤ 536870912
-    → (reg2bin (pos beg) (pos end) ≡ Number (low16 (bin_of (pos beg) (pos (end - 1))))) × SmallestBin 14 5 beg end (low16 (bin_of (pos beg) (pos (end - 1))))
+    → (reg2bin (pos beg) (pos end) ≡ Ok (low16 (bin_of (pos beg) (pos (end - 1))))) × SmallestBin 14 5 beg end (low16 (bin_of (pos beg) (pos (end - 1))))
 bin_smallest beg end h g = (Bins.answered beg end h g, Bins.smallest beg end h g)
 
 -- ---- tags

@@ -1,5 +1,7 @@
 -- The three answers by the tests of the definition, each of which is one of the fold's: so each is given exactly when its words say, and folded back it is the Rust's number.
 use Prim.Native.Nat.{ℕ}
+use Rattle.std.specs.Prelude.{Err, None, Ok, Option, Some}
+use Rattle.answers.specs.Answer.{Answer}
 use mathlib.Core.Path.{◌≡◌, refl, sym, ap, ◌∙◌}
 use mathlib.Core.Bool.{Bool, true, false, cond, not}
 use mathlib.Core.List.{List}
@@ -8,13 +10,11 @@ use lib.Dec.{eqb}
 use lib.IntN.{ℤ, pos, ◌+ℤ◌, ◌-ℤ◌}
 use lib.ListN.{length}
 use Rattle.lists.proofs.Absurd.{false_true}
-use Rattle.signed.specs.declared.Sum.{Sum}
 use Rattle.sam.specs.Columns.{columns, refs}
 use Rattle.sam.specs.Record.{is_short, pos_of, flags_of, is_unmapped, is_reverse}
 use Rattle.oplist.specs.Ops.{record_ops}
 use Rattle.clip_run_rules.specs.Clips.{leading_clips, clips_after_reference}
 use Rattle.answers.specs.declared.Pos1.{Pos1}
-use Rattle.answers.specs.declared.Int.{Int}
 use Rattle.answers.specs.declared.Refusal.TheVariants.{ShortRecord}
 use Rattle.answers.proofs.Numbers.{not-zero}
 use Rattle.ends_rules.specs.Ends.{plus_one, five_prime, has_no_ops, as_unclipped, unclipped_at, unclipped_of, tell_unclipped}
@@ -68,13 +68,13 @@ three_answers b =
     }
 
 -- "Demand 2 then equals Rust after the three answers are folded back to its numbers"
-as_sum : (s : Sum) → as_rust (as_unclipped s) ≡ sum_as_int s
-as_sum (Sum.Number z) = refl
-as_sum Sum.Over = refl
+as_sum : (s : Option ℤ) → as_rust (as_unclipped s) ≡ sum_as_int s
+as_sum (Some z) = refl
+as_sum None = refl
 
-as_place : (s : Sum) (reverse : Bool) (xs : List ℕ) → as_rust (unclipped_at s reverse xs) ≡ sum_as_int (from_next s reverse xs)
-as_place (Sum.Number at) reverse xs = as_sum (five_prime reverse at xs)
-as_place Sum.Over reverse xs = refl
+as_place : (s : Option ℤ) (reverse : Bool) (xs : List ℕ) → as_rust (unclipped_at s reverse xs) ≡ sum_as_int (from_next s reverse xs)
+as_place (Some at) reverse xs = as_sum (five_prime reverse at xs)
+as_place None reverse xs = refl
 
 pub as-rust : (b : List ℕ) → as_rust (unclipped_of b) ≡ rust_number b
 unfolding unclipped_of rust_number
@@ -83,10 +83,10 @@ as-rust b = rw (sym (Ends.no_ops_is b)) (go (is_short b) (is_unmapped (flags_of 
     rest : Unclipped
     rest = unclipped_at (plus_one (record { 0 = pos_of b })) (is_reverse (flags_of b)) (record_ops b)
 
-    number : Int
+    number : Answer ℤ
     number = sum_as_int (from_next (plus_one (record { 0 = pos_of b })) (is_reverse (flags_of b)) (record_ops b))
 
-    go : (s t u : Bool) → as_rust (cond s (Unclipped.Refused ShortRecord) (cond t Unclipped.Unmapped (cond u Unclipped.NoOps rest))) ≡ cond s (Int.Refused ShortRecord) (cond t (Int.Number (pos 0)) (cond u (Int.Number (pos 2147483647)) number))
+    go : (s t u : Bool) → as_rust (cond s (Unclipped.Refused ShortRecord) (cond t Unclipped.Unmapped (cond u Unclipped.NoOps rest))) ≡ cond s (Err ShortRecord) (cond t (Ok (pos 0)) (cond u (Ok (pos 2147483647)) number))
     go true t u = refl
     go false true u = refl
     go false false true = refl

@@ -1,12 +1,13 @@
 -- Document 02, item 8, the refusal table of clipped records: "2 also where the record ends before its last quality; 15 query length differs from nonzero l_seq, 16 the op
 -- count would pass 65,535, in that order after 1, 2, 8 and before 4 and 6", and item 12's 19 directly after 8.
 use Rattle.std.specs.Prelude.{ℕ, Bool, not, ◌&&◌, ◌||◌, List, [], ◌∷◌, ltb, eqb, ℤ, pos, ◌+ℤ◌, ◌-ℤ◌, length}
+use Rattle.std.specs.Prelude.{Err, Ok}
+use Rattle.answers.specs.Answer.{Answer}
 use Rattle.std.specs.Int.Signed.{lt_z}
 use Rattle.lists.specs.Lists.{sum_of}
 use Rattle.sam.specs.Op.{ref_len, query_len}
 use Rattle.sam.specs.Record.{seq_len_of, pos_of, tags_start}
 use Rattle.oplist.specs.Ops.{record_ops}
-use Rattle.answers.specs.declared.Nat.{Nat}
 use Rattle.bin_rules.specs.Bin.{span_of}
 use Rattle.clip_rules.specs.Answer.{clipped_ops}
 use Rattle.record_rules.specs.Written.{Change, new_record}
@@ -22,9 +23,9 @@ left_ops b amount start = clipped_ops (record_ops b) amount start
 abbrev pub moved_place : List ℕ → ℕ → Bool → ℤ
 moved_place b amount start = pos_of b +ℤ pos (start_count (record_ops b) amount start)
 
-abbrev pub bin_in : Nat → ℕ
-bin_in (Nat.Number n) = n
-bin_in (Nat.Refused r) = 0
+abbrev pub bin_in : Answer ℕ → ℕ
+bin_in (Ok n) = n
+bin_in (Err r) = 0
 
 abbrev pub change : List ℕ → ℕ → Bool → Change
 change b amount start = record {

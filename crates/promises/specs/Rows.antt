@@ -2,6 +2,8 @@
 -- "list calls 3, 8, 9, 4, 6; printing 1, 7, 6; strict text 5, 3, 6; records 1, 3, 2, 8, 4, 6." Document 02, item 7: "2 and 4 now come from these callers, after 1",
 -- wherever end, bin, pair tests and overhang ask for a record's reference length; item 5: 14 "after 3 and before 4". Item 12: 19 of the two clipping calls, "directly after 8". Item 11: "17 [..], 18 [..]; then 6."
 use Rattle.std.specs.Prelude.{ℕ, ◌+◌, Bool, true, false, cond, not, ◌||◌, ◌&&◌, List, [], ◌∷◌, ◌++◌, ltb, eqb, ℤ, pos, negsuc, ◌+ℤ◌, ◌-ℤ◌, length}
+use Rattle.std.specs.Prelude.{Err, Ok}
+use Rattle.answers.specs.Answer.{Answer}
 use Rattle.std.specs.Int.Signed.{lt_z}
 use Rattle.lists.specs.Lists.{facing, sum_of}
 use Rattle.signed.specs.Whole.{clamp32}
@@ -21,7 +23,6 @@ use Rattle.text_rules.specs.Strict.{strict}
 use Rattle.ends_rules.specs.Tails.{greatest_run}
 use Rattle.ends_rules.specs.Ends.{has_no_ops}
 use Rattle.clip_rules.specs.Answer.{clipped_ops}
-use Rattle.answers.specs.declared.Flag.{Flag}
 use Rattle.pairs_rules.specs.Pairs.{is_opposite, is_fr_with_mate, are_opposite, is_primary_fr}
 use Rattle.promises.specs.Table.{Row, ◌when◌, only}
 
@@ -244,9 +245,9 @@ abbrev pub extending_rows : List ℕ → List ℕ → List Row
 extending_rows xs ys = too_many xs ∷ too_many ys ∷ []
 
 -- the pair test answers yes
-abbrev pub is_yes : Flag → Bool
-is_yes (Flag.Is fr) = fr
-is_yes (Flag.Refused r) = false
+abbrev pub is_yes : Answer Bool → Bool
+is_yes (Ok fr) = fr
+is_yes (Err r) = false
 
 -- of an FR pair both places are counted from 1
 abbrev pub place_row : Bool → ℤ → ℤ → Row

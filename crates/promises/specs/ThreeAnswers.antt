@@ -1,13 +1,13 @@
 -- Document 02, item 3: "The family builder wants three answers: a position, unmapped, or no ops, which an overrun area also gives. [..] Demand 2 then equals Rust after the three
 -- answers are folded back to its numbers".
 use Rattle.std.specs.Prelude.{ℕ, ◌≡◌, Bool, true, false, cond, ◌||◌, List, ltb, eqb, ℤ, pos, ◌+ℤ◌, ◌-ℤ◌, length}
-use Rattle.signed.specs.declared.Sum.{Sum}
+use Rattle.std.specs.Prelude.{Err, None, Ok, Option, Some}
+use Rattle.answers.specs.Answer.{Answer}
 use Rattle.sam.specs.Columns.{columns, refs}
 use Rattle.sam.specs.Record.{is_short, pos_of, flags_of, is_unmapped, is_reverse, op_count_of, ops_end}
 use Rattle.oplist.specs.Ops.{record_ops}
 use Rattle.clip_run_rules.specs.Clips.{leading_clips, clips_after_reference}
 use Rattle.answers.specs.declared.Pos1.{Pos1}
-use Rattle.answers.specs.declared.Int.{Int}
 use Rattle.answers.specs.declared.Refusal.TheVariants.{ShortRecord, Overflow}
 use Rattle.ends_rules.specs.Ends.{plus_one, five_prime}
 use Rattle.ends_rules.specs.declared.Unclipped.{Unclipped}
@@ -42,25 +42,25 @@ pub record ThreeAnswers (b : List ℕ) (answer : Unclipped) : Type 0 where
 -- ---- "folded back to its numbers"
 
 -- document 01: "unmapped 0; no ops or overrun 2,147,483,647"
-abbrev pub as_rust : Unclipped → Int
-as_rust (Unclipped.At p) = Int.Number p.0
-as_rust Unclipped.Unmapped = Int.Number (pos 0)
-as_rust Unclipped.NoOps = Int.Number (pos 2147483647)
-as_rust (Unclipped.Refused r) = Int.Refused r
+abbrev pub as_rust : Unclipped → Answer ℤ
+as_rust (Unclipped.At p) = Ok p.0
+as_rust Unclipped.Unmapped = Ok (pos 0)
+as_rust Unclipped.NoOps = Ok (pos 2147483647)
+as_rust (Unclipped.Refused r) = Err r
 
-abbrev pub sum_as_int : Sum → Int
-sum_as_int (Sum.Number z) = Int.Number z
-sum_as_int Sum.Over = Int.Refused Overflow
+abbrev pub sum_as_int : Option ℤ → Answer ℤ
+sum_as_int (Some z) = Ok z
+sum_as_int None = Err Overflow
 
 -- "else from `pos` + 1"
-abbrev pub from_next : Sum → Bool → List ℕ → Sum
-from_next (Sum.Number at) reverse xs = five_prime reverse at xs
-from_next Sum.Over reverse xs = Sum.Over
+abbrev pub from_next : Option ℤ → Bool → List ℕ → Option ℤ
+from_next (Some at) reverse xs = five_prime reverse at xs
+from_next None reverse xs = None
 
 -- the Rust's number, as document 01 has it: 1, 4
-unfoldable pub rust_number : List ℕ → Int
+unfoldable pub rust_number : List ℕ → Answer ℤ
 rust_number b =
-    cond (is_short b) (Int.Refused ShortRecord)
-    (cond (is_unmapped (flags_of b)) (Int.Number (pos 0))
-    (cond (lacks_ops b) (Int.Number (pos 2147483647))
+    cond (is_short b) (Err ShortRecord)
+    (cond (is_unmapped (flags_of b)) (Ok (pos 0))
+    (cond (lacks_ops b) (Ok (pos 2147483647))
     (sum_as_int (from_next (plus_one (record { 0 = pos_of b })) (is_reverse (flags_of b)) (record_ops b)))))

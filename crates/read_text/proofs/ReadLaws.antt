@@ -1,5 +1,6 @@
 -- One op after another: what the reader left behind it is what was asked, and what is left is the rest.
 use Prim.Native.Nat.{ℕ, zero, suc, ◌+◌, ◌-◌, ◌*◌, ◌≤◌}
+use Rattle.std.specs.Prelude.{None, Some}
 use mathlib.Core.Path.{◌≡◌, refl, sym, ap, ◌∙◌}
 use mathlib.Core.Bool.{Bool, true, false, ◌&&◌, and-false}
 use mathlib.Core.List.{List, [], ◌∷◌, ◌++◌}
@@ -21,7 +22,6 @@ use Rattle.validity.specs.declared.Stage.{Stage}
 use Rattle.validity.specs.declared.Stage.TheVariants.{Start, Good}
 use Rattle.validity.proofs.StageLaws.{long_class, wrong_accept, valid_run}
 use Rattle.read_text.specs.InnerRead.{Onward, taken_from, ReadTo}
-use Rattle.read_text.specs.declared.Counted.TheVariants as Counted
 use Rattle.parsed_rules.proofs.PutLaws.{put_one, put_none, put_all}
 
 -- ---- stores
@@ -110,10 +110,10 @@ module _ (s : List ℕ) where
     verdict : strict s ≡ accept_of p
     verdict = sym strict_taken ∙ same_taken Start p 0 n 0 i d e x ∙ ended
 
-    pub read_none : accept_of p ≡ false → ReadTo s d Counted.Bad e
+    pub read_none : accept_of p ≡ false → ReadTo s d None e
     read_none a = verdict ∙ a
 
-    pub read_all : accept_of p ≡ true → ReadTo s d (Counted.Ops n) e
+    pub read_all : accept_of p ≡ true → ReadTo s d (Some n) e
     read_all a =
         let z = at-end s i 0 false h in
         let c : length (text_ops s) ≡ n + length (text_ops (drop i s)) = omega (arith, x.number) in
@@ -136,7 +136,7 @@ inner_good Unknown e = never (cc)
 -- ---- what was read
 
 -- memory that holds an op for every two bytes holds them all
-pub held : (s d e : List ℕ) (n : ℕ) → ReadTo s d (Counted.Ops n) e → length s ≤ length d * 2 → (n ≤ length e) × (take n e ≡ text_ops s)
+pub held : (s d e : List ℕ) (n : ℕ) → ReadTo s d (Some n) e → length s ≤ length d * 2 → (n ≤ length e) × (take n e ≡ text_ops s)
 unfolding splice
 held s d e n r h =
     let xs = text_ops s in

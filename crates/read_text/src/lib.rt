@@ -16,20 +16,6 @@ pub struct Reached {
     pub at: usize,
 }
 
-// Where some ops more end; or that the text is no valid mapped CIGAR.
-#[derive(Clone, Copy)]
-pub enum Reach {
-    To(Reached),
-    Bad,
-}
-
-// How many ops a valid mapped CIGAR has; or that the text is none.
-#[derive(Clone, Copy)]
-pub enum Counted {
-    Ops(usize),
-    Bad,
-}
-
 // Stores an op where there is room for it.
 fn put(out: &mut [u32], at: usize, op: u32)
     ensures { out.new ≡ set out.old at op }
@@ -65,7 +51,7 @@ fn alike(text: &[u8], from: usize, had: usize, digits: usize, out: &mut [u32]) -
 }
 
 // Sixteen ops more, or as many as there are: the way that no branch on the digits slows.
-fn stretch(text: &[u8], seen: Reached, out: &mut [u32]) -> Reach
+fn stretch(text: &[u8], seen: Reached, out: &mut [u32]) -> Option<Reached>
     requires { (seen.at ≤ length text.now) × (seen.n * 2 ≤ seen.at) }
     ensures { Stretched text.now seen out.old result out.new }
 {
@@ -79,18 +65,18 @@ fn stretch(text: &[u8], seen: Reached, out: &mut [u32]) -> Reach
         }
         let Token::Op(len, code, next) = tokens::token_at(tokens::short_token(text, i), text, i)
         else {
-            return Reach::Bad;
+            return None;
         };
         p = validity::step(p, code);
         if validity::is_wrong(p) {
-            return Reach::Bad;
+            return None;
         }
         put(out, n, len * 16 + code);
         n += 1;
         i = next;
         left -= 1;
     }
-    Reach::To(Reached { stage: p, n, at: i })
+    Some(Reached { stage: p, n, at: i })
 }
 
 // How many digits each of sixteen ops has that take so many bytes, if it is one number for all, at most four; else 0. A guess, which no answer rests on.
@@ -120,7 +106,7 @@ fn run_on(text: &[u8], seen: Reached, digits: usize, out: &mut [u32]) -> Reached
 }
 
 // Reads a text once: whether it is a valid mapped CIGAR, and how many ops it has, which go to out as far as there is room.
-pub fn read_ops(text: &[u8], out: &mut [u32]) -> Counted
+pub fn read_ops(text: &[u8], out: &mut [u32]) -> Option<usize>
     ensures { ReadTo text.now out.old result out.new }
 {
     let mut seen = Reached {
@@ -129,14 +115,14 @@ pub fn read_ops(text: &[u8], out: &mut [u32]) -> Counted
         at: 0,
     };
     while seen.at < text.len() {
-        let Reach::To(after) = stretch(text, seen, out) else {
-            return Counted::Bad;
+        let Some(after) = stretch(text, seen, out) else {
+            return None;
         };
         seen = run_on(text, after, digits_of(after.at - seen.at), out);
     }
     let p = seen.stage;
     if validity::accept(p) {
-        return Counted::Ops(seen.n);
+        return Some(seen.n);
     }
-    Counted::Bad
+    None
 }

@@ -12,7 +12,7 @@ ghost use Rattle.receive_rules.specs.InnerCompared.{behind_ops, behind_header};
 use answers::Refusal;
 use clip_rules::Plan;
 use receive_rules::{Part, Received};
-use record_rules::{PlannedRecord, RecordPlan};
+use record_rules::RecordPlan;
 
 // Whether the received record is the sent one clipped by `amount` bases at its start, and else the first part that differs. Refusals 1, 2, 8, 19, 15, 16, 4, 23, 24.
 pub fn check_clipped_start(sent: &[u8], amount: u64, received: &[u8]) -> Received
@@ -33,8 +33,8 @@ fn check_clipped(sent: &[u8], amount: u64, start: bool, received: &[u8]) -> Rece
     ensures { result ≡ received_as received.now sent.now (clipped_fate sent.now amount start) }
 {
     match record_plan::plan_record(&*sent, amount, start) {
-        PlannedRecord::Made(p) => weigh(&*received, &*sent, p, start),
-        PlannedRecord::Refused(why) => Received::Refused(why),
+        Ok(p) => weigh(&*received, &*sent, p, start),
+        Err(why) => Received::Refused(why),
     }
 }
 

@@ -10,29 +10,28 @@ ghost use Rattle.oplist.specs.Ops.{record_ops};
 ghost use Rattle.record_rules.specs.Clipping.{differs, bin_at, binned, placed, counted, clipped_fate};
 ghost use Rattle.record_rules.specs.InnerPlan.{FateIs, planned_ops};
 
-use answers::{Nat, Pos0, Refusal};
-use clip_rules::{Plan, Planned};
-use record_rules::{PlannedRecord, RecordPlan};
-use signed::Sum;
+use answers::{Answer, Pos0, Refusal};
+use clip_rules::Plan;
+use record_rules::RecordPlan;
 
 // The most ops that a record counts.
 pub const MOST_RECORD_OPS: u32 = 65535;
 
 // What becomes of a record that is clipped at one end. Refusals 1, 2, 8, 19, 15, 16, 4.
-pub fn plan_record(bam: &[u8], amount: u64, start: bool) -> PlannedRecord
+pub fn plan_record(bam: &[u8], amount: u64, start: bool) -> Answer<RecordPlan>
     ensures { FateIs bam.now start (clipped_fate bam.now amount start) result }
 {
     if bam.len() < 32 {
-        return PlannedRecord::Refused(Refusal::ShortRecord);
+        return Err(Refusal::ShortRecord);
     }
     if bam.len() < record_parts::tags_start(bam) {
-        return PlannedRecord::Refused(Refusal::AreaOverrun);
+        return Err(Refusal::AreaOverrun);
     }
     let list = oplist::of_record(bam);
     let limit = oplist::count(&[], bam, list);
     match clip_plan::plan_clip(&[], bam, list, limit, amount, start, true) {
-        Planned::Made(p) => counted(bam, p, start),
-        Planned::Refused(why) => PlannedRecord::Refused(why),
+        Ok(p) => counted(bam, p, start),
+        Err(why) => Err(why),
     }
 }
 
@@ -50,18 +49,18 @@ fn query_differs(len: u64, query: u64) -> bool
 }
 
 // The bin of a record at z with so many reference bases. Refusal 4.
-fn bin_at(z: i32, refs: u64) -> Nat
+fn bin_at(z: i32, refs: u64) -> Answer<u32>
     requires { refs < 268435456 }
     ensures { result ≡ bin_at z refs }
 {
     if z < 0 {
-        return Nat::Number(bin::UNMAPPED_BIN);
+        return Ok(bin::UNMAPPED_BIN);
     }
     bin::bin_from(Pos0(z), refs as i32)
 }
 
 // A record whose position is moved to z. Refusal 4, of the bin.
-fn binned(bam: &[u8], p: Plan, start: bool, refs: u64, count: u64, z: i32) -> PlannedRecord
+fn binned(bam: &[u8], p: Plan, start: bool, refs: u64, count: u64, z: i32) -> Answer<RecordPlan>
     requires bam_in_bounds { tags_start bam.now ≤ length bam.now }
     requires heads_bound { p.heads ≤ 2 }
     requires skip_bound { p.skip ≤ op_count_of bam.now }
@@ -69,11 +68,11 @@ fn binned(bam: &[u8], p: Plan, start: bool, refs: u64, count: u64, z: i32) -> Pl
     ensures { FateIs bam.now start (binned bam.now (planned_ops start (record_ops bam.now) p) start count z (bin_at z refs)) result }
 {
     match bin_at(z, refs) {
-        Nat::Number(bin) => {
+        Ok(bin) => {
             let n = record_left::count_of(bam, p);
             let len = record_left::new_len(bam, p, start);
             let from = record_left::first_kept(bam, start, len);
-            PlannedRecord::Made(RecordPlan {
+            Ok(RecordPlan {
                 ops: p,
                 n: n,
                 place: z,
@@ -83,12 +82,12 @@ fn binned(bam: &[u8], p: Plan, start: bool, refs: u64, count: u64, z: i32) -> Pl
                 count: count,
             })
         }
-        Nat::Refused(why) => PlannedRecord::Refused(why),
+        Err(why) => Err(why),
     }
 }
 
 // A record that is moved by the count. Refusal 4, of the position and of the bin.
-fn placed(bam: &[u8], p: Plan, start: bool, refs: u64, count: u64) -> PlannedRecord
+fn placed(bam: &[u8], p: Plan, start: bool, refs: u64, count: u64) -> Answer<RecordPlan>
     requires bam_in_bounds { tags_start bam.now ≤ length bam.now }
     requires heads_bound { p.heads ≤ 2 }
     requires skip_bound { p.skip ≤ op_count_of bam.now }
@@ -97,13 +96,13 @@ fn placed(bam: &[u8], p: Plan, start: bool, refs: u64, count: u64) -> PlannedRec
     ensures { FateIs bam.now start (placed bam.now (planned_ops start (record_ops bam.now) p) start count (checked (pos_of bam.now +ℤ pos count))) result }
 {
     match signed::checked_add(little_endian::i32_at(bam, 4), count as i32) {
-        Sum::Number(z) => binned(bam, p, start, refs, count, z),
-        Sum::Over => PlannedRecord::Refused(Refusal::Overflow),
+        Some(z) => binned(bam, p, start, refs, count, z),
+        None => Err(Refusal::Overflow),
     }
 }
 
 // A record whose ops a plan clips. Refusals 15, 16, 4.
-fn counted(bam: &[u8], p: Plan, start: bool) -> PlannedRecord
+fn counted(bam: &[u8], p: Plan, start: bool) -> Answer<RecordPlan>
     requires bam_in_bounds { tags_start bam.now ≤ length bam.now }
     requires heads_bound { p.heads ≤ 2 }
     requires skip_bound { p.skip ≤ op_count_of bam.now }
@@ -114,10 +113,10 @@ fn counted(bam: &[u8], p: Plan, start: bool) -> PlannedRecord
     let total = op_sums::short_sums(&[], bam, oplist::of_record(bam));
     let len = little_endian::u32_at(bam, 16) as u64;
     if query_differs(len, total.query) {
-        return PlannedRecord::Refused(Refusal::QueryDiffers);
+        return Err(Refusal::QueryDiffers);
     }
     if MOST_RECORD_OPS < record_left::count_of(bam, p) {
-        return PlannedRecord::Refused(Refusal::CountOver);
+        return Err(Refusal::CountOver);
     }
     placed(
         bam,

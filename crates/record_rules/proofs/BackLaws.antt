@@ -1,5 +1,7 @@
 -- A record that was clipped and written is a record again, and reads back as promised.
 use Prim.Native.Nat.{ℕ, zero, suc, ◌+◌, ◌*◌, ◌%◌, ◌≤◌, ◌<◌}
+use Rattle.std.specs.Prelude.{Err, None, Ok, Option, Some}
+use Rattle.answers.specs.Answer.{Answer}
 use mathlib.Core.Path.{◌≡◌, sym, ap, subst, subst⁻¹, ◌∙◌}
 use mathlib.Core.Bool.{Bool, true, false, cond}
 use mathlib.Core.List.{List, [], ◌∷◌, ◌++◌}
@@ -13,7 +15,6 @@ use mir.Syntax.{w32}
 use mir.Val.{SFits}
 use Rattle.lists.specs.Lists.{Each, sum_of}
 use Rattle.signed.specs.Whole.{bits32, checked}
-use Rattle.signed.specs.declared.Sum.{Sum}
 use Rattle.signed.proofs.Ranges.{checked_number}
 use Rattle.sam.specs.Op.{ref_len}
 use Rattle.sam.specs.Record.{name_len_of, seq_len_of, pos_of, quals_start, ops_end, tags_start, uint32, op_bytes}
@@ -21,8 +22,6 @@ use Rattle.sam.specs.Bases.{bases_of, packed}
 use Rattle.sam.specs.Parts.{part, bases_part, quals_part, record_bases, uint16}
 use Rattle.sam.proofs.BaseLaws.{base_below, packed_byte}
 use Rattle.oplist.specs.Ops.{record_ops}
-use Rattle.answers.specs.declared.Nat.{Nat}
-use Rattle.answers.specs.declared.Int.{Int}
 use Rattle.length_rules.specs.Lengths.{as_int, checked_ref_length}
 use Rattle.bin_rules.specs.Bin.{low16, bin_of, bin_to, reg2bin, span_of, bin_up_to, bin_from, record_bin}
 use Rattle.clip_rules.specs.Answer.{clipped_ops}
@@ -121,35 +120,35 @@ bytes_back b c w =
 -- ---- the bin
 
 -- a bin has 16 bits
-abbrev Below : Nat → Type 0
-Below (Nat.Number n) = n < 65536
-Below (Nat.Refused r) = Unit {0}
+abbrev Below : Answer ℕ → Type 0
+Below (Ok n) = n < 65536
+Below (Err r) = Unit {0}
 
 low_below : (z : ℤ) → low16 z < 65536
 unfolding low16
 low_below (pos n) = omega arith
 low_below (negsuc n) = omega arith
 
-to_below : (z : ℤ) (s : Sum) → Below (bin_to z s)
+to_below : (z : ℤ) (s : Option ℤ) → Below (bin_to z s)
 unfolding bin_to
-to_below z (Sum.Number y) = low_below (bin_of z y)
-to_below z Sum.Over = tt
+to_below z (Some y) = low_below (bin_of z y)
+to_below z None = tt
 
-up_below : (z : ℤ) (s : Sum) → Below (bin_up_to z s)
+up_below : (z : ℤ) (s : Option ℤ) → Below (bin_up_to z s)
 unfolding bin_up_to reg2bin
-up_below z (Sum.Number y) = to_below z (checked (y -ℤ pos 1))
-up_below z Sum.Over = tt
+up_below z (Some y) = to_below z (checked (y -ℤ pos 1))
+up_below z None = tt
 
-from_below : (z : ℤ) (n : Int) → Below (bin_from z n)
+from_below : (z : ℤ) (n : Answer ℤ) → Below (bin_from z n)
 unfolding bin_from
-from_below z (Int.Number n) = up_below z (checked (z +ℤ span_of n))
-from_below z (Int.Refused r) = tt
+from_below z (Ok n) = up_below z (checked (z +ℤ span_of n))
+from_below z (Err r) = tt
 
 at_below : (z : ℤ) (refs : ℕ) → Below (bin_at z refs)
 unfolding bin_at
 at_below z refs = go (lt_z z (pos 0))
   where
-    go : (t : Bool) → Below (cond t (Nat.Number 4680) (bin_from z (as_int refs)))
+    go : (t : Bool) → Below (cond t (Ok 4680) (bin_from z (as_int refs)))
     go true = omega arith
     go false = from_below z (as_int refs)
 
@@ -218,7 +217,7 @@ module _ (b : List ℕ) (amount : ℕ) (start : Bool) (c : Change) (w : Bytes b)
             ∙ ap (λ (z : ℤ). bin_at z (sum_of ref_len (record_ops (new_record b c)))) p
             ∙ ap (λ (zs : List ℕ). bin_at c.place (sum_of ref_len zs)) o
             ∙ P.bin_is
-            ∙ ap Nat.Number (sym (bin_back b c H));
+            ∙ ap Ok (sym (bin_back b c H));
         reference = ref_back b c H;
         mapping = mapping_back b c H;
         flags = flags_back b c H;

@@ -1,5 +1,7 @@
 -- What a record that is not refused has passed, and how it changes.
 use Prim.Native.Nat.{ℕ, ◌≤◌}
+use Rattle.std.specs.Prelude.{Err, None, Ok, Option, Some}
+use Rattle.answers.specs.Answer.{Answer}
 use mathlib.Core.Path.{◌≡◌, refl, sym, ap, subst⁻¹, ◌∙◌}
 use mathlib.Core.Bool.{Bool, true, false}
 use mathlib.Core.List.{List}
@@ -9,12 +11,10 @@ use lib.ListN.{length}
 use borrow.Author.Tests.{ltb-true, ltb-false}
 use Rattle.lists.specs.Lists.{sum_of}
 use Rattle.signed.specs.Whole.{checked}
-use Rattle.signed.specs.declared.Sum.{Sum}
 use Rattle.sam.specs.Op.{len_of, ref_len, query_len}
 use Rattle.sam.specs.Record.{seq_len_of, pos_of, tags_start}
 use Rattle.oplist.specs.Ops.{record_ops}
 use Rattle.answers.specs.declared.Refusal.{Refusal}
-use Rattle.answers.specs.declared.Nat.{Nat}
 use Rattle.clip_rules.specs.Answer.{clipped_ops, is_beyond}
 use Rattle.record_rules.specs.Written.{Change}
 use Rattle.record_rules.specs.Clipping.{most_record_ops, differs, new_len, first_kept, start_count, bin_at, Fate, Refuses, Becomes, binned, placed, counted, clipped_fate}
@@ -28,8 +28,8 @@ pub record Passed (b : List ℕ) (amount : ℕ) (start : Bool) (c : Change) : Ty
   pub within : is_beyond (record_ops b) amount start ≡ false
   pub agrees : differs (seq_len_of b) (sum_of query_len (record_ops b)) ≡ false
   pub few : length (clipped_ops (record_ops b) amount start) ≤ 65535
-  pub place_is : checked (pos_of b +ℤ pos (start_count (record_ops b) amount start)) ≡ Sum.Number c.place
-  pub bin_is : bin_at c.place (sum_of ref_len (clipped_ops (record_ops b) amount start)) ≡ Nat.Number c.bin
+  pub place_is : checked (pos_of b +ℤ pos (start_count (record_ops b) amount start)) ≡ Some c.place
+  pub bin_is : bin_at c.place (sum_of ref_len (clipped_ops (record_ops b) amount start)) ≡ Ok c.bin
   pub ops_is : c.ops ≡ clipped_ops (record_ops b) amount start
   pub len_is : c.len ≡ new_len b (clipped_ops (record_ops b) amount start)
   pub from_is : c.from ≡ first_kept b start (new_len b (clipped_ops (record_ops b) amount start))
@@ -54,11 +54,11 @@ module _ (b : List ℕ) (amount : ℕ) (start : Bool) (c : Change) (e : clipped_
   -- behind each test; the fate is then what is left of the definition
   module _ (l : 32 ≤ length b) (t : tags_start b ≤ length b) (s : sum_of len_of (record_ops b) ≤ 268435455) (w : is_beyond (record_ops b) amount start ≡ false) where
     module _ (a : differs (seq_len_of b) (sum_of query_len (record_ops b)) ≡ false) (f : length (clipped_ops (record_ops b) amount start) ≤ 65535) where
-      with-bin : (z : ℤ) → checked (pos_of b +ℤ pos (start_count (record_ops b) amount start)) ≡ Sum.Number z
+      with-bin : (z : ℤ) → checked (pos_of b +ℤ pos (start_count (record_ops b) amount start)) ≡ Some z
           → clipped_fate b amount start ≡ binned b (clipped_ops (record_ops b) amount start) start (start_count (record_ops b) amount start) z (bin_at z (sum_of ref_len (clipped_ops (record_ops b) amount start)))
-          → (m : Nat) → bin_at z (sum_of ref_len (clipped_ops (record_ops b) amount start)) ≡ m → Passed b amount start c
-      with-bin z p q (Nat.Refused r) g = absurd (not_both (q ∙ binned_not b (clipped_ops (record_ops b) amount start) start (start_count (record_ops b) amount start) z _ r g) e)
-      with-bin z p q (Nat.Number m) g =
+          → (m : Answer ℕ) → bin_at z (sum_of ref_len (clipped_ops (record_ops b) amount start)) ≡ m → Passed b amount start c
+      with-bin z p q (Err r) g = absurd (not_both (q ∙ binned_not b (clipped_ops (record_ops b) amount start) start (start_count (record_ops b) amount start) z _ r g) e)
+      with-bin z p q (Ok m) g =
           let d = same_change e (q ∙ binned_is b (clipped_ops (record_ops b) amount start) start (start_count (record_ops b) amount start) z _ z m _ _ refl g refl refl) in
           record {
             long = l;
@@ -76,9 +76,9 @@ module _ (b : List ℕ) (amount : ℕ) (start : Bool) (c : Change) (e : clipped_
           }
 
       with-place : clipped_fate b amount start ≡ placed b (clipped_ops (record_ops b) amount start) start (start_count (record_ops b) amount start) (checked (pos_of b +ℤ pos (start_count (record_ops b) amount start)))
-          → (m : Sum) → checked (pos_of b +ℤ pos (start_count (record_ops b) amount start)) ≡ m → Passed b amount start c
-      with-place q Sum.Over p = absurd (not_both (q ∙ placed_not b (clipped_ops (record_ops b) amount start) start (start_count (record_ops b) amount start) _ p) e)
-      with-place q (Sum.Number z) p =
+          → (m : Option ℤ) → checked (pos_of b +ℤ pos (start_count (record_ops b) amount start)) ≡ m → Passed b amount start c
+      with-place q None p = absurd (not_both (q ∙ placed_not b (clipped_ops (record_ops b) amount start) start (start_count (record_ops b) amount start) _ p) e)
+      with-place q (Some z) p =
           with-bin z p (q ∙ placed_is b (clipped_ops (record_ops b) amount start) start (start_count (record_ops b) amount start) _ z _ p refl) (bin_at z (sum_of ref_len (clipped_ops (record_ops b) amount start))) refl
 
     with_count : clipped_fate b amount start ≡ counted b (clipped_ops (record_ops b) amount start) start (start_count (record_ops b) amount start) → Passed b amount start c

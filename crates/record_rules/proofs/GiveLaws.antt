@@ -1,5 +1,7 @@
 -- A call that answers has written the record that its change is for; and such a change is answered into every memory that has room.
 use Prim.Native.Nat.{ℕ, ◌≤◌}
+use Rattle.std.specs.Prelude.{Err, Ok}
+use Rattle.answers.specs.Answer.{Answer}
 use mathlib.Core.Path.{◌≡◌, refl, sym, ap, subst⁻¹, ◌∙◌}
 use mathlib.Core.Bool.{Bool, true, false, cond}
 use mathlib.Core.List.{List}
@@ -10,7 +12,6 @@ use native.Mathlib.Omega.{arith}
 use Rattle.lists.specs.Lists.{splice}
 use Rattle.answers.specs.Settled.{Outcome, keeps}
 use Rattle.answers.specs.declared.Refusal.TheVariants.{NoRoom}
-use Rattle.answers.specs.declared.Count.{Count}
 use Rattle.clip_rules.specs.Answer.{without_count, uncounted}
 use Rattle.clip_rules.specs.declared.Clipped.{Clipped}
 use Rattle.clip_rules.specs.declared.Clipped.TheVariants.{Done, Refused}
@@ -86,26 +87,26 @@ start_given b a new count G = fate_given b new count (clipped_fate b a true) (G 
 
 -- at the end the answer leaves its count out
 module _ (b new : List ℕ) where
-  abbrev Counts : Count → Type 0
-  Counts (Count.Number n) = Unit {0}
-  Counts (Count.Refused r) = ⊥
+  abbrev Counts : Answer ℕ → Type 0
+  Counts (Ok n) = Unit {0}
+  Counts (Err r) = ⊥
 
-  abbrev number_in : Count → ℕ
-  number_in (Count.Number n) = n
-  number_in (Count.Refused r) = 0
+  abbrev number_in : Answer ℕ → ℕ
+  number_in (Ok n) = n
+  number_in (Err r) = 0
 
-  counted_again : (o : Outcome Clipped) → without_count o ≡ record { answer = Count.Number (length new); left = splice new 0 new }
+  counted_again : (o : Outcome Clipped) → without_count o ≡ record { answer = Ok (length new); left = splice new 0 new }
       → o ≡ record { answer = Done (length new) (count_in o.answer); left = splice new 0 new }
   counted_again o e = go o.answer refl
     where
       go : (c : Clipped) → o.answer ≡ c → o ≡ record { answer = Done (length new) (count_in o.answer); left = splice new 0 new }
       go (Done n count) p =
-          let q : uncounted o.answer ≡ Count.Number (length new) = ap (λ (x : Outcome Count). x.answer) e in
+          let q : uncounted o.answer ≡ Ok (length new) = ap (λ (x : Outcome (Answer ℕ)). x.answer) e in
           let n : n ≡ length new = ap number_in (sym (ap uncounted p) ∙ q) in
-          let l : o.left ≡ splice new 0 new = ap (λ (x : Outcome Count). x.left) e in
+          let l : o.left ≡ splice new 0 new = ap (λ (x : Outcome (Answer ℕ)). x.left) e in
           ap (λ (c : Clipped). record { answer = c; left = o.left }) (p ∙ ap (λ (k : ℕ). Done k count) n ∙ ap (λ (k : ℕ). Done (length new) k) (sym (ap count_in p)))
           ∙ ap (λ (m : List ℕ). record { answer = Done (length new) (count_in o.answer); left = m }) l
-      go (Refused r) p = absurd (subst⁻¹ Counts (sym (ap uncounted p) ∙ ap (λ (x : Outcome Count). x.answer) e) tt)
+      go (Refused r) p = absurd (subst⁻¹ Counts (sym (ap uncounted p) ∙ ap (λ (x : Outcome (Answer ℕ)). x.answer) e) tt)
 
 pub end_given : (b : List ℕ) (a : ℕ) (new : List ℕ) → EndGives clipped_record_end b a new → Given b (clipped_fate b a false) new (count_in (written b (clipped_fate b a false) new).answer)
 end_given b a new G = fate_given b new _ (clipped_fate b a false) (counted_again b new (written b (clipped_fate b a false) new) (G new (omega arith)))

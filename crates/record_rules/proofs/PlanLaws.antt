@@ -1,5 +1,7 @@
 -- What a plan of the ops leaves: its sums and how many ops it has; and the cases of a fate.
 use Prim.Native.Nat.{ℕ, ◌+◌, ◌-◌, ◌≤◌, ◌<◌}
+use Rattle.std.specs.Prelude.{Err, None, Ok, Option, Some}
+use Rattle.answers.specs.Answer.{Answer}
 use mathlib.Core.Path.{◌≡◌, refl, sym, ap, ◌∙◌}
 use mathlib.Core.Bool.{Bool, true, false, cond}
 use mathlib.Core.Logic.{inl, inr}
@@ -13,7 +15,6 @@ use Rattle.lists.specs.Lists.{facing, splice, sum_of}
 use Rattle.lists.proofs.ListLaws.{length_facing}
 use Rattle.lists.proofs.Sums.{sum-append, sum_facing}
 use Rattle.signed.specs.Whole.{checked}
-use Rattle.signed.specs.declared.Sum.{Sum}
 use Rattle.sam.specs.Op.{len_of, code_of, is_ref, ref_len, query_len}
 use Rattle.sam.specs.Record.{seq_len_of, pos_of, ops_start, ops_end, op_count_of, ops_in, tags_start}
 use Rattle.oplist.specs.Ops.{record_ops}
@@ -22,8 +23,6 @@ use Rattle.answers.specs.Settled.{Settled, keeps}
 use Rattle.answers.proofs.Unique.{settled, outcome}
 use Rattle.answers.specs.declared.Refusal.{Refusal}
 use Rattle.answers.specs.declared.Refusal.TheVariants.{ShortRecord, AreaOverrun, Overflow, NoRoom, TooLong, AmountBeyond, QueryDiffers, CountOver}
-use Rattle.answers.specs.declared.Nat.{Nat}
-use Rattle.answers.specs.declared.Int.TheVariants as Int
 use Rattle.length_rules.specs.Lengths.{as_int}
 use Rattle.bin_rules.specs.Bin.{bin_from}
 use Rattle.clip_rules.specs.declared.Plan.{Plan}
@@ -31,14 +30,11 @@ use Rattle.clip_rules.specs.declared.Clipped.TheVariants.{Done, Refused}
 use Rattle.clip_rules.specs.Clipping.{Cut, clip}
 use Rattle.clip_rules.specs.Answer.{clipped_ops, clipped_count, is_beyond}
 use Rattle.clip_rules.specs.InnerPlan.{PlanIs, PlannedIs}
-use Rattle.clip_rules.specs.declared.Planned.TheVariants as Ops
 use Rattle.clip_laws.proofs.Drops.{clip_drops, drops_length}
 use Rattle.record_rules.specs.Written.{Change, new_record}
 use Rattle.record_rules.specs.Clipping.{most_record_ops, differs, lost_query, new_len, first_kept, start_count, bin_at, Fate, Refuses, Becomes, binned, placed, counted, clipped_fate, put_into, written}
 use Rattle.record_rules.specs.InnerPlan.{planned_ops, change_by, Fits, FateIs}
 use Rattle.record_rules.specs.declared.RecordPlan.{RecordPlan}
-use Rattle.record_rules.specs.declared.PlannedRecord.{PlannedRecord}
-use Rattle.record_rules.specs.declared.PlannedRecord.TheVariants as Planned
 
 -- ---- what a plan leaves
 
@@ -126,36 +122,36 @@ ops_left b start p F =
 -- ---- the cases of a fate
 
 -- another name for a fate
-pub refated : (b : List ℕ) (start : Bool) {f g : Fate} → f ≡ g → (r : PlannedRecord) → FateIs b start g r → FateIs b start f r
-refated b start e (Planned.Made p) x = (e ∙ x.0, x.1)
-refated b start e (Planned.Refused r) x = e ∙ x
+pub refated : (b : List ℕ) (start : Bool) {f g : Fate} → f ≡ g → (r : Answer RecordPlan) → FateIs b start g r → FateIs b start f r
+refated b start e (Ok p) x = (e ∙ x.0, x.1)
+refated b start e (Err r) x = e ∙ x
 
 pub kept_start : (b : List ℕ) (start : Bool) (n : ℕ) → start ≡ true → first_kept b start n ≡ seq_len_of b - n
 kept_start b start n e = rw e
 
-pub bin_before : (z : ℤ) (refs : ℕ) → lt_z z (pos 0) ≡ true → Nat.Number 4680 ≡ bin_at z refs
+pub bin_before : (z : ℤ) (refs : ℕ) → lt_z z (pos 0) ≡ true → Ok 4680 ≡ bin_at z refs
 unfolding bin_at
 bin_before z refs e = simp e
 
-pub bin_behind : (z : ℤ) (refs : ℕ) → lt_z z (pos 0) ≡ false → refs < 268435456 → bin_from z (Int.Number (pos refs)) ≡ bin_at z refs
+pub bin_behind : (z : ℤ) (refs : ℕ) → lt_z z (pos 0) ≡ false → refs < 268435456 → bin_from z (Ok (pos refs)) ≡ bin_at z refs
 unfolding bin_at as_int
 bin_behind z refs e h = simp (e, le-ltb 2147483647 refs (omega arith))
 
 module _ (b ys : List ℕ) (start : Bool) (count : ℕ) where
-  pub binned_is : (z : ℤ) (n : Nat) (place : ℤ) (bin len from : ℕ) → place ≡ z → n ≡ Nat.Number bin → len ≡ new_len b ys → from ≡ first_kept b start len
+  pub binned_is : (z : ℤ) (n : Answer ℕ) (place : ℤ) (bin len from : ℕ) → place ≡ z → n ≡ Ok bin → len ≡ new_len b ys → from ≡ first_kept b start len
       → binned b ys start count z n ≡ Becomes (record { ops = ys; place = place; bin = bin; len = len; from = from; count = count })
   unfolding binned
   binned_is z n place bin len from d e f g = rw (d, e, g, f) refl
 
-  pub binned_not : (z : ℤ) (n : Nat) (r : Refusal) → n ≡ Nat.Refused r → binned b ys start count z n ≡ Refuses r
+  pub binned_not : (z : ℤ) (n : Answer ℕ) (r : Refusal) → n ≡ Err r → binned b ys start count z n ≡ Refuses r
   unfolding binned
   binned_not z n r e = ap (binned b ys start count z) e
 
-  pub placed_is : (s : Sum) (z : ℤ) (refs : ℕ) → s ≡ Sum.Number z → refs ≡ sum_of ref_len ys → placed b ys start count s ≡ binned b ys start count z (bin_at z refs)
+  pub placed_is : (s : Option ℤ) (z : ℤ) (refs : ℕ) → s ≡ Some z → refs ≡ sum_of ref_len ys → placed b ys start count s ≡ binned b ys start count z (bin_at z refs)
   unfolding placed
   placed_is s z refs e f = ap (placed b ys start count) e ∙ ap (λ (k : ℕ). binned b ys start count z (bin_at z k)) (sym f)
 
-  pub placed_not : (s : Sum) → s ≡ Sum.Over → placed b ys start count s ≡ Refuses Overflow
+  pub placed_not : (s : Option ℤ) → s ≡ None → placed b ys start count s ≡ Refuses Overflow
   unfolding placed
   placed_not s e = ap (placed b ys start count) e
 

@@ -1,5 +1,6 @@
 -- Clipping by a and then by b, through two written records: the second record is b's.
 use Prim.Native.Nat.{ℕ, ◌+◌, ◌-◌, ◌≤◌}
+use Rattle.std.specs.Prelude.{Some}
 use mathlib.Core.Path.{◌≡◌, refl, sym, ap, ◌∙◌}
 use mathlib.Core.Bool.{Bool, true, false, cond, not, ◌&&◌}
 use mathlib.Core.List.{List, ◌++◌}
@@ -13,7 +14,6 @@ use Rattle.lists.specs.Lists.{sum_of}
 use Rattle.lists.proofs.Absurd.{false_true}
 use Rattle.lists.proofs.Splices.{part_of_front}
 use Rattle.signed.specs.Whole.{checked}
-use Rattle.signed.specs.declared.Sum.TheVariants as Sum
 use Rattle.signed.proofs.Halves.{plus, same}
 use Rattle.signed.proofs.Ranges.{checked_number}
 use Rattle.sam.specs.Op.{len_of, ref_len, query_len}
@@ -105,7 +105,7 @@ module _ (b : List ℕ) (a a' : ℕ) (start : Bool) (c₁ c₂ : Change) (w : By
   unfolding further
   counts_add = let p = P.count-is in let q = Q.count-is in let e = counts in omega arith
 
-  place_then : checked (pos_of r +ℤ pos (start_count ys a' start)) ≡ Sum.Number c₂.place
+  place_then : checked (pos_of r +ℤ pos (start_count ys a' start)) ≡ Some c₂.place
   place_then =
       ap (λ (z : ℤ). checked (z +ℤ pos (start_count ys a' start))) (place-back b c₁ H ∙ (checked_number _ _ P.place_is).0)
       ∙ ap checked (moved_twice (pos_of b) (start_count (record_ops b) a start) (start_count ys a' start) ∙ ap (λ (n : ℕ). pos_of b +ℤ pos n) counts)

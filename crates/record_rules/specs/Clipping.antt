@@ -1,17 +1,16 @@
 -- Document 02, item 8: "Given a record, an end and an amount, write a new one". Refusals 1, 2, 8, 19, 15, 16, 4, and 6 where it is written.
 use Rattle.std.specs.Prelude.{ℕ, ◌-◌, Bool, true, false, cond, not, ◌&&◌, List, ltb, eqb, ℤ, pos, ◌+ℤ◌, length}
+use Rattle.std.specs.Prelude.{Err, None, Ok, Option, Some}
+use Rattle.answers.specs.Answer.{Answer}
 use Rattle.std.specs.Int.Signed.{lt_z}
 use Rattle.lists.specs.Lists.{splice, sum_of}
 use Rattle.signed.specs.Whole.{checked}
-use Rattle.signed.specs.declared.Sum.{Sum}
 use Rattle.sam.specs.Op.{len_of, ref_len, query_len}
 use Rattle.sam.specs.Record.{is_short, seq_len_of, pos_of, tags_start}
 use Rattle.oplist.specs.Ops.{record_ops}
 use Rattle.answers.specs.Settled.{Outcome, keeps}
 use Rattle.answers.specs.declared.Refusal.{Refusal}
 use Rattle.answers.specs.declared.Refusal.TheVariants.{ShortRecord, AreaOverrun, Overflow, NoRoom, TooLong, AmountBeyond, QueryDiffers, CountOver}
-use Rattle.answers.specs.declared.Nat.{Nat}
-use Rattle.answers.specs.declared.Count.{Count}
 use Rattle.length_rules.specs.Lengths.{as_int}
 use Rattle.bin_rules.specs.Bin.{bin_from}
 use Rattle.clip_rules.specs.Answer.{clipped_ops, clipped_count, is_beyond, without_count}
@@ -44,8 +43,8 @@ abbrev pub start_count : List ℕ → ℕ → Bool → ℕ
 start_count xs amount start = cond start (clipped_count xs amount start) 0
 
 -- the bin of a record at a position, with so many reference bases: 4680 below 0; 4 where its sum overflows
-unfoldable pub bin_at : ℤ → ℕ → Nat
-bin_at z refs = cond (lt_z z (pos 0)) (Nat.Number 4680) (bin_from z (as_int refs))
+unfoldable pub bin_at : ℤ → ℕ → Answer ℕ
+bin_at z refs = cond (lt_z z (pos 0)) (Ok 4680) (bin_from z (as_int refs))
 
 -- what becomes of a record: a refusal, or a change
 pub data Fate : Type 0 where
@@ -53,15 +52,15 @@ pub data Fate : Type 0 where
   Becomes : Change → Fate
 
 -- 4, of the bin
-unfoldable pub binned : List ℕ → List ℕ → Bool → ℕ → ℤ → Nat → Fate
-binned b ys start count z (Nat.Refused r) = Refuses r
-binned b ys start count z (Nat.Number bin) =
+unfoldable pub binned : List ℕ → List ℕ → Bool → ℕ → ℤ → Answer ℕ → Fate
+binned b ys start count z (Err r) = Refuses r
+binned b ys start count z (Ok bin) =
     Becomes (record { ops = ys; place = z; bin = bin; len = new_len b ys; from = first_kept b start (new_len b ys); count = count })
 
 -- 4, of the position
-unfoldable pub placed : List ℕ → List ℕ → Bool → ℕ → Sum → Fate
-placed b ys start count Sum.Over = Refuses Overflow
-placed b ys start count (Sum.Number z) = binned b ys start count z (bin_at z (sum_of ref_len ys))
+unfoldable pub placed : List ℕ → List ℕ → Bool → ℕ → Option ℤ → Fate
+placed b ys start count None = Refuses Overflow
+placed b ys start count (Some z) = binned b ys start count z (bin_at z (sum_of ref_len ys))
 
 -- the ops ys and the count, by the record's own numbers: 15, 16, 4
 unfoldable pub counted : List ℕ → List ℕ → Bool → ℕ → Fate
@@ -93,5 +92,5 @@ written b (Becomes c) d = put_into (new_record b c) c.count d
 abbrev pub clipped_record_start : List ℕ → ℕ → List ℕ → Outcome Clipped
 clipped_record_start b amount d = written b (clipped_fate b amount true) d
 
-abbrev pub clipped_record_end : List ℕ → ℕ → List ℕ → Outcome Count
+abbrev pub clipped_record_end : List ℕ → ℕ → List ℕ → Outcome (Answer ℕ)
 clipped_record_end b amount d = without_count (written b (clipped_fate b amount false) d)

@@ -1,12 +1,11 @@
 -- What planning a record hands on, as it stands to the definitions of `Clipping` and `Written`: places and numbers for lists.
 use Rattle.std.specs.Prelude.{ℕ, ◌+◌, ◌≤◌, ◌≡◌, Bool, List, [], ◌∷◌, ◌++◌, length, take, drop}
+use Rattle.answers.specs.Answer.{Answer}
 use Rattle.lists.specs.Lists.{facing}
 use Rattle.sam.specs.Record.{seq_len_of, op_count_of, tags_start}
 use Rattle.oplist.specs.Ops.{record_ops}
 use Rattle.clip_rules.specs.declared.Plan.{Plan}
 use Rattle.record_rules.specs.declared.RecordPlan.{RecordPlan}
-use Rattle.record_rules.specs.declared.PlannedRecord.{PlannedRecord}
-use Rattle.record_rules.specs.declared.PlannedRecord.TheVariants as Planned
 use Rattle.record_rules.specs.Written.{Change}
 use Rattle.record_rules.specs.Clipping.{Fate, Refuses, Becomes}
 
@@ -28,6 +27,6 @@ pub record Fits (b : List ℕ) (p : RecordPlan) : Type 0 where
   pub bases_in : p.from + p.len ≤ seq_len_of b
 
 -- what planning answers, of a fate
-abbrev pub FateIs : List ℕ → Bool → Fate → PlannedRecord → Type 0
+abbrev pub FateIs : List ℕ → Bool → Fate → Answer RecordPlan → Type 0
 FateIs b start f (Planned.Made p) = (f ≡ Becomes (change_by b start p)) × Fits b p
 FateIs b start f (Planned.Refused r) = f ≡ Refuses r

@@ -1,11 +1,11 @@
 -- Document 02, item 8: "Reading the output back gives the clipped list, the remaining bases in order and the same tags." What is promised of a record `new` that was
 -- clipped from b and written, with its count.
 use Rattle.std.specs.Prelude.{ℕ, ◌+◌, ◌%◌, ◌≤◌, ◌<◌, ◌≡◌, Bool, List, pos, ◌+ℤ◌, length, get_or}
+use Rattle.std.specs.Prelude.{Ok, ℤ}
 use Rattle.sam.specs.Record.{byte_at, ref_id_of, pos_of, stored_bin_of, op_count_of, flags_of, seq_len_of, mate_ref_id_of, mate_pos_of, template_len_of, tags_start}
 use Rattle.sam.specs.Bases.{bases_of}
 use Rattle.sam.specs.Parts.{name_part, bases_part, quals_part, tags_part, record_bases}
 use Rattle.oplist.specs.Ops.{record_ops}
-use Rattle.answers.specs.declared.Nat.TheVariants.{Number}
 use Rattle.bin_rules.specs.Bin.{record_bin}
 use Rattle.clip_rules.specs.Answer.{clipped_ops}
 use Rattle.record_rules.specs.Clipping.{new_len, first_kept}
@@ -33,7 +33,7 @@ pub record ReadsBack (b : List ℕ) (amount : ℕ) (start : Bool) (new : List �
   pub name : name_part new ≡ name_part b
   -- "`pos` moved by the start count, bin recomputed"
   pub place : pos_of new ≡ pos_of b +ℤ pos count
-  pub bin : record_bin new ≡ Number (stored_bin_of new)
+  pub bin : record_bin new ≡ Ok (stored_bin_of new)
   -- the fields that stay: reference, mapping quality, flags, the mate's reference and position, template length
   pub reference : ref_id_of new ≡ ref_id_of b
   pub mapping : byte_at new 9 ≡ byte_at b 9

@@ -16,9 +16,3 @@ pub struct RecordPlan {
     pub count: u64,
 }
 
-// A plan, or the refusal that comes before anything is written.
-#[derive(Clone, Copy)]
-pub enum PlannedRecord {
-    Made(RecordPlan),
-    Refused(Refusal),
-}

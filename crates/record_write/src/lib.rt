@@ -9,9 +9,9 @@ ghost use Rattle.clip_rules.specs.Answer.{without_count};
 ghost use Rattle.record_rules.specs.Clipping.{put_into, clipped_record_start, clipped_record_end};
 ghost use Rattle.record_rules.specs.InnerPlan.{change_by, Fits};
 
-use answers::{Count, Refusal};
+use answers::{Answer, Refusal};
 use clip_rules::Clipped;
-use record_rules::{PlannedRecord, RecordPlan};
+use record_rules::RecordPlan;
 
 // Writes the record clipped by `amount` bases at its start to the first places of out: the bytes written, and the reference length taken. Refusals 1, 2, 8, 19, 15, 16, 4, 6.
 // The record is lent anew to each call, so that its place and its length are handed on in registers: passed on as it stands it is copied, sixteen bytes that were stored as two numbers, for which the machine waits longer than for any of the copies.
@@ -19,18 +19,18 @@ pub fn clip_record_start(bam: &[u8], amount: u64, out: &mut [u8]) -> Clipped
     ensures { Settled (clipped_record_start bam.now amount out.old) result out.new }
 {
     match record_plan::plan_record(&*bam, amount, true) {
-        PlannedRecord::Made(p) => put_start(&*bam, p, out),
-        PlannedRecord::Refused(why) => Clipped::Refused(why),
+        Ok(p) => put_start(&*bam, p, out),
+        Err(why) => Clipped::Refused(why),
     }
 }
 
 // The same at the end: the bytes written. Refusals 1, 2, 8, 19, 15, 16, 4, 6.
-pub fn clip_record_end(bam: &[u8], amount: u64, out: &mut [u8]) -> Count
+pub fn clip_record_end(bam: &[u8], amount: u64, out: &mut [u8]) -> Answer<u64>
     ensures { Settled (clipped_record_end bam.now amount out.old) result out.new }
 {
     match record_plan::plan_record(&*bam, amount, false) {
-        PlannedRecord::Made(p) => put_end(&*bam, p, out),
-        PlannedRecord::Refused(why) => Count::Refused(why),
+        Ok(p) => put_end(&*bam, p, out),
+        Err(why) => Err(why),
     }
 }
 
@@ -79,14 +79,14 @@ fn put_start(bam: &[u8], p: RecordPlan, out: &mut [u8]) -> Clipped
 }
 
 // The same at the end.
-fn put_end(bam: &[u8], p: RecordPlan, out: &mut [u8]) -> Count
+fn put_end(bam: &[u8], p: RecordPlan, out: &mut [u8]) -> Answer<u64>
     requires { Fits bam.now p }
     ensures { Settled (without_count (put_into (new_record bam.now (change_by bam.now false p)) p.count out.old)) result out.new }
 {
     let bytes = size_of(bam, p);
     if out.len() < bytes {
-        return Count::Refused(Refusal::NoRoom);
+        return Err(Refusal::NoRoom);
     }
     write_record(bam, p, false, out);
-    Count::Number(bytes as u64)
+    Ok(bytes as u64)
 }

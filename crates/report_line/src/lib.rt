@@ -7,35 +7,35 @@ ghost use Rattle.line_rules.specs.Line.{tabbed, refused_fields, line_of};
 ghost use Rattle.line_rules.specs.Inner.{TextPut, row_fields, figures_of};
 ghost use Rattle.put_text.specs.Puts.{Put};
 
-use answers::{Count, Nat, Refusal};
+use answers::{Answer, Refusal};
 use ends_rules::Unclipped;
-use line_rules::{Figures, LineRow, Text};
+use line_rules::LineRow;
 
 // The most bytes of a record's text.
 pub const TEXT_ROOM: usize = 65536;
 
 // The figures of a record that has 32 bytes. Refusals 2 and 4.
-fn row_of(rec: &[u8]) -> Figures
+fn row_of(rec: &[u8]) -> Answer<LineRow>
     requires { 32 ≤ length rec.now }
     ensures { result ≡ figures_of rec.now }
 {
     let list = oplist::of_record(rec);
     if !oplist::inside(rec, list) {
-        return Figures::Refused(Refusal::AreaOverrun);
+        return Err(Refusal::AreaOverrun);
     }
     let total = op_sums::sums(&[], rec, list);
     if 2147483647 < total.refs {
-        return Figures::Refused(Refusal::Overflow);
+        return Err(Refusal::Overflow);
     }
     let query = total.query;
     let mark = report_fields::length_mark(query, little_endian::u32_at(rec, 16));
     let five = unclipped::unclipped_5prime_from_raw_bam(rec);
     if let Unclipped::Refused(why) = five {
-        return Figures::Refused(why);
+        return Err(why);
     }
     match bin::bin_from_raw_bam(rec) {
-        Nat::Refused(why) => Figures::Refused(why),
-        Nat::Number(bin) => Figures::Row(LineRow {
+        Err(why) => Err(why),
+        Ok(bin) => Ok(LineRow {
             refs: total.refs as i32,
             query: query,
             five: five,
@@ -46,19 +46,19 @@ fn row_of(rec: &[u8]) -> Figures
 }
 
 // A tab and the record's text, or `*`. Refusals 1, 7 and 6.
-fn put_text(rec: &[u8], out: &mut [u8], at: usize) -> Text
+fn put_text(rec: &[u8], out: &mut [u8], at: usize) -> Answer<usize>
     requires { at + 65537 ≤ length out.old }
     ensures { TextPut rec.now out.old at result out.new }
 {
     let from = put_text::put_byte(b'\t', out, at);
     let end = from + TEXT_ROOM;
     match print::cigar_to_bytes_into(rec, &mut out[from..end]) {
-        Count::Refused(why) => Text::Refused(why),
-        Count::Number(n) => {
+        Err(why) => Err(why),
+        Ok(n) => {
             if n == 0 {
-                return Text::End(put_text::put_byte(b'*', out, from));
+                return Ok(put_text::put_byte(b'*', out, from));
             }
-            Text::End(from + n as usize)
+            Ok(from + n as usize)
         }
     }
 }
@@ -94,10 +94,10 @@ pub fn line(number: u64, rec: &[u8], out: &mut [u8], at: usize) -> usize
 {
     let from = put_text::put_number(number, out, at);
     match put_text(rec, out, from) {
-        Text::Refused(why) => put_refusal(why, out, from),
-        Text::End(behind) => match row_of(rec) {
-            Figures::Refused(why) => put_refusal(why, out, from),
-            Figures::Row(row) => put_row(row, out, behind),
+        Err(why) => put_refusal(why, out, from),
+        Ok(behind) => match row_of(rec) {
+            Err(why) => put_refusal(why, out, from),
+            Ok(row) => put_row(row, out, behind),
         },
     }
 }

@@ -1,52 +1,52 @@
 // Each method, asked of a view that is made of the record.
-use answers::{Count, Int, Nat, Place0, Place1};
+use answers::{Answer, Pos0, Pos1};
 use clip_rules::Clipped;
 use ends_rules::Unclipped;
 use fields::Part;
-use length_rules::Lengths;
+use length_rules::RecordLengths;
 use view::RawRecordView;
 
 pub fn as_bytes(bam: &[u8]) -> &[u8] {
     RawRecordView::new(bam).as_bytes()
 }
 
-pub fn ref_id(bam: &[u8]) -> Int {
+pub fn ref_id(bam: &[u8]) -> Answer<i32> {
     RawRecordView::new(bam).ref_id()
 }
 
-pub fn pos(bam: &[u8]) -> Place0 {
+pub fn pos(bam: &[u8]) -> Answer<Pos0> {
     RawRecordView::new(bam).pos()
 }
 
-pub fn l_read_name(bam: &[u8]) -> Nat {
+pub fn l_read_name(bam: &[u8]) -> Answer<u32> {
     RawRecordView::new(bam).l_read_name()
 }
 
-pub fn bin(bam: &[u8]) -> Nat {
+pub fn bin(bam: &[u8]) -> Answer<u32> {
     RawRecordView::new(bam).bin()
 }
 
-pub fn n_cigar_op(bam: &[u8]) -> Nat {
+pub fn n_cigar_op(bam: &[u8]) -> Answer<u32> {
     RawRecordView::new(bam).n_cigar_op()
 }
 
-pub fn flags(bam: &[u8]) -> Nat {
+pub fn flags(bam: &[u8]) -> Answer<u32> {
     RawRecordView::new(bam).flags()
 }
 
-pub fn l_seq(bam: &[u8]) -> Nat {
+pub fn l_seq(bam: &[u8]) -> Answer<u32> {
     RawRecordView::new(bam).l_seq()
 }
 
-pub fn mate_ref_id(bam: &[u8]) -> Int {
+pub fn mate_ref_id(bam: &[u8]) -> Answer<i32> {
     RawRecordView::new(bam).mate_ref_id()
 }
 
-pub fn mate_pos(bam: &[u8]) -> Place0 {
+pub fn mate_pos(bam: &[u8]) -> Answer<Pos0> {
     RawRecordView::new(bam).mate_pos()
 }
 
-pub fn template_length(bam: &[u8]) -> Int {
+pub fn template_length(bam: &[u8]) -> Answer<i32> {
     RawRecordView::new(bam).template_length()
 }
 
@@ -74,23 +74,23 @@ pub fn true_part(bam: &[u8]) -> &[u8] {
     true_cigar_raw_bytes(bam).part
 }
 
-pub fn reference_length(bam: &[u8]) -> Int {
+pub fn reference_length(bam: &[u8]) -> Answer<i32> {
     RawRecordView::new(bam).reference_length()
 }
 
-pub fn query_length(bam: &[u8]) -> Count {
+pub fn query_length(bam: &[u8]) -> Answer<u64> {
     RawRecordView::new(bam).query_length()
 }
 
-pub fn cigar_lengths(bam: &[u8]) -> Lengths {
+pub fn cigar_lengths(bam: &[u8]) -> Answer<RecordLengths> {
     RawRecordView::new(bam).cigar_lengths()
 }
 
-pub fn alignment_start_1based(bam: &[u8]) -> Place1 {
+pub fn alignment_start_1based(bam: &[u8]) -> Answer<Option<Pos1>> {
     RawRecordView::new(bam).alignment_start_1based()
 }
 
-pub fn alignment_end_1based(bam: &[u8]) -> Place1 {
+pub fn alignment_end_1based(bam: &[u8]) -> Answer<Option<Pos1>> {
     RawRecordView::new(bam).alignment_end_1based()
 }
 
@@ -98,7 +98,7 @@ pub fn unclipped_5prime_1based(bam: &[u8]) -> Unclipped {
     RawRecordView::new(bam).unclipped_5prime_1based()
 }
 
-pub fn cigar_to_string(bam: &[u8], out: &mut [u8]) -> Count {
+pub fn cigar_to_string(bam: &[u8], out: &mut [u8]) -> Answer<u64> {
     RawRecordView::new(bam).cigar_to_string(out)
 }
 
@@ -106,6 +106,6 @@ pub fn clip_cigar_start(bam: &[u8], amount: u64, out: &mut [u32]) -> Clipped {
     RawRecordView::new(bam).clip_cigar_start(amount, out)
 }
 
-pub fn clip_cigar_end(bam: &[u8], amount: u64, out: &mut [u32]) -> Count {
+pub fn clip_cigar_end(bam: &[u8], amount: u64, out: &mut [u32]) -> Answer<u64> {
     RawRecordView::new(bam).clip_cigar_end(amount, out)
 }

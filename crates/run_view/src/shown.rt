@@ -1,8 +1,8 @@
 // Prints answers.
-use answers::{Count, Int, Nat, Place0, Place1, Refusal};
+use answers::{Answer, Pos0, Pos1, Refusal};
 use clip_rules::Clipped;
 use ends_rules::Unclipped;
-use length_rules::{Clips, Lengths};
+use length_rules::{Clips, RecordLengths};
 
 pub fn text(rt: &impl Print, words: &[u8]) {
     let _ = rt.write_all(words);
@@ -31,24 +31,24 @@ fn refused(rt: &impl Print, why: Refusal) {
     natural(rt, answers::number(why) as u64);
 }
 
-pub fn int(rt: &impl Print, answer: Int) {
+pub fn int(rt: &impl Print, answer: Answer<i32>) {
     match answer {
-        Int::Number(n) => integer(rt, n),
-        Int::Refused(why) => refused(rt, why),
+        Ok(n) => integer(rt, n),
+        Err(why) => refused(rt, why),
     }
 }
 
-pub fn nat(rt: &impl Print, answer: Nat) {
+pub fn nat(rt: &impl Print, answer: Answer<u32>) {
     match answer {
-        Nat::Number(n) => natural(rt, n as u64),
-        Nat::Refused(why) => refused(rt, why),
+        Ok(n) => natural(rt, n as u64),
+        Err(why) => refused(rt, why),
     }
 }
 
-pub fn count(rt: &impl Print, answer: Count) {
+pub fn count(rt: &impl Print, answer: Answer<u64>) {
     match answer {
-        Count::Number(n) => natural(rt, n),
-        Count::Refused(why) => refused(rt, why),
+        Ok(n) => natural(rt, n),
+        Err(why) => refused(rt, why),
     }
 }
 
@@ -59,31 +59,31 @@ fn clips(rt: &impl Print, run: Clips) {
     natural(rt, run.hard);
 }
 
-pub fn lengths(rt: &impl Print, answer: Lengths) {
+pub fn lengths(rt: &impl Print, answer: Answer<RecordLengths>) {
     match answer {
-        Lengths::Are(l) => {
+        Ok(l) => {
             integer(rt, l.reference);
             text(rt, b" ");
             natural(rt, l.query);
             clips(rt, l.leading);
             clips(rt, l.trailing);
         }
-        Lengths::Refused(why) => refused(rt, why),
+        Err(why) => refused(rt, why),
     }
 }
 
-pub fn place0(rt: &impl Print, answer: Place0) {
+pub fn place0(rt: &impl Print, answer: Answer<Pos0>) {
     match answer {
-        Place0::At(at) => integer(rt, at.0),
-        Place0::Refused(why) => refused(rt, why),
+        Ok(at) => integer(rt, at.0),
+        Err(why) => refused(rt, why),
     }
 }
 
-pub fn place1(rt: &impl Print, answer: Place1) {
+pub fn place1(rt: &impl Print, answer: Answer<Option<Pos1>>) {
     match answer {
-        Place1::At(at) => integer(rt, at.0),
-        Place1::Nothing => text(rt, b"none"),
-        Place1::Refused(why) => refused(rt, why),
+        Ok(Some(at)) => integer(rt, at.0),
+        Ok(None) => text(rt, b"none"),
+        Err(why) => refused(rt, why),
     }
 }
 
@@ -147,10 +147,10 @@ pub fn clipped_start(rt: &impl Print, answer: Clipped, out: &[u32]) {
 }
 
 // The list written.
-pub fn clipped_end(rt: &impl Print, answer: Count, out: &[u32]) {
+pub fn clipped_end(rt: &impl Print, answer: Answer<u64>, out: &[u32]) {
     match answer {
-        Count::Number(n) => first(rt, out, n as usize),
-        Count::Refused(why) => refused_beside(rt, why, out),
+        Ok(n) => first(rt, out, n as usize),
+        Err(why) => refused_beside(rt, why, out),
     }
 }
 

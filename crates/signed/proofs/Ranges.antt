@@ -1,10 +1,9 @@
 -- Which case of `side_of`, `checked` and `clamp32` a number is in, from facts of its halves.
 use Rattle.std.proofs.Common.{◌≡◌, ◌+◌, ◌<◌, ◌≤◌, Bool, true, false, cond, ℤ, pos, negsuc, sym, refl, ap, arith, w32, SFits}
+use Rattle.std.specs.Prelude.{None, Option, Some}
 use mathlib.Core.Path.{subst⁻¹}
 use lib.Signed.{lt_z}
 use Rattle.signed.specs.declared.Side.TheVariants.{Below, Within, Above}
-use Rattle.signed.specs.declared.Sum.{Sum}
-use Rattle.signed.specs.declared.Sum.TheVariants.{Number, Over}
 use Rattle.signed.specs.Whole.{side_of, sum_at, nearest, checked, clamp32}
 use Rattle.signed.proofs.Halves.{up, dn, ltℤ, geℤ, is_ge, sfits32}
 
@@ -21,11 +20,11 @@ module _ (z : ℤ) where
   unfolding side_of
   side_below h = simp (ltℤ z (negsuc 2147483647) (omega arith))
 
-  pub checked_in : up z < dn z + 2147483648 → dn z ≤ up z + 2147483648 → checked z ≡ Number z
+  pub checked_in : up z < dn z + 2147483648 → dn z ≤ up z + 2147483648 → checked z ≡ Some z
   unfolding checked
   checked_in h k = ap sum_at (side_in h k)
 
-  pub checked_above : dn z + 2147483648 ≤ up z → checked z ≡ Over
+  pub checked_above : dn z + 2147483648 ≤ up z → checked z ≡ None
   unfolding checked
   checked_above h = ap sum_at (side_above h)
 
@@ -43,22 +42,22 @@ module _ (z : ℤ) where
 
 -- ---- a sum that fits is the number, and an i32 holds it
 
-abbrev number_in : Sum → ℤ → ℤ
-number_in (Number z) y = z
-number_in Over y = y
+abbrev number_in : Option ℤ → ℤ → ℤ
+number_in (Some z) y = z
+number_in None y = y
 
-abbrev Fitting : Sum → Type 0
-Fitting (Number z) = Unit {0}
-Fitting Over = ⊥
+abbrev Fitting : Option ℤ → Type 0
+Fitting (Some z) = Unit {0}
+Fitting None = ⊥
 
-pub checked_number : (z y : ℤ) → checked z ≡ Number y → (y ≡ z) × SFits w32 z
+pub checked_number : (z y : ℤ) → checked z ≡ Some y → (y ≡ z) × SFits w32 z
 unfolding checked side_of
 checked_number z y e = go (lt_z z (negsuc 2147483647)) refl (lt_z (pos 2147483647) z) refl e
   where
-    go : (p : Bool) → lt_z z (negsuc 2147483647) ≡ p → (q : Bool) → lt_z (pos 2147483647) z ≡ q → sum_at (cond p Below (cond q Above (Within z))) ≡ Number y → (y ≡ z) × SFits w32 z
+    go : (p : Bool) → lt_z z (negsuc 2147483647) ≡ p → (q : Bool) → lt_z (pos 2147483647) z ≡ q → sum_at (cond p Below (cond q Above (Within z))) ≡ Some y → (y ≡ z) × SFits w32 z
     go true f q g e = absurd (subst⁻¹ Fitting e tt)
     go false f true g e = absurd (subst⁻¹ Fitting e tt)
     go false f false g e =
         let h = is_ge z (negsuc 2147483647) f in
         let k = is_ge (pos 2147483647) z g in
-        (ap (λ (s : Sum). number_in s z) (sym e), sfits32 z (omega arith) (omega arith))
+        (ap (λ (s : Option ℤ). number_in s z) (sym e), sfits32 z (omega arith) (omega arith))

@@ -1,10 +1,9 @@
 -- Signed numbers of 32 bits as ℤ: what bits mean, the range, and sums that are checked or saturate (Rust's i32).
 use Rattle.std.specs.Prelude.{ℕ, ◌+◌, ◌-◌, cond, ℤ, pos, negsuc, int_lt, nat_lt}
+use Rattle.std.specs.Prelude.{None, Option, Some}
 use Rattle.std.proofs.Math.IntN.{sub_ℕ}
 use Rattle.signed.specs.declared.Side.{Side}
 use Rattle.signed.specs.declared.Side.TheVariants.{Below, Within, Above}
-use Rattle.signed.specs.declared.Sum.{Sum}
-use Rattle.signed.specs.declared.Sum.TheVariants.{Number, Over}
 
 -- the number that 32 bits mean in two's complement: n, or n - 2^32 from 2^31 on
 unfoldable pub twos32 : ℕ → ℤ
@@ -35,12 +34,12 @@ unfoldable pub side_of : ℤ → Side
 side_of z = cond (int_lt z (negsuc 2147483647)) Below (cond (int_lt (pos 2147483647) z) Above (Within z))
 
 -- z, where an i32 holds it
-abbrev pub sum_at : Side → Sum
-sum_at Below = Over
-sum_at (Within z) = Number z
-sum_at Above = Over
+abbrev pub sum_at : Side → Option ℤ
+sum_at Below = None
+sum_at (Within z) = Some z
+sum_at Above = None
 
-unfoldable pub checked : ℤ → Sum
+unfoldable pub checked : ℤ → Option ℤ
 unfolding side_of
 checked z = sum_at (side_of z)
 

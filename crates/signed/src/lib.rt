@@ -13,13 +13,6 @@ pub enum Side {
     Above,
 }
 
-// A number of an i32, or none.
-#[derive(Clone, Copy)]
-pub enum Sum {
-    Number(i32),
-    Over,
-}
-
 // x + 2^31: the whole range of an i32 as an unsigned number.
 pub fn raise(x: i32) -> u64
     ensures { (result ≡ raised x) × (result < 4294967296) }
@@ -98,13 +91,13 @@ fn side_of(s: i64) -> Side
 }
 
 // s where an i32 holds it.
-fn narrow(s: i64) -> Sum
+fn narrow(s: i64) -> Option<i32>
     ensures { result ≡ checked s }
 {
     match side_of(s) {
-        Side::Below => Sum::Over,
-        Side::Within(n) => Sum::Number(n),
-        Side::Above => Sum::Over,
+        Side::Below => None,
+        Side::Within(n) => Some(n),
+        Side::Above => None,
     }
 }
 
@@ -119,13 +112,13 @@ fn clamp(s: i64) -> i32
     }
 }
 
-pub fn checked_add(a: i32, b: i32) -> Sum
+pub fn checked_add(a: i32, b: i32) -> Option<i32>
     ensures { result ≡ checked (a +ℤ b) }
 {
     narrow(wide_sum(a, b))
 }
 
-pub fn checked_sub(a: i32, b: i32) -> Sum
+pub fn checked_sub(a: i32, b: i32) -> Option<i32>
     ensures { result ≡ checked (a -ℤ b) }
 {
     narrow(wide_difference(a, b))

@@ -7,8 +7,7 @@ ghost use Rattle.answers.specs.Settled.{Settled};
 ghost use Rattle.oplist.specs.Ops.{most_ops};
 ghost use Rattle.parsed_rules.specs.Parsed.{parsed};
 
-use answers::{Count, Refusal};
-use read_text::Counted;
+use answers::{Answer, Refusal};
 
 // Copies the first n ops, two at a time: of a loop that copies one at a time the compiler makes a call of C's `memcpy`.
 fn copy(ops: &[u32], n: usize, out: &mut [u32])
@@ -27,42 +26,42 @@ fn copy(ops: &[u32], n: usize, out: &mut [u32])
 }
 
 // The ops of a text, read once, by way of memory that holds them whatever the text is.
-fn by_copy(text: &[u8], ops: &mut [u32], out: &mut [u32]) -> Count
+fn by_copy(text: &[u8], ops: &mut [u32], out: &mut [u32]) -> Answer<u64>
     requires { (length text.now ≤ length ops.old * 2) × (length ops.old ≤ most_ops) }
     ensures { Settled (parsed text.now out.old) result out.new }
 {
-    let Counted::Ops(n) = read_text::read_ops(text, ops) else {
-        return Count::Refused(Refusal::NotACigar);
+    let Some(n) = read_text::read_ops(text, ops) else {
+        return Err(Refusal::NotACigar);
     };
     if out.len() < n {
-        return Count::Refused(Refusal::NoRoom);
+        return Err(Refusal::NoRoom);
     }
     copy(ops, n, out);
-    Count::Number(n as u64)
+    Ok(n as u64)
 }
 
 // The ops of a text, which is read twice: to count, then to write.
-fn in_two(text: &[u8], out: &mut [u32]) -> Count
+fn in_two(text: &[u8], out: &mut [u32]) -> Answer<u64>
     ensures { Settled (parsed text.now out.old) result out.new }
 {
     let mut none = [0u32; 1];
-    let Counted::Ops(n) = read_text::read_ops(text, &mut none) else {
-        return Count::Refused(Refusal::NotACigar);
+    let Some(n) = read_text::read_ops(text, &mut none) else {
+        return Err(Refusal::NotACigar);
     };
     if oplist::MOST_OPS < n {
-        return Count::Refused(Refusal::TooManyOps);
+        return Err(Refusal::TooManyOps);
     }
     if out.len() < n {
-        return Count::Refused(Refusal::NoRoom);
+        return Err(Refusal::NoRoom);
     }
-    let Counted::Ops(written) = read_text::read_ops(text, out) else {
-        return Count::Refused(Refusal::NotACigar);
+    let Some(written) = read_text::read_ops(text, out) else {
+        return Err(Refusal::NotACigar);
     };
-    Count::Number(written as u64)
+    Ok(written as u64)
 }
 
 // The ops of a text of at most 64 bytes, by way of memory of this function's own.
-fn by_few(text: &[u8], out: &mut [u32]) -> Count
+fn by_few(text: &[u8], out: &mut [u32]) -> Answer<u64>
     requires { length text.now ≤ 64 }
     ensures { Settled (parsed text.now out.old) result out.new }
 {
@@ -71,7 +70,7 @@ fn by_few(text: &[u8], out: &mut [u32]) -> Count
 }
 
 // The same of at most 1,024 bytes. Apart, since a function's memory is filled with 0 where it is entered, this one by a call of C's `memset`.
-fn by_some(text: &[u8], out: &mut [u32]) -> Count
+fn by_some(text: &[u8], out: &mut [u32]) -> Answer<u64>
     requires { length text.now ≤ 1024 }
     ensures { Settled (parsed text.now out.old) result out.new }
 {
@@ -81,7 +80,7 @@ fn by_some(text: &[u8], out: &mut [u32]) -> Count
 
 // The ops that a text stands for, in the first places of out. A text of at most 1,024 bytes is read once, into at most 2 KiB of the stack. Refusals
 // 5, 3 and 6.
-pub fn parse_cigar_string_ops(text: &[u8], out: &mut [u32]) -> Count
+pub fn parse_cigar_string_ops(text: &[u8], out: &mut [u32]) -> Answer<u64>
     ensures { Settled (parsed text.now out.old) result out.new }
 {
     if text.len() <= 64 {

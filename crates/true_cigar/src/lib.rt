@@ -6,9 +6,9 @@ ghost use Rattle.std.specs.Prelude.{◌≡◌};
 ghost use Rattle.answers.specs.Settled.{Settled};
 ghost use Rattle.true_rules.specs.True.{true_part, true_part_refusal, true_ops, true_printed, true_lengths};
 
-use answers::Count;
+use answers::Answer;
 use fields::Part;
-use length_rules::Lengths;
+use length_rules::RecordLengths;
 use oplist::Ops;
 use tag_rules::TrueList;
 
@@ -43,7 +43,7 @@ pub fn true_cigar_raw_bytes<'a>(bam: &'a [u8]) -> Part<'a>
 }
 
 // The ops of the true list, in the first places of out. Refusals 1, 2, 12, 13, 3 and 6.
-pub fn true_cigar_ops(bam: &[u8], out: &mut [u32]) -> Count
+pub fn true_cigar_ops(bam: &[u8], out: &mut [u32]) -> Answer<u64>
     ensures { Settled (true_ops bam.now out.old) result out.new }
 {
     match tags::true_list(bam) {
@@ -55,12 +55,12 @@ pub fn true_cigar_ops(bam: &[u8], out: &mut [u32]) -> Count
             };
             copied_ops::copy_ops(bam, list, out)
         }
-        TrueList::Refused(why) => Count::Refused(why),
+        TrueList::Refused(why) => Err(why),
     }
 }
 
 // The text of the true list, in the first places of out. Refusals 1, 2, 12, 13, 3, 7 and 6.
-pub fn true_cigar_to_bytes_into(bam: &[u8], out: &mut [u8]) -> Count
+pub fn true_cigar_to_bytes_into(bam: &[u8], out: &mut [u8]) -> Answer<u64>
     ensures { Settled (true_printed bam.now out.old) result out.new }
 {
     match tags::true_list(bam) {
@@ -72,12 +72,12 @@ pub fn true_cigar_to_bytes_into(bam: &[u8], out: &mut [u8]) -> Count
             };
             print::print_ops(bam, list, out)
         }
-        TrueList::Refused(why) => Count::Refused(why),
+        TrueList::Refused(why) => Err(why),
     }
 }
 
 // The lengths of the true list, and the clips at its ends. Refusals 1, 2, 12, 13, 3 and 4.
-pub fn true_cigar_lengths(bam: &[u8]) -> Lengths
+pub fn true_cigar_lengths(bam: &[u8]) -> Answer<RecordLengths>
     ensures { result ≡ true_lengths bam.now }
 {
     match tags::true_list(bam) {
@@ -89,6 +89,6 @@ pub fn true_cigar_lengths(bam: &[u8]) -> Lengths
             };
             list_lengths::list_lengths(bam, list)
         }
-        TrueList::Refused(why) => Lengths::Refused(why),
+        TrueList::Refused(why) => Err(why),
     }
 }

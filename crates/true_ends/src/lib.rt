@@ -6,7 +6,7 @@ ghost use Rattle.std.specs.Prelude.{◌≡◌};
 ghost use Rattle.answers.specs.Settled.{Settled};
 ghost use Rattle.true_rules.specs.True.{true_unclipped, true_start, true_end};
 
-use answers::{Count, Refusal};
+use answers::{Answer, Refusal};
 use clip_rules::Clipped;
 use ends_rules::Unclipped;
 use oplist::Ops;
@@ -55,7 +55,7 @@ pub fn true_clip_cigar_start(bam: &[u8], amount: u64, out: &mut [u32]) -> Clippe
 }
 
 // The same at the end: the ops written.
-pub fn true_clip_cigar_end(bam: &[u8], amount: u64, out: &mut [u32]) -> Count
+pub fn true_clip_cigar_end(bam: &[u8], amount: u64, out: &mut [u32]) -> Answer<u64>
     ensures { Settled (true_end bam.now amount out.old) result out.new }
 {
     match tags::true_list(bam) {
@@ -68,6 +68,6 @@ pub fn true_clip_cigar_end(bam: &[u8], amount: u64, out: &mut [u32]) -> Count
             let limit = oplist::count(&[], bam, list);
             clip::clip_end(&[], bam, list, limit, amount, out)
         }
-        TrueList::Refused(why) => Count::Refused(why),
+        TrueList::Refused(why) => Err(why),
     }
 }

@@ -1,15 +1,16 @@
 -- Document 02, item 1, the calls on a record's true list, which the reader "hands back": what each makes of the ops, behind the reader's refusals 1, 2, 12, 13 and 3.
 use Rattle.std.specs.Prelude.{ℕ, ◌≡◌, Bool, true, false, cond, List}
+use Rattle.std.specs.Prelude.{Err}
+use Rattle.answers.specs.Answer.{Answer}
+use Rattle.length_rules.specs.declared.RecordLengths.{RecordLengths}
 use Rattle.sam.specs.Record.{is_short, pos_of, flags_of, is_unmapped, is_reverse, ops_in}
 use Rattle.answers.specs.declared.Refusal.{Refusal}
 use Rattle.answers.specs.declared.Refusal.TheVariants.{ShortRecord}
-use Rattle.answers.specs.declared.Count.{Count}
 use Rattle.answers.specs.Settled.{Outcome, keeps}
 use Rattle.tag_rules.specs.Long.{true_list, part_of, refusal_of, read_from}
 use Rattle.copied_ops.specs.Copied.{copied_ops}
 use Rattle.print_rules.specs.Text.{printed_ops}
 use Rattle.length_rules.specs.Lengths.{list_lengths}
-use Rattle.length_rules.specs.declared.Lengths.{Lengths}
 use Rattle.tag_rules.specs.declared.TrueList.TheVariants.{At}
 use Rattle.ends_rules.specs.Ends.{unclipped_by}
 use Rattle.ends_rules.specs.declared.Unclipped.{Unclipped}
@@ -28,16 +29,16 @@ abbrev pub stop_kept : {A : Type 0} → (Refusal → A) → List ℕ → Refusal
 stop_kept stop d r = keeps (stop r) d
 
 -- `true_cigar_ops` into lent memory d: then 6
-abbrev pub true_ops : List ℕ → List ℕ → Outcome Count
-true_ops b d = read_from (stop_kept Count.Refused d) (λ xs. copied_ops xs d) b (true_list b)
+abbrev pub true_ops : List ℕ → List ℕ → Outcome (Answer ℕ)
+true_ops b d = read_from (stop_kept Err d) (λ xs. copied_ops xs d) b (true_list b)
 
 -- `true_cigar_to_bytes_into`: then 7, 6
-abbrev pub true_printed : List ℕ → List ℕ → Outcome Count
-true_printed b d = read_from (stop_kept Count.Refused d) (λ xs. printed_ops xs d) b (true_list b)
+abbrev pub true_printed : List ℕ → List ℕ → Outcome (Answer ℕ)
+true_printed b d = read_from (stop_kept Err d) (λ xs. printed_ops xs d) b (true_list b)
 
 -- `true_cigar_lengths`: then 4
-abbrev pub true_lengths : List ℕ → Lengths
-true_lengths b = read_from Lengths.Refused list_lengths b (true_list b)
+abbrev pub true_lengths : List ℕ → Answer RecordLengths
+true_lengths b = read_from Err list_lengths b (true_list b)
 
 -- `true_unclipped_5prime_from_raw_bam`: behind 1, unmapped is answered before anything but the flags is read; then 2, 12, 13, 3 of the reader, no ops of its list, and 4
 unfoldable pub true_unclipped : List ℕ → Unclipped
@@ -54,7 +55,7 @@ true_clipped b amount start d = read_from (stop_kept Clipped.Refused d) (λ xs. 
 abbrev pub true_start : List ℕ → ℕ → List ℕ → Outcome Clipped
 true_start b amount d = true_clipped b amount true d
 
-abbrev pub true_end : List ℕ → ℕ → List ℕ → Outcome Count
+abbrev pub true_end : List ℕ → ℕ → List ℕ → Outcome (Answer ℕ)
 true_end b amount d = without_count (true_clipped b amount false d)
 
 -- the list that the reader hands back of a record is xs

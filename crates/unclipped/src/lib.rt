@@ -5,27 +5,26 @@ ghost use Rattle.std.specs.Prelude.{◌≡◌, []};
 ghost use Rattle.oplist.specs.Ops.{ops_of};
 ghost use Rattle.ends_rules.specs.Ends.{to_place0, as_unclipped, unclipped_by, unclipped_of, unclipped_from};
 
-use answers::{Place0, Pos0, Pos1, Refusal};
+use answers::{Answer, Pos0, Pos1, Refusal};
 use ends_rules::Unclipped;
 use oplist::Ops;
-use signed::Sum;
 
 // An overflow is refusal 4.
-fn to_place0(s: Sum) -> Place0
+fn to_place0(s: Option<i32>) -> Answer<Pos0>
     ensures { result ≡ to_place0 s }
 {
     match s {
-        Sum::Number(z) => Place0::At(Pos0(z)),
-        Sum::Over => Place0::Refused(Refusal::Overflow),
+        Some(z) => Ok(Pos0(z)),
+        None => Err(Refusal::Overflow),
     }
 }
 
-fn as_unclipped(s: Sum) -> Unclipped
+fn as_unclipped(s: Option<i32>) -> Unclipped
     ensures { result ≡ as_unclipped s }
 {
     match s {
-        Sum::Number(z) => Unclipped::At(Pos1(z)),
-        Sum::Over => Unclipped::Refused(Refusal::Overflow),
+        Some(z) => Unclipped::At(Pos1(z)),
+        None => Unclipped::Refused(Refusal::Overflow),
     }
 }
 
@@ -51,7 +50,7 @@ pub fn unclipped_by(bam: &[u8], list: Ops, pos: Pos0, reverse: bool) -> Unclippe
     if oplist::count(&[], bam, list) == 0 {
         return Unclipped::NoOps;
     }
-    let Sum::Number(at) = ends::plus_one(pos) else {
+    let Some(at) = ends::plus_one(pos) else {
         return Unclipped::Refused(Refusal::Overflow);
     };
     if reverse {
@@ -61,15 +60,15 @@ pub fn unclipped_by(bam: &[u8], list: Ops, pos: Pos0, reverse: bool) -> Unclippe
 }
 
 // The position from a given one and strand; the given position where the record has no ops or they overrun it. Refusals 1 and 4.
-pub fn unclipped_5prime_raw(bam: &[u8], pos: Pos0, reverse: bool) -> Place0
+pub fn unclipped_5prime_raw(bam: &[u8], pos: Pos0, reverse: bool) -> Answer<Pos0>
     ensures { result ≡ unclipped_from bam.now pos reverse }
 {
     if bam.len() < 32 {
-        return Place0::Refused(Refusal::ShortRecord);
+        return Err(Refusal::ShortRecord);
     }
     let list = oplist::of_record(bam);
     if oplist::count(&[], bam, list) == 0 {
-        return Place0::At(pos);
+        return Ok(pos);
     }
     if reverse {
         return to_place0(end_sums::end_from(pos.0, end_sums::tail_of(&[], bam, list)));

@@ -9,7 +9,7 @@ ghost use Rattle.validity.specs.Validity.{validity};
 ghost use Rattle.validity.specs.InnerClass.{Class.Reference, Class.Other, Class.Soft, Class.Hard};
 ghost use Rattle.validity.specs.InnerStages.{code_class, is_inner_class, is_past, step_of, accept_of, is_wrong};
 
-use answers::{Flag, Refusal};
+use answers::{Answer, Refusal};
 use oplist::Ops;
 
 // How far the ops so far have got in H? S? inner S? H?: at the start, after H, past the leading clips without a reference op (`Inner`) or with one
@@ -157,12 +157,12 @@ pub fn valid(words: &[u32], rec: &[u8], inside: bool, at: usize, n: u32) -> bool
 }
 
 // Whether an op list is a valid mapped CIGAR. Refusal 3.
-pub fn is_valid_mapped_cigar(ops: &[u32]) -> Flag
+pub fn is_valid_mapped_cigar(ops: &[u32]) -> Answer<bool>
     ensures { result ≡ validity ops.now }
 {
     if oplist::MOST_OPS < ops.len() {
-        return Flag::Refused(Refusal::TooManyOps);
+        return Err(Refusal::TooManyOps);
     }
     let list = oplist::lent(ops);
-    Flag::Is(valid(ops, &[], list.inside, list.at, list.n))
+    Ok(valid(ops, &[], list.inside, list.at, list.n))
 }

@@ -1,5 +1,6 @@
 -- The tests in their order, and then the region of the length that is asked for.
 use mathlib.Core.Path.{◌≡◌, ap, sym, ◌∙◌}
+use Rattle.std.specs.Prelude.{Ok}
 use mathlib.Core.List.{List}
 use Prim.Native.Nat.{ℕ, ◌≤◌}
 use native.Mathlib.Omega.{arith}
@@ -9,7 +10,6 @@ use lib.IntN.{ℤ}
 use mir.Syntax.{w32}
 use mir.Val.{to_z, of_z}
 use Rattle.sam.specs.Record.{pos_of}
-use Rattle.answers.specs.declared.Int.TheVariants.{Number}
 use Rattle.bin_rules.specs.Bin.{record_bin, bin_from}
 use Rattle.bin_rules.proofs.Records.{before_first, from_first}
 use borrow.Author.Rules.{rules}
@@ -43,7 +43,7 @@ returns-in-Number c =
     from_first c.args.bam.now (long) (simp (start) at c.if-start-lt0.false) ∙ ap (bin_from (pos_of c.args.bam.now)) (sym c.reference_length_from_raw_bam.ensures)
     in
     let e : to_z w32 (of_z w32 c.in-Number.n) ≡ c.in-Number.n = search rules in
-    (simp e at c.bin_from.ensures) ∙ ap (λ (z : ℤ). bin_from z (Number c.in-Number.n)) c.own_place-start.ensures ∙ sym (cases ∙ ap (bin_from (pos_of c.args.bam.now)) c.in-Number.is)
+    (simp e at c.bin_from.ensures) ∙ ap (λ (z : ℤ). bin_from z (Ok c.in-Number.n)) c.own_place-start.ensures ∙ sym (cases ∙ ap (bin_from (pos_of c.args.bam.now)) c.in-Number.is)
 
 pub returns-in-Refused : goal.returns-in-Refused
 unfolding bin_from

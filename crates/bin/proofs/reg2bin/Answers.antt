@@ -1,10 +1,10 @@
 use mathlib.Core.Path.{◌≡◌, ap, sym, ◌∙◌}
+use Rattle.std.specs.Prelude.{Ok}
 use mir.Syntax.{w32}
 use mir.Val.{to_z, of_z}
 use mir.Facts.{to_z-of_z}
 use lib.IntN.{pos, ◌-ℤ◌}
 use Rattle.signed.specs.Whole.{checked}
-use Rattle.answers.specs.declared.Nat.TheVariants.{Number}
 use Rattle.bin_rules.specs.Bin.{bin_to, reg2bin}
 use borrow.Author.Rules.{rules}
 use Rattle.bin.proofs.reg2bin.Goals as goal
@@ -17,7 +17,7 @@ returns-in-Number c =
     in
     let r : to_z w32 (of_z w32 c.in-Number.last) ≡ c.in-Number.last = search rules in
     let e : to_z w32 (of_z w32 c.args.beg.0) ≡ c.args.beg.0 = search rules in
-    simp (sym (told) ∙ c.in-Number.is) (ap Number (simp (e, r) at c.bin_of.ensures))
+    simp (sym (told) ∙ c.in-Number.is) (ap Ok (simp (e, r) at c.bin_of.ensures))
 
 pub returns-in-Over : goal.returns-in-Over
 unfolding reg2bin bin_to

@@ -1,29 +1,29 @@
 -- The outcome is decided by the record's bin; its two bytes are the two stores.
 use Prim.Native.Nat.{ℕ}
+use Rattle.std.specs.Prelude.{Err, Ok}
+use Rattle.answers.specs.Answer.{Answer}
 use mathlib.Core.Path.{◌≡◌, sym, ap, ◌∙◌}
 use mathlib.Core.List.{List}
 use borrow.Author.Tests.{lt-ltb}
 use Rattle.answers.specs.declared.Refusal.TheVariants.{ShortRecord}
-use Rattle.answers.specs.declared.Nat.{Nat}
-use Rattle.answers.specs.declared.Nat.TheVariants.{Number, Refused}
 use Rattle.answers.proofs.Unique.{settled}
 use Rattle.bin_rules.specs.Bin.{record_bin, with_bin, set_bin}
 use Rattle.bin.proofs.set_bin_from_raw_bam.Goals as goal
 
 -- what the record's bin came to decides the outcome
-decided : (b : List ℕ) (r : Nat) → r ≡ record_bin b → set_bin b ≡ with_bin b r
+decided : (b : List ℕ) (r : Answer ℕ) → r ≡ record_bin b → set_bin b ≡ with_bin b r
 unfolding set_bin
 decided b r e = ap (with_bin b) (sym e)
 
 pub returns-then-bam-lt32 : goal.returns-then-bam-lt32
 unfolding record_bin
 returns-then-bam-lt32 c =
-    settled (decided c.args.bam.now (Refused ShortRecord) (simp (lt-ltb _ _ c.if-bam-lt32.true)))
+    settled (decided c.args.bam.now (Err ShortRecord) (simp (lt-ltb _ _ c.if-bam-lt32.true)))
 
 pub returns-in-Number : goal.returns-in-Number
 returns-in-Number c =
-    settled (decided c.args.bam.now (Number c.in-Number.n) (sym c.in-Number.is ∙ c.bin_from_raw_bam.ensures))
+    settled (decided c.args.bam.now (Ok c.in-Number.n) (sym c.in-Number.is ∙ c.bin_from_raw_bam.ensures))
 
 pub returns-in-Refused : goal.returns-in-Refused
 returns-in-Refused c =
-    settled (decided c.args.bam.now (Refused c.in-Refused.r) (sym c.in-Refused.is ∙ c.bin_from_raw_bam.ensures))
+    settled (decided c.args.bam.now (Err c.in-Refused.r) (sym c.in-Refused.is ∙ c.bin_from_raw_bam.ensures))

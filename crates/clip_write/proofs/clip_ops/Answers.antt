@@ -1,18 +1,18 @@
 -- A refusal is the plan's, or that of the room; the plan's ops, as written at either end, are the clipped list.
 use Prim.Native.Nat.{◌+◌, ◌-◌}
+use Rattle.std.specs.Prelude.{Ok}
 use mathlib.Core.Path.{ap, ◌∙◌}
 use native.Mathlib.Omega.{arith}
 use Prim.Native.Nat.{ℕ}
 use Rattle.answers.proofs.Unique.{settled}
 use Rattle.oplist.specs.Ops.{ops_of}
-use Rattle.clip_rules.specs.declared.Planned.TheVariants as Planned
 use Rattle.clip_rules.specs.InnerPlan.{PlannedIs}
 use Rattle.clip_rules.proofs.AnswerLaws.{within, no_room, plan_length, done-start, done_end, unplanned}
 use Rattle.clip_write.proofs.clip_ops.Goals as goal
 
 pub returns-then-out-n : goal.returns-then-out-n
 returns-then-out-n c =
-    let made : PlannedIs c.args.limit (ops_of c.args.words.now c.args.rec.now c.args.list) c.args.amount (c.args.start) (Planned.Made c.in-Made.p) =
+    let made : PlannedIs c.args.limit (ops_of c.args.words.now c.args.rec.now c.args.list) c.args.amount (c.args.start) (Ok c.in-Made.p) =
     rw c.in-Made.is at c.plan_clip.ensures
     in
     let l = plan_length (ops_of c.args.words.now c.args.rec.now c.args.list) (c.args.start) (made).2.1 in
@@ -20,7 +20,7 @@ returns-then-out-n c =
 
 pub returns-then-start : goal.returns-then-start
 returns-then-start c =
-    let made : PlannedIs c.args.limit (ops_of c.args.words.now c.args.rec.now c.args.list) c.args.amount (c.args.start) (Planned.Made c.in-Made.p) =
+    let made : PlannedIs c.args.limit (ops_of c.args.words.now c.args.rec.now c.args.list) c.args.amount (c.args.start) (Ok c.in-Made.p) =
     rw c.in-Made.is at c.plan_clip.ensures
     in
     rw (within (ops_of c.args.words.now c.args.rec.now c.args.list) c.args.amount (c.args.start) c.args.out.now (made).0)
@@ -28,7 +28,7 @@ returns-then-start c =
 
 pub returns-else-start : goal.returns-else-start
 returns-else-start c =
-    let made : PlannedIs c.args.limit (ops_of c.args.words.now c.args.rec.now c.args.list) c.args.amount (c.args.start) (Planned.Made c.in-Made.p) =
+    let made : PlannedIs c.args.limit (ops_of c.args.words.now c.args.rec.now c.args.list) c.args.amount (c.args.start) (Ok c.in-Made.p) =
     rw c.in-Made.is at c.plan_clip.ensures
     in
     rw (within (ops_of c.args.words.now c.args.rec.now c.args.list) c.args.amount (c.args.start) c.args.out.now (made).0)

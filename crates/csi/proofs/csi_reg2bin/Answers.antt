@@ -1,6 +1,6 @@
 use mathlib.Core.Path.{◌≡◌, sym, ap, ◌∙◌}
+use Rattle.std.specs.Prelude.{Ok}
 use mir.Facts.{to_z-of_z}
-use Rattle.answers.specs.declared.Nat.TheVariants.{Number}
 use Rattle.csi_rules.specs.Csi.{region_of, bin_in, csi_bin}
 use Rattle.csi.proofs.Calls.{found}
 use Rattle.csi.proofs.csi_reg2bin.Goals as goal
@@ -18,7 +18,7 @@ returns-in-Over c =
     let told : c.region_of.result ≡ region_of c.args.beg c.args.end c.args.min_shift c.args.depth =
     simp (to_z-of_z c.ranges.beg, to_z-of_z c.ranges.end) at c.region_of.ensures
     in
-    ap Number c.bin_up.ensures ∙ sym (ap (bin_in c.args.min_shift c.args.depth) (sym (told) ∙ c.in-Over.is))
+    ap Ok c.bin_up.ensures ∙ sym (ap (bin_in c.args.min_shift c.args.depth) (sym (told) ∙ c.in-Over.is))
 
 pub returns-in-Refused : goal.returns-in-Refused
 unfolding csi_bin

@@ -1,6 +1,6 @@
 -- By the test: n is above the range of an i32, or within it.
 use Rattle.signed.proofs.Ranges.{checked_in, checked_above}
-use Rattle.signed.specs.declared.Sum.TheVariants.{Number}
+use Rattle.std.specs.Prelude.{Some}
 use lib.IntN.{pos}
 use mir.Syntax.{w32}
 use mir.Facts.{to_z_pos}
@@ -14,4 +14,4 @@ returns-then-n-gt2147483647 c =
 
 pub returns : goal.returns
 returns c =
-    ap Number (to_z_pos w32 (omega arith)) ∙ sym (checked_in (pos c.args.n) (omega arith) (omega arith))
+    ap Some (to_z_pos w32 (omega arith)) ∙ sym (checked_in (pos c.args.n) (omega arith) (omega arith))

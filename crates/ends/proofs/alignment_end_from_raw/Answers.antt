@@ -1,5 +1,6 @@
 -- By the tests; the end is that of the record's position and the length that it is asked for.
 use mathlib.Core.Path.{◌≡◌, ap, sym, ◌∙◌}
+use Rattle.std.specs.Prelude.{Ok}
 use mathlib.Core.Bool.{true, false}
 use borrow.Author.Tests.{lt-ltb}
 use lib.IntN.{ℤ, pos}
@@ -7,7 +8,6 @@ use lib.Signed.{lt_z}
 use mir.Syntax.{w32}
 use mir.Val.{to_z, of_z}
 use Rattle.sam.specs.Record.{pos_of}
-use Rattle.answers.specs.declared.Int.TheVariants as Int
 use Rattle.ends_rules.specs.Ends.{end_at, alignment_end}
 use Rattle.ends_rules.proofs.CaseLaws.{end_none, end-at}
 use borrow.Author.Rules.{rules}
@@ -37,7 +37,7 @@ returns-in-Number c =
     in
     let n : to_z w32 (of_z w32 c.in-Number.n) ≡ c.in-Number.n = search rules in
     (simp n at c.end_at.ensures)
-    ∙ ap (λ (z : ℤ). end_at z (Int.Number c.in-Number.n)) c.own_place-pos.ensures
+    ∙ ap (λ (z : ℤ). end_at z (Ok c.in-Number.n)) c.own_place-pos.ensures
     ∙ ap (end_at (pos_of c.args.bam.now)) (sym c.in-Number.is)
     ∙ past
 

@@ -1,7 +1,7 @@
 -- The sum over the record's ops.
 use mathlib.Core.Path.{ap, ◌∙◌}
+use Rattle.std.specs.Prelude.{Ok}
 use borrow.Author.Tests.{lt-ltb, le-ltb}
-use Rattle.answers.specs.declared.Count.TheVariants.{Number}
 use Rattle.lists.specs.Lists.{sum_of}
 use Rattle.sam.specs.Op.{query_len}
 use Rattle.length_rules.specs.Lengths.{record_query_length}
@@ -16,4 +16,4 @@ pub returns : goal.returns
 unfolding record_query_length
 returns c =
     simp (le-ltb _ _ c.if-bam-lt32.false)
-    (ap Number (c.sums-total.ensures.refs_value.1 ∙ ap (sum_of query_len) (c.of_record.ensures.by_index _)))
+    (ap Ok (c.sums-total.ensures.refs_value.1 ∙ ap (sum_of query_len) (c.of_record.ensures.by_index _)))

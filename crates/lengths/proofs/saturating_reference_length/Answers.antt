@@ -1,9 +1,9 @@
 -- The sum over the list, clamped.
 use Prim.Native.Nat.{ℕ}
+use Rattle.std.specs.Prelude.{Ok}
 use mathlib.Core.Path.{ap, ◌∙◌}
 use borrow.Author.Tests.{lt-ltb, le-ltb}
 use lib.IntN.{pos}
-use Rattle.answers.specs.declared.Int.TheVariants.{Number}
 use Rattle.lists.specs.Lists.{sum_of}
 use Rattle.signed.specs.Whole.{clamp32}
 use Rattle.sam.specs.Op.{ref_len}
@@ -20,4 +20,4 @@ pub returns : goal.returns
 unfolding saturated_length
 returns c =
     simp (le-ltb _ _ c.if-cigar-gt-MOST_OPS.false)
-    (ap Number (search rules ∙ c.saturated.ensures ∙ ap (λ (n : ℕ). clamp32 (pos n)) (c.sums-total.ensures.refs_value.0 ∙ ap (sum_of ref_len) (c.lent.ensures _))))
+    (ap Ok (search rules ∙ c.saturated.ensures ∙ ap (λ (n : ℕ). clamp32 (pos n)) (c.sums-total.ensures.refs_value.0 ∙ ap (sum_of ref_len) (c.lent.ensures _))))

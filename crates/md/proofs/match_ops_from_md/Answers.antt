@@ -1,10 +1,10 @@
 -- The tests are the rule's, in its order: what was measured is well formed and agrees, and of what was not it is asked which.
 use Prim.Native.Nat.{◌≤◌}
+use Rattle.std.specs.Prelude.{Ok}
 use mathlib.Core.Path.{sym, ap, ◌∙◌, subst}
 use native.Mathlib.Omega.{arith}
 use lib.ListN.{length}
 use Rattle.answers.proofs.Unique.{settled, outcome}
-use Rattle.answers.specs.declared.Count.TheVariants as Count
 use Rattle.md_rules.specs.InnerWalk.{Measured, WalkedIs}
 use Rattle.md_rules.proofs.AnswerLaws.{too_many, malformed, told-apart, disagrees, no_room, replaced}
 use Rattle.md.proofs.match_ops_from_md.Goals as goal
@@ -45,7 +45,7 @@ returns c =
     in
     let u = measured in
     settled (replaced c.args.ops.now c.args.text.now c.args.out.now (few) u.formed (sym c.holds_told-2.ensures ∙ c.if-holds_told-2.false) u.agree (omega (arith, u.many, c.if-out-n.false))
-    ∙ outcome (ap Count.Number u.many) c.write.ensures)
+    ∙ outcome (ap Ok u.many) c.write.ensures)
 
 pub returns-then-not-well_formed : goal.returns-then-not-well_formed
 returns-then-not-well_formed c =

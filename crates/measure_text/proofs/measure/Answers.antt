@@ -1,10 +1,11 @@
 -- What is left of the pass at i is the whole pass.
 use mathlib.Core.Path.{◌≡◌, sym, ◌∙◌, subst}
+use Rattle.std.specs.Prelude.{Option}
+use Rattle.measure_text.specs.declared.SoFar.{SoFar}
 use native.Mathlib.Omega.{arith}
 use Rattle.validity.specs.InnerStages.{code_class}
 use Rattle.measure_text.specs.InnerPass.{took_of}
 use Rattle.tokens.specs.InnerToken.{OpAt, TokenAt}
-use Rattle.measure_text.specs.declared.Took.{Took}
 use Rattle.measure_text.proofs.PassLaws.{left_measured, took_fits, pass_none, pass_end, pass-more, pass-stop}
 use Rattle.measure_text.proofs.measure.Goals as goal
 
@@ -18,14 +19,14 @@ returns-in_default-take_op c =
     let found : OpAt c.args.text.now c.loop-i.i c.in-Op.len c.in-Op.code c.in-Op.next =
     subst (TokenAt c.args.text.now c.loop-i.i) c.in-Op.is c.token_at.ensures
     in
-    let took : (r : Took) → c.take_op.result ≡ r → took_of c.loop-i.seen c.in-Op.len (code_class c.in-Op.code) ≡ r =
+    let took : (r : Option SoFar) → c.take_op.result ≡ r → took_of c.loop-i.seen c.in-Op.len (code_class c.in-Op.code) ≡ r =
     λ r e. sym c.take_op.ensures ∙ e
     in
     sym (pass-stop c.args.text.now c.loop-i.i c.loop-i.seen _ _ _ (found) (took _ c.in_default-take_op.is)) ∙ c.loop-i.invariant.3 ∙ left_measured c.args.text.now
 
 pub loop-i-preserved : goal.loop-i-preserved
 loop-i-preserved c =
-    let took : (r : Took) → c.take_op.result ≡ r → took_of c.loop-i.seen c.in-Op.len (code_class c.in-Op.code) ≡ r =
+    let took : (r : Option SoFar) → c.take_op.result ≡ r → took_of c.loop-i.seen c.in-Op.len (code_class c.in-Op.code) ≡ r =
     λ r e. sym c.take_op.ensures ∙ e
     in
     let found : OpAt c.args.text.now c.loop-i.i c.in-Op.len c.in-Op.code c.in-Op.next =

@@ -1,9 +1,9 @@
 -- The two tests for 3, and then the overhang of the two lists.
 use mathlib.Core.Path.{ap}
+use Rattle.std.specs.Prelude.{Ok}
 use lib.ListN.{length}
 use borrow.Author.Tests.{lt-ltb, le-ltb}
 use Rattle.oplist.specs.Ops.{most_ops}
-use Rattle.answers.specs.declared.Count.TheVariants.{Number}
 use Rattle.overhang_rules.specs.Overhang.{bases_extending}
 use Rattle.overhang.proofs.bases_extending_past_mate_ops.Goals as goal
 
@@ -21,4 +21,4 @@ pub returns : goal.returns
 unfolding bases_extending
 returns c =
     simp (le-ltb most_ops (length c.args.this_ops.now) c.if-this_ops-gt-MOST_OPS.false, le-ltb most_ops (length c.args.mate_ops.now) c.if-mate_ops-gt-MOST_OPS.false)
-    (ap Number c.lent_overhang.ensures)
+    (ap Ok c.lent_overhang.ensures)

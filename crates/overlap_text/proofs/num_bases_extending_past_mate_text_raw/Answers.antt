@@ -1,9 +1,10 @@
 -- The pass decides each refusal before anything is written; the pair test then says what is left.
 use mathlib.Core.Path.{◌≡◌, sym, ap, ◌∙◌}
+use Rattle.std.specs.Prelude.{Bool, Err, Ok}
+use Rattle.answers.specs.Answer.{Answer}
 use mir.Syntax.{w32}
 use mir.Val.{to_z, of_z}
 use Rattle.answers.proofs.Unique.{settled, resettled}
-use Rattle.answers.specs.declared.Flag.{Flag}
 use Rattle.text_rules.specs.Text.{text_ops}
 use Rattle.parsed_rules.specs.Parsed.{measured_text}
 use Rattle.parsed_rules.specs.declared.Measured.TheVariants as Measured
@@ -38,15 +39,15 @@ list_left-requires c =
 pub returns-in-Refused : goal.returns-in-Refused
 returns-in-Refused c =
     let w : to_z w32 (of_z w32 c.in-Ops.span) ≡ c.in-Ops.span = search rules in
-    let left : (fr : Flag) → c.fr_with_mate.result ≡ fr → past_mate_text c.args.bam.now c.args.text.now c.args.out.now ≡ pair_list_left fr c.args.bam.now (text_ops c.args.text.now) c.args.out.now =
+    let left : (fr : Answer Bool) → c.fr_with_mate.result ≡ fr → past_mate_text c.args.bam.now c.args.text.now c.args.out.now ≡ pair_list_left fr c.args.bam.now (text_ops c.args.text.now) c.args.out.now =
     λ fr e. text-left c.args.bam.now c.args.text.now c.args.out.now c.if-bam-lt32.false _ _ (sym c.measure.ensures ∙ c.in-Ops.is) fr c.if-n.false (sym e ∙ c.fr_with_mate.ensures ∙ ap (is_fr_with_mate c.args.bam.now) w)
     in
-    settled (left (Flag.Refused c.in-Refused.why) c.in-Refused.is)
+    settled (left (Err c.in-Refused.why) c.in-Refused.is)
 
 pub returns-in-Is : goal.returns-in-Is
 returns-in-Is c =
     let w : to_z w32 (of_z w32 c.in-Ops.span) ≡ c.in-Ops.span = search rules in
-    let left : (fr : Flag) → c.fr_with_mate.result ≡ fr → past_mate_text c.args.bam.now c.args.text.now c.args.out.now ≡ pair_list_left fr c.args.bam.now (text_ops c.args.text.now) c.args.out.now =
+    let left : (fr : Answer Bool) → c.fr_with_mate.result ≡ fr → past_mate_text c.args.bam.now c.args.text.now c.args.out.now ≡ pair_list_left fr c.args.bam.now (text_ops c.args.text.now) c.args.out.now =
     λ fr e. text-left c.args.bam.now c.args.text.now c.args.out.now c.if-bam-lt32.false _ _ (sym c.measure.ensures ∙ c.in-Ops.is) fr c.if-n.false (sym e ∙ c.fr_with_mate.ensures ∙ ap (is_fr_with_mate c.args.bam.now) w)
     in
-    resettled (left (Flag.Is c.in-Is.fr) c.in-Is.is) c.list_left.ensures
+    resettled (left (Ok c.in-Is.fr) c.in-Is.is) c.list_left.ensures

@@ -1,7 +1,7 @@
 -- A forward record's test is of its start and its mate's end.
 use mathlib.Core.Path.{sym, ap, ◌∙◌}
+use Rattle.std.specs.Prelude.{Ok}
 use mir.Facts.{to_z-of_z}
-use Rattle.answers.specs.declared.Flag.TheVariants as Flag
 use Rattle.pairs_rules.proofs.PairLaws.{not_fr, fr_forward}
 use Rattle.pairs.proofs.fr_with_mate.Goals as goal
 
@@ -11,5 +11,5 @@ returns-then-not-opposite c =
 
 pub returns : goal.returns
 returns c =
-    ap Flag.Is (simp (c.own_place-own.ensures, c.mate_place-mate.ensures, to_z-of_z c.ranges.n) at c.starts_before_end.ensures)
+    ap Ok (simp (c.own_place-own.ensures, c.mate_place-mate.ensures, to_z-of_z c.ranges.n) at c.starts_before_end.ensures)
     ∙ fr_forward c.args.bam.now _ c.u16_at.ensures.0 _ (sym c.opposite.ensures ∙ c.if-not-opposite.false) (sym c.is_reverse.ensures ∙ c.if-is_reverse.false)

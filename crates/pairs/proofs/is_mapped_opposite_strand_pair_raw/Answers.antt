@@ -1,7 +1,7 @@
 -- The one test, and then the rule.
 use mathlib.Core.Path.{ap}
+use Rattle.std.specs.Prelude.{Ok}
 use borrow.Author.Tests.{lt-ltb, le-ltb}
-use Rattle.answers.specs.declared.Flag.TheVariants.{Is}
 use Rattle.pairs_rules.specs.Pairs.{opposite_pair}
 use Rattle.pairs.proofs.is_mapped_opposite_strand_pair_raw.Goals as goal
 
@@ -13,4 +13,4 @@ returns-then-bam-lt32 c =
 pub returns : goal.returns
 unfolding opposite_pair
 returns c =
-    simp (le-ltb _ _ c.if-bam-lt32.false) (ap Is c.opposite.ensures)
+    simp (le-ltb _ _ c.if-bam-lt32.false) (ap Ok c.opposite.ensures)

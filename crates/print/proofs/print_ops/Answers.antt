@@ -1,12 +1,12 @@
 -- The measuring walk decides 7 and 6, and what is written fits.
 use mathlib.Core.Path.{◌≡◌, sym, ap, ◌∙◌}
+use Rattle.std.specs.Prelude.{Ok}
 use native.Mathlib.Omega.{arith}
 use mathlib.Core.Bool.{false}
 use mathlib.Core.List.{[]}
 use lib.ListN.{length}
 use Rattle.lists.proofs.Stores.{sets_splice}
 use Rattle.answers.proofs.Unique.{settled, outcome}
-use Rattle.answers.specs.declared.Count.TheVariants as Count
 use Rattle.oplist.specs.Ops.{ops_of}
 use Rattle.print_rules.specs.Text.{text_of, any_bad}
 use Rattle.print_rules.specs.Inner.{room_of}
@@ -46,4 +46,4 @@ returns c =
     let ops = ops_of [] c.args.bam.now c.args.list in
     let t = told in
     settled (fits ops c.args.out.now t.0 (omega (arith, t.1, c.if-out-n.false))
-    ∙ outcome (ap Count.Number (sym t.1)) (c.put_text.ensures ∙ sets_splice c.args.out.now 0 (text_of ops) (omega (arith, t.1, c.if-out-n.false))))
+    ∙ outcome (ap Ok (sym t.1)) (c.put_text.ensures ∙ sets_splice c.args.out.now 0 (text_of ops) (omega (arith, t.1, c.if-out-n.false))))

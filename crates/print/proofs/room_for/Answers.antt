@@ -1,5 +1,6 @@
 -- The bytes so far and those that are left are all bytes, and no code so far is bad.
 use Prim.Native.Nat.{◌%◌, ◌≤◌, ◌<◌}
+use Rattle.std.specs.Prelude.{Some}
 use mathlib.Core.Path.{◌≡◌, refl, sym, ap, ◌∙◌}
 use native.Mathlib.Omega.{arith}
 use mathlib.Core.Bool.{true}
@@ -8,7 +9,6 @@ use borrow.Author.Tests.{lt-ltb, le-ltb}
 use Rattle.oplist.specs.Ops.{ops_of}
 use Rattle.print_rules.specs.Text.{any_bad}
 use Rattle.print_rules.specs.Inner.{room_of}
-use Rattle.print_rules.specs.declared.Room.TheVariants as Room
 use Rattle.print_rules.proofs.PrintLaws.{op_text_length, length_step, bad_step, text_done, bad_done}
 use Rattle.print.proofs.room_for.Goals as goal
 
@@ -39,4 +39,4 @@ returns c =
     let xs = ops_of c.args.words.now c.args.rec.now c.args.list in
     let h : length xs ≤ c.loop-i.i = omega (arith, c.count-count.ensures) in
     let z = ap length (text_done xs c.loop-i.i h) in
-    rw (sym c.loop-i.invariant.3 ∙ bad_done xs c.loop-i.i h) (ap Room.Bytes (omega arith))
+    rw (sym c.loop-i.invariant.3 ∙ bad_done xs c.loop-i.i h) (ap Some (omega arith))

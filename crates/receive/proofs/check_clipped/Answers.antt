@@ -3,7 +3,6 @@ use mathlib.Core.Path.{sym, subst, ◌∙◌}
 use native.Mathlib.Omega.{arith}
 use Rattle.record_rules.specs.Clipping.{clipped_fate}
 use Rattle.record_rules.specs.InnerPlan.{FateIs, change_by}
-use Rattle.record_rules.specs.declared.PlannedRecord.TheVariants as Planned
 use Rattle.record_rules.proofs.PlanLaws.{ops_left}
 use Rattle.receive_rules.proofs.CallLaws.{becomes_is, refuses_is, few_ops}
 use Rattle.receive.proofs.check_clipped.Goals as goal

@@ -1,12 +1,12 @@
 -- The tests in their order, and then what the plan of the ops comes to.
 use Prim.Native.Nat.{ℕ, ◌≤◌}
+use Rattle.std.specs.Prelude.{Ok}
 use mathlib.Core.Path.{sym, ap, subst, ◌∙◌}
 use mathlib.Core.List.{List, []}
 use native.Mathlib.Omega.{arith}
 use lib.ListN.{length}
 use Rattle.sam.specs.Record.{tags_start}
 use Rattle.oplist.specs.Ops.{record_ops}
-use Rattle.clip_rules.specs.declared.Planned.{Planned}
 use Rattle.clip_rules.specs.InnerPlan.{PlannedIs}
 use Rattle.record_rules.specs.Clipping.{counted, start_count}
 use Rattle.record_rules.proofs.PlanLaws.{refated, ops_count, planned_is, count-is, refs_are, skip_fits, short_is, overrun-is, refused-is, within-is}
@@ -26,7 +26,7 @@ counted-requires-clause-skip_bound c =
     let o = c.of_record-list.ensures.by_index [] in
     rw (c.count-limit.ensures.0 ∙ ap length o, o) at c.plan_clip.ensures
     in
-    let made : PlannedIs (length (record_ops c.args.bam.now)) (record_ops c.args.bam.now) c.args.amount c.args.start (Planned.Made c.in-Made.p) =
+    let made : PlannedIs (length (record_ops c.args.bam.now)) (record_ops c.args.bam.now) c.args.amount c.args.start (Ok c.in-Made.p) =
     subst (PlannedIs (length (record_ops c.args.bam.now)) (record_ops c.args.bam.now) c.args.amount c.args.start) c.in-Made.is (answered)
     in
     let whole : tags_start c.args.bam.now ≤ length c.args.bam.now =
@@ -43,7 +43,7 @@ counted-requires-clause-bam_value c =
     let o = c.of_record-list.ensures.by_index [] in
     rw (c.count-limit.ensures.0 ∙ ap length o, o) at c.plan_clip.ensures
     in
-    let made : PlannedIs (length (record_ops c.args.bam.now)) (record_ops c.args.bam.now) c.args.amount c.args.start (Planned.Made c.in-Made.p) =
+    let made : PlannedIs (length (record_ops c.args.bam.now)) (record_ops c.args.bam.now) c.args.amount c.args.start (Ok c.in-Made.p) =
     subst (PlannedIs (length (record_ops c.args.bam.now)) (record_ops c.args.bam.now) c.args.amount c.args.start) c.in-Made.is (answered)
     in
     let whole : tags_start c.args.bam.now ≤ length c.args.bam.now =
@@ -60,7 +60,7 @@ returns-in-Made c =
     let o = c.of_record-list.ensures.by_index [] in
     rw (c.count-limit.ensures.0 ∙ ap length o, o) at c.plan_clip.ensures
     in
-    let made : PlannedIs (length (record_ops c.args.bam.now)) (record_ops c.args.bam.now) c.args.amount c.args.start (Planned.Made c.in-Made.p) =
+    let made : PlannedIs (length (record_ops c.args.bam.now)) (record_ops c.args.bam.now) c.args.amount c.args.start (Ok c.in-Made.p) =
     subst (PlannedIs (length (record_ops c.args.bam.now)) (record_ops c.args.bam.now) c.args.amount c.args.start) c.in-Made.is (answered)
     in
     let long : 32 ≤ length c.args.bam.now =

@@ -5,7 +5,6 @@ use Rattle.answers.proofs.Unique.{settled, resettled}
 use Rattle.clip_rules.specs.Answer.{without_count}
 use Rattle.record_rules.specs.Clipping.{clipped_fate}
 use Rattle.record_rules.specs.InnerPlan.{FateIs}
-use Rattle.record_rules.specs.declared.PlannedRecord.TheVariants as Planned
 use Rattle.record_rules.proofs.PlanLaws.{becomes_is, refuses_is}
 use Rattle.record_write.proofs.clip_record_end.Goals as goal
 

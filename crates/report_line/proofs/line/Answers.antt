@@ -1,5 +1,7 @@
 -- The number, then what the text, the figures or the first refusal say.
 use Prim.Native.Nat.{ℕ}
+use Rattle.std.specs.Prelude.{Err, Ok}
+use Rattle.answers.specs.Answer.{Answer}
 use mathlib.Core.Path.{refl, sym, ◌∙◌, subst}
 use mathlib.Core.List.{List, [], ◌∷◌, ◌++◌}
 use native.Mathlib.Omega.{arith}
@@ -9,7 +11,6 @@ use Rattle.decimal.specs.Decimal.{decimal}
 use Rattle.print_rules.specs.Text.{text_of}
 use Rattle.line_rules.specs.Line.{tabbed, refused_fields, or_star}
 use Rattle.line_rules.specs.Inner.{TextPut, row_fields}
-use Rattle.line_rules.specs.declared.Text.{Text}
 use Rattle.put_text.proofs.PutLaws.{put_then, put_as, put_dropped}
 use Rattle.line_rules.proofs.LineLaws.{line_no_text, line_no_row, line_row}
 use Rattle.report_line.proofs.line.Goals as goal
@@ -20,8 +21,8 @@ returns-in-Refused-clause-put c =
     let p = c.put_number-from in
     let t = c.put_text in
     let why = c.in-Refused.why in
-    let e : TextPut a.rec.now p.new.out p.result (Text.Refused why) t.new.out =
-    subst (λ (x : Text). TextPut a.rec.now p.new.out p.result x t.new.out) c.in-Refused.is t.ensures in
+    let e : TextPut a.rec.now p.new.out p.result (Err why) t.new.out =
+    subst (λ (x : Answer ℕ). TextPut a.rec.now p.new.out p.result x t.new.out) c.in-Refused.is t.ensures in
     let v = tabbed (refused_fields (number_of why)) in
     put_as (decimal a.number ++ v) (sym (line_no_text a.number a.rec.now why e.0)) refl refl
     (put_then (decimal a.number) v p.ensures.put (put_then [] v e.1 c.put_refusal.ensures.put))
@@ -32,8 +33,8 @@ returns-in-Refused-row_of-clause-put c =
     let p = c.put_number-from in
     let t = c.put_text in
     let why = c.in-Refused-row_of.why in
-    let e : TextPut a.rec.now p.new.out p.result (Text.End c.in-End.behind) t.new.out =
-    subst (λ (x : Text). TextPut a.rec.now p.new.out p.result x t.new.out) c.in-End.is t.ensures in
+    let e : TextPut a.rec.now p.new.out p.result (Ok c.in-End.behind) t.new.out =
+    subst (λ (x : Answer ℕ). TextPut a.rec.now p.new.out p.result x t.new.out) c.in-End.is t.ensures in
     let v = tabbed (refused_fields (number_of why)) in
     let k = put_dropped _ (omega (arith, p.ensures.put.same, p.ensures.upper_bound, c.requires)) e.2 in
     put_as (decimal a.number ++ v) (sym (line_no_row a.number a.rec.now e.0 _ e.1 why (sym c.row_of.ensures ∙ c.in-Refused-row_of.is))) refl refl
@@ -45,8 +46,8 @@ returns-in-Row-clause-put c =
     let p = c.put_number-from in
     let t = c.put_text in
     let row = c.in-Row.row in
-    let e : TextPut a.rec.now p.new.out p.result (Text.End c.in-End.behind) t.new.out =
-    subst (λ (x : Text). TextPut a.rec.now p.new.out p.result x t.new.out) c.in-End.is t.ensures in
+    let e : TextPut a.rec.now p.new.out p.result (Ok c.in-End.behind) t.new.out =
+    subst (λ (x : Answer ℕ). TextPut a.rec.now p.new.out p.result x t.new.out) c.in-End.is t.ensures in
     let x : List ℕ = 9 ∷ or_star (text_of (record_ops a.rec.now)) in
     let v = tabbed (row_fields row) in
     put_as (decimal a.number ++ (x ++ v)) (sym (line_row a.number a.rec.now e.0 _ e.1 row (sym c.row_of.ensures ∙ c.in-Row.is))) refl refl

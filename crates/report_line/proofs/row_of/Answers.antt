@@ -1,5 +1,6 @@
 -- What each call ensures; the first that refuses decides.
 use Prim.Native.Nat.{ℕ, ◌≤◌}
+use Rattle.std.specs.Prelude.{Ok}
 use mathlib.Core.Path.{◌≡◌, refl, sym, ap, ◌∙◌}
 use native.Mathlib.Omega.{arith}
 use lib.IntN.{pos}
@@ -13,7 +14,6 @@ use Rattle.sam.specs.Record.{ops_end}
 use Rattle.oplist.specs.Ops.{record_ops}
 use Rattle.oplist.proofs.OpsLaws.{lies, overruns}
 use Rattle.length_rules.specs.Lengths.{checked_ref_length}
-use Rattle.answers.specs.declared.Int.TheVariants as Int
 use Rattle.line_rules.specs.Inner.{row_of}
 use Rattle.line_rules.proofs.LineLaws.{refs_overrun, refs_over, refs_are, figures_are, row-past}
 use Rattle.report_line.proofs.row_of.Goals as goal
@@ -44,8 +44,8 @@ returns-in-Refused c =
     let refs-told : c.sums-total.result.refs ≡ sum_of ref_len (record_ops c.args.rec.now) =
     c.sums-total.ensures.refs_value.0 ∙ ap (sum_of ref_len) (c.of_record-list.ensures.by_index _)
     in
-    let refs-kept : checked_ref_length c.args.rec.now ≡ Int.Number (pos c.sums-total.result.refs) =
-    refs_are c.args.rec.now c.requires (within) (omega (arith, c.if-total-gt2147483647.false, refs-told)) ∙ ap (λ (n : ℕ). Int.Number (pos n)) (sym (refs-told))
+    let refs-kept : checked_ref_length c.args.rec.now ≡ Ok (pos c.sums-total.result.refs) =
+    refs_are c.args.rec.now c.requires (within) (omega (arith, c.if-total-gt2147483647.false, refs-told)) ∙ ap (λ (n : ℕ). Ok (pos n)) (sym (refs-told))
     in
     sym (figures_are c.args.rec.now _ _ _ _ _ (refs-kept) refl (sym c.unclipped_5prime_from_raw_bam-five.ensures ∙ c.in-Refused.is) refl refl)
 
@@ -57,8 +57,8 @@ returns-in-Refused-bin_from_raw_bam c =
     let refs-told : c.sums-total.result.refs ≡ sum_of ref_len (record_ops c.args.rec.now) =
     c.sums-total.ensures.refs_value.0 ∙ ap (sum_of ref_len) (c.of_record-list.ensures.by_index _)
     in
-    let refs-kept : checked_ref_length c.args.rec.now ≡ Int.Number (pos c.sums-total.result.refs) =
-    refs_are c.args.rec.now c.requires (within) (omega (arith, c.if-total-gt2147483647.false, refs-told)) ∙ ap (λ (n : ℕ). Int.Number (pos n)) (sym (refs-told))
+    let refs-kept : checked_ref_length c.args.rec.now ≡ Ok (pos c.sums-total.result.refs) =
+    refs_are c.args.rec.now c.requires (within) (omega (arith, c.if-total-gt2147483647.false, refs-told)) ∙ ap (λ (n : ℕ). Ok (pos n)) (sym (refs-told))
     in
     row-past _ _ _ _ _ (λ r e. c.in_default.not-Refused r e)
     ∙ sym (figures_are c.args.rec.now _ _ _ _ _ (refs-kept) refl (sym c.unclipped_5prime_from_raw_bam-five.ensures) (sym c.bin_from_raw_bam.ensures ∙ c.in-Refused-bin_from_raw_bam.is) refl)
@@ -71,8 +71,8 @@ returns-in-Number c =
     let refs-told : c.sums-total.result.refs ≡ sum_of ref_len (record_ops c.args.rec.now) =
     c.sums-total.ensures.refs_value.0 ∙ ap (sum_of ref_len) (c.of_record-list.ensures.by_index _)
     in
-    let refs-kept : checked_ref_length c.args.rec.now ≡ Int.Number (pos c.sums-total.result.refs) =
-    refs_are c.args.rec.now c.requires (within) (omega (arith, c.if-total-gt2147483647.false, refs-told)) ∙ ap (λ (n : ℕ). Int.Number (pos n)) (sym (refs-told))
+    let refs-kept : checked_ref_length c.args.rec.now ≡ Ok (pos c.sums-total.result.refs) =
+    refs_are c.args.rec.now c.requires (within) (omega (arith, c.if-total-gt2147483647.false, refs-told)) ∙ ap (λ (n : ℕ). Ok (pos n)) (sym (refs-told))
     in
     let query-told : sum_of query_len (record_ops c.args.rec.now) ≡ c.sums-total.result.query =
     sym (c.sums-total.ensures.refs_value.1 ∙ ap (sum_of query_len) (c.of_record-list.ensures.by_index _))

@@ -1,5 +1,6 @@
 -- What the memory holds is the text's ops.
 use Prim.Native.Nat.{◌≤◌}
+use Rattle.std.specs.Prelude.{Option, Some, ℕ}
 use mathlib.Core.Path.{◌≡◌, ap, ◌∙◌, subst}
 use native.Mathlib.Omega.{arith}
 use lib.ListN.{length, take}
@@ -8,19 +9,18 @@ use Rattle.oplist.specs.Ops.{most_ops}
 use Rattle.answers.proofs.Unique.{settled}
 use Rattle.text_rules.specs.Text.{text_ops}
 use Rattle.read_text.specs.InnerRead.{ReadTo}
-use Rattle.read_text.specs.declared.Counted.{Counted}
 use Rattle.parsed_rules.proofs.ParsedLaws.{not_strict, no_place, all_told}
 use Rattle.read_text.proofs.ReadLaws.{held}
 use Rattle.strict_text.proofs.by_copy.Goals as goal
 
 pub returns-in_default : goal.returns-in_default
 returns-in_default c =
-    settled (not_strict c.args.text.now c.args.out.now (subst (λ (r : Counted). ReadTo c.args.text.now c.args.ops.now r c.read_ops.new.out) c.in_default.is c.read_ops.ensures))
+    settled (not_strict c.args.text.now c.args.out.now (subst (λ (r : Option ℕ). ReadTo c.args.text.now c.args.ops.now r c.read_ops.new.out) c.in_default.is c.read_ops.ensures))
 
 pub returns-then-out-n : goal.returns-then-out-n
 returns-then-out-n c =
-    let told : ReadTo c.args.text.now c.args.ops.now (Counted.Ops c.in-Ops.n) c.read_ops.new.out =
-    subst (λ (r : Counted). ReadTo c.args.text.now c.args.ops.now r c.read_ops.new.out) c.in-Ops.is c.read_ops.ensures
+    let told : ReadTo c.args.text.now c.args.ops.now (Some c.in-Ops.n) c.read_ops.new.out =
+    subst (λ (r : Option ℕ). ReadTo c.args.text.now c.args.ops.now r c.read_ops.new.out) c.in-Ops.is c.read_ops.ensures
     in
     let few : c.in-Ops.n ≤ most_ops =
     let t = told in omega (arith, t.2, c.requires.0, c.requires.1)
@@ -29,8 +29,8 @@ returns-then-out-n c =
 
 pub returns : goal.returns
 returns c =
-    let told : ReadTo c.args.text.now c.args.ops.now (Counted.Ops c.in-Ops.n) c.read_ops.new.out =
-    subst (λ (r : Counted). ReadTo c.args.text.now c.args.ops.now r c.read_ops.new.out) c.in-Ops.is c.read_ops.ensures
+    let told : ReadTo c.args.text.now c.args.ops.now (Some c.in-Ops.n) c.read_ops.new.out =
+    subst (λ (r : Option ℕ). ReadTo c.args.text.now c.args.ops.now r c.read_ops.new.out) c.in-Ops.is c.read_ops.ensures
     in
     let few : c.in-Ops.n ≤ most_ops =
     let t = told in omega (arith, t.2, c.requires.0, c.requires.1)

@@ -1,9 +1,9 @@
 -- By the tests; the place is that of the list from the next of the given one, by the strand.
 use mathlib.Core.Path.{◌≡◌, ap, sym, ◌∙◌}
+use Rattle.std.specs.Prelude.{Option, ℤ}
 use mathlib.Core.List.{[]}
 use mir.Syntax.{w32}
 use mir.Val.{to_z, of_z}
-use Rattle.signed.specs.declared.Sum.{Sum}
 use Rattle.oplist.specs.Ops.{ops_of}
 use Rattle.ends_rules.specs.Ends.{five_prime, as_unclipped, unclipped_at, unclipped_by}
 use Rattle.ends_rules.proofs.CaseLaws.{placed_by, forward, backward}
@@ -16,7 +16,7 @@ returns c =
     placed_by _ _ _ _ c.count.ensures.0 c.if-count-eq0.false c.plus_one.result c.plus_one.ensures
     in
     let placed : as_unclipped (five_prime c.args.reverse c.in-Number.at (ops_of [] c.args.bam.now c.args.list)) ≡ unclipped_by (ops_of [] c.args.bam.now c.args.list) c.args.pos c.args.reverse =
-    ap (λ (q : Sum). unclipped_at q c.args.reverse (ops_of [] c.args.bam.now c.args.list)) (sym c.in-Number.is) ∙ from_next
+    ap (λ (q : Option ℤ). unclipped_at q c.args.reverse (ops_of [] c.args.bam.now c.args.list)) (sym c.in-Number.is) ∙ from_next
     in
     let e : to_z w32 (of_z w32 c.in-Number.at) ≡ c.in-Number.at = search rules in
     c.as_unclipped-2.ensures
@@ -29,7 +29,7 @@ returns-then-reverse c =
     placed_by _ _ _ _ c.count.ensures.0 c.if-count-eq0.false c.plus_one.result c.plus_one.ensures
     in
     let placed : as_unclipped (five_prime c.args.reverse c.in-Number.at (ops_of [] c.args.bam.now c.args.list)) ≡ unclipped_by (ops_of [] c.args.bam.now c.args.list) c.args.pos c.args.reverse =
-    ap (λ (q : Sum). unclipped_at q c.args.reverse (ops_of [] c.args.bam.now c.args.list)) (sym c.in-Number.is) ∙ from_next
+    ap (λ (q : Option ℤ). unclipped_at q c.args.reverse (ops_of [] c.args.bam.now c.args.list)) (sym c.in-Number.is) ∙ from_next
     in
     let e : to_z w32 (of_z w32 c.in-Number.at) ≡ c.in-Number.at = search rules in
     let f = c.tail_of.ensures in

@@ -1,7 +1,7 @@
 -- The two tests are the definition's.
 use Rattle.std.proofs.Common.{ℕ, ap, eq-eqb, ne_eqb, lt-ltb, le-ltb}
+use Rattle.std.specs.Prelude.{Ok}
 use Rattle.sam.specs.Op.{op_of}
-use Rattle.kinds.specs.declared.NewOp.TheVariants.{Op}
 use Rattle.kinds.specs.Kinds.{new_op}
 use Rattle.kinds.proofs.CigarOp.new.Goals as goal
 
@@ -17,4 +17,4 @@ pub returns : goal.returns
 unfolding new_op
 returns c =
     simp (ne_eqb _ _ c.if-len-eq0.false, le-ltb _ _ c.if-len-gt-MAX_LEN.false)
-    (ap (λ (k : ℕ). Op (record { 0 = op_of c.args.len k })) c.code.ensures.0)
+    (ap (λ (k : ℕ). Ok (record { 0 = op_of c.args.len k })) c.code.ensures.0)
