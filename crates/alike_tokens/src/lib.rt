@@ -14,25 +14,25 @@ fn is_first(b: u8) -> bool
 }
 
 // An op whose number was read, by its letter.
-fn lettered(len: u32, letter: u8, next: usize) -> Token
+fn lettered(len: u32, letter: u8, next: usize) -> Option<Token>
     ensures { Lettered len letter next result }
 {
     let code = letters::code_at(letter);
     if 8 < code {
-        return Token::Bad;
+        return None;
     }
-    Token::Op(len, code, next)
+    Some(Token { len, code, next })
 }
 
 // The op at a place of a text if it has so many digits, one, two, three or four, of which the first is no 0. Each byte is read where the one before it was right:
 // so the place after the op doesn't wait for its bytes, which pays where the number of digits is foreseen.
-pub fn alike_token(text: &[u8], at: usize, digits: usize) -> Token
+pub fn alike_token(text: &[u8], at: usize, digits: usize) -> Option<Token>
     requires { at + 5 ≤ length text.now }
     ensures { ShortAt text.now at result }
 {
     let first = text[at];
     if !is_first(first) {
-        return Token::Bad;
+        return None;
     }
     let a = tokens::wide(first);
     let second = text[at + 1];
@@ -40,7 +40,7 @@ pub fn alike_token(text: &[u8], at: usize, digits: usize) -> Token
         return lettered(a - 48, second, at + 2);
     }
     if !tokens::is_digit(second) {
-        return Token::Bad;
+        return None;
     }
     let b = a * 10 + tokens::wide(second);
     let third = text[at + 2];
@@ -48,7 +48,7 @@ pub fn alike_token(text: &[u8], at: usize, digits: usize) -> Token
         return lettered(b - 528, third, at + 3);
     }
     if !tokens::is_digit(third) {
-        return Token::Bad;
+        return None;
     }
     let c = b * 10 + tokens::wide(third);
     let fourth = text[at + 3];
@@ -56,7 +56,7 @@ pub fn alike_token(text: &[u8], at: usize, digits: usize) -> Token
         return lettered(c - 5328, fourth, at + 4);
     }
     if !tokens::is_digit(fourth) {
-        return Token::Bad;
+        return None;
     }
     let d = c * 10 + tokens::wide(fourth);
     lettered(d - 53328, text[at + 4], at + 5)

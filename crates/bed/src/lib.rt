@@ -8,7 +8,7 @@ ghost use Rattle.answers.specs.Settled.{SettledTwo};
 ghost use Rattle.bed_rules.specs.Blocks.{blocks};
 ghost use Rattle.bed_rules.specs.Bed.{sizes_of, starts_of, unfit, bed_blocks};
 
-use answers::Refusal;
+use answers::{Answer, Refusal};
 use bed_rules::{Bed, Measured};
 use bed_walk::Walk;
 
@@ -50,29 +50,29 @@ fn write(ops: &[u32], sizes: &mut [u32], starts: &mut [u32])
 }
 
 // The blocks of an alignment, by its start, counted from 0, and its ops: their sizes, and where they start, counted from the alignment's start. Refusals 3, 14, 4, 6.
-pub fn bed_blocks(start: i32, ops: &[u32], sizes: &mut [u32], starts: &mut [u32]) -> Bed
+pub fn bed_blocks(start: i32, ops: &[u32], sizes: &mut [u32], starts: &mut [u32]) -> Answer<Bed>
     ensures { SettledTwo (bed_blocks start ops.now sizes.old starts.old) result sizes.new starts.new }
 {
     if oplist::MOST_OPS < ops.len() {
-        return Bed::Refused(Refusal::TooManyOps);
+        return Err(Refusal::TooManyOps);
     }
     if start < 0 {
-        return Bed::Refused(Refusal::NoBlocks);
+        return Err(Refusal::NoBlocks);
     }
-    let Measured::Blocks(n, refs) = bed_walk::measure(ops) else {
-        return Bed::Refused(Refusal::NoBlocks);
+    let Some(Measured { blocks: n, refs }) = bed_walk::measure(ops) else {
+        return Err(Refusal::NoBlocks);
     };
     let at = signed::natural_of(start);
     let end = at + refs;
     if 2147483647 < end {
-        return Bed::Refused(Refusal::Overflow);
+        return Err(Refusal::Overflow);
     }
     if sizes.len() < n {
-        return Bed::Refused(Refusal::NoRoom);
+        return Err(Refusal::NoRoom);
     }
     if starts.len() < n {
-        return Bed::Refused(Refusal::NoRoom);
+        return Err(Refusal::NoRoom);
     }
     write(ops, sizes, starts);
-    Bed::Blocks(at as u32, end as u32, n as u32)
+    Ok(Bed { chrom_start: at as u32, chrom_end: end as u32, block_count: n as u32 })
 }

@@ -1,5 +1,7 @@
 -- Which case of the answer a call's tests lead to, and what the measuring pass tells of a list.
 use Prim.Native.Nat.{ℕ, ◌+◌, ◌≤◌, ◌<◌}
+use Rattle.std.specs.Prelude.{Ok, Err, Some, None}
+use Rattle.answers.specs.Answer.{Answer}
 use mathlib.Core.Path.{◌≡◌, refl}
 use mathlib.Core.Bool.{Bool, true, false, cond, ◌||◌}
 use mathlib.Core.List.{List}
@@ -20,20 +22,19 @@ use Rattle.bed_rules.specs.Blocks.{blocks}
 use Rattle.bed_rules.specs.Bed.{sizes_of, starts_of, unfit, chrom_end, bed_from, bed_blocks}
 use Rattle.bed_rules.specs.InnerWalk.{measured}
 use Rattle.bed_rules.specs.declared.Bed.{Bed}
-use Rattle.bed_rules.specs.declared.Bed.TheVariants.{Blocks, Refused}
 use Rattle.bed_rules.specs.declared.Measured.{Measured}
 
 module _ (start : ℤ) (xs d e : List ℕ) where
-  pub too_many : most_ops < length xs → bed_blocks start xs d e ≡ keeps_both (Refused TooManyOps) d e
+  pub too_many : most_ops < length xs → bed_blocks start xs d e ≡ keeps_both (Err TooManyOps) d e
   unfolding bed_blocks
   too_many h = simp (lt-ltb most_ops (length xs) h)
 
-  pub below-zero : length xs ≤ most_ops → lt_z start (pos 0) ≡ true → bed_blocks start xs d e ≡ keeps_both (Refused NoBlocks) d e
+  pub below-zero : length xs ≤ most_ops → lt_z start (pos 0) ≡ true → bed_blocks start xs d e ≡ keeps_both (Err NoBlocks) d e
   unfolding bed_blocks
   below-zero h t = simp (le-ltb most_ops (length xs) h, t)
 
   module _ (h : length xs ≤ most_ops) (t : lt_z start (pos 0) ≡ false) where
-    pub not-fit : unfit xs ≡ true → bed_blocks start xs d e ≡ keeps_both (Refused NoBlocks) d e
+    pub not-fit : unfit xs ≡ true → bed_blocks start xs d e ≡ keeps_both (Err NoBlocks) d e
     unfolding bed_blocks
     not-fit u = simp (le-ltb most_ops (length xs) h, t, u)
 
@@ -42,37 +43,37 @@ module _ (start : ℤ) (xs d e : List ℕ) where
     fit u = simp (le-ltb most_ops (length xs) h, t, u)
 
 module _ (at : ℕ) (xs d e : List ℕ) where
-  pub past_end : 2147483647 < chrom_end at xs → bed_from at xs d e ≡ keeps_both (Refused Overflow) d e
+  pub past_end : 2147483647 < chrom_end at xs → bed_from at xs d e ≡ keeps_both (Err Overflow) d e
   unfolding bed_from
   past_end h = simp (lt-ltb 2147483647 (chrom_end at xs) h)
 
   module _ (h : chrom_end at xs ≤ 2147483647) where
-    pub no-room-first : length d < length (blocks xs) → bed_from at xs d e ≡ keeps_both (Refused NoRoom) d e
+    pub no-room-first : length d < length (blocks xs) → bed_from at xs d e ≡ keeps_both (Err NoRoom) d e
     unfolding bed_from
     no-room-first l = simp (le-ltb 2147483647 (chrom_end at xs) h, lt-ltb (length d) (length (blocks xs)) l)
 
     module _ (f : length (blocks xs) ≤ length d) where
-      pub no-room-second : length e < length (blocks xs) → bed_from at xs d e ≡ keeps_both (Refused NoRoom) d e
+      pub no-room-second : length e < length (blocks xs) → bed_from at xs d e ≡ keeps_both (Err NoRoom) d e
       unfolding bed_from
       no-room-second l = simp (le-ltb 2147483647 (chrom_end at xs) h, le-ltb (length d) (length (blocks xs)) f, lt-ltb (length e) (length (blocks xs)) l)
 
       pub done : length (blocks xs) ≤ length e
-          → bed_from at xs d e ≡ record { answer = Blocks at (chrom_end at xs) (length (blocks xs)); first = splice d 0 (sizes_of (blocks xs)); second = splice e 0 (starts_of (blocks xs)) }
+          → bed_from at xs d e ≡ record { answer = Ok (record { chrom_start = at; chrom_end = chrom_end at xs; block_count = length (blocks xs) }); first = splice d 0 (sizes_of (blocks xs)); second = splice e 0 (starts_of (blocks xs)) }
       unfolding bed_from
       done g = simp (le-ltb 2147483647 (chrom_end at xs) h, le-ltb (length d) (length (blocks xs)) f, le-ltb (length e) (length (blocks xs)) g)
 
 -- an answer was not refused
-pub answered : (start : ℤ) (xs d e : List ℕ) (at end n : ℕ) → (bed_blocks start xs d e).answer ≡ Blocks at end n → (unfit xs ≡ false) × (end ≡ chrom_end at xs)
+pub answered : (start : ℤ) (xs d e : List ℕ) (at end n : ℕ) → (bed_blocks start xs d e).answer ≡ Ok (record { chrom_start = at; chrom_end = end; block_count = n }) → (unfit xs ≡ false) × (end ≡ chrom_end at xs)
 unfolding bed_blocks bed_from
 answered start xs d e at end n =
     go (ltb most_ops (length xs)) (lt_z start (pos 0)) (unfit xs) (ltb 2147483647 (chrom_end (natural start) xs)) (ltb (length d) (length (blocks xs)) || ltb (length e) (length (blocks xs)))
   where
     go : (s t u v w : Bool)
-        → (cond {A = OutcomeTwo Bed} s (keeps_both (Refused TooManyOps) d e)
-        (cond (t || u) (keeps_both (Refused NoBlocks) d e)
-        (cond v (keeps_both (Refused Overflow) d e)
-        (cond w (keeps_both (Refused NoRoom) d e)
-        (record { answer = Blocks (natural start) (chrom_end (natural start) xs) (length (blocks xs)); first = splice d 0 (sizes_of (blocks xs)); second = splice e 0 (starts_of (blocks xs)) }))))).answer ≡ Blocks at end n
+        → (cond {A = OutcomeTwo (Answer Bed)} s (keeps_both (Err TooManyOps) d e)
+        (cond (t || u) (keeps_both (Err NoBlocks) d e)
+        (cond v (keeps_both (Err Overflow) d e)
+        (cond w (keeps_both (Err NoRoom) d e)
+        (record { answer = Ok (record { chrom_start = natural start; chrom_end = chrom_end (natural start) xs; block_count = length (blocks xs) }); first = splice d 0 (sizes_of (blocks xs)); second = splice e 0 (starts_of (blocks xs)) }))))).answer ≡ Ok (record { chrom_start = at; chrom_end = end; block_count = n })
         → (u ≡ false) × (end ≡ chrom_end at xs)
     go true t u v w a = never (cc)
     go false true u v w a = never (cc)
@@ -82,31 +83,31 @@ answered start xs d e at end n =
     go false false false false false a = let p : natural start ≡ at = cc in let q : chrom_end (natural start) xs ≡ end = cc in (refl, omega arith)
 
 -- an answer by the numbers that the call has
-pub same_answer : (xs : List ℕ) {n refs : ℕ} (at : ℕ) → refs ≡ sum_of ref_len xs → n ≡ length (blocks xs) → Blocks at (at + refs) n ≡ Blocks at (chrom_end at xs) (length (blocks xs))
+pub same_answer : (xs : List ℕ) {n refs : ℕ} (at : ℕ) → refs ≡ sum_of ref_len xs → n ≡ length (blocks xs) → (Ok (record { chrom_start = at; chrom_end = at + refs; block_count = n })) ≡ Ok (record { chrom_start = at; chrom_end = chrom_end at xs; block_count = length (blocks xs) })
 same_answer xs at e f = rw (e, f) refl
 
 -- ---- the measuring pass
 
-pub measured_not : (xs : List ℕ) → unfit xs ≡ true → measured xs ≡ Measured.Nothing
+pub measured_not : (xs : List ℕ) → unfit xs ≡ true → measured xs ≡ None
 unfolding measured
 measured_not xs u = rw u refl
 
-pub measured_are : (xs : List ℕ) → unfit xs ≡ false → (n refs : ℕ) → n ≡ length (blocks xs) → refs ≡ sum_of ref_len xs → Measured.Blocks n refs ≡ measured xs
+pub measured_are : (xs : List ℕ) → unfit xs ≡ false → (n refs : ℕ) → n ≡ length (blocks xs) → refs ≡ sum_of ref_len xs → (Some (record { blocks = n; refs = refs })) ≡ measured xs
 unfolding measured
 measured_are xs u n refs e f = rw (u, e, f) refl
 
-pub told_nothing : (xs : List ℕ) → measured xs ≡ Measured.Nothing → unfit xs ≡ true
+pub told_nothing : (xs : List ℕ) → measured xs ≡ None → unfit xs ≡ true
 unfolding measured
 told_nothing xs = go (unfit xs)
   where
-    go : (t : Bool) → cond t Measured.Nothing (Measured.Blocks (length (blocks xs)) (sum_of ref_len xs)) ≡ Measured.Nothing → t ≡ true
+    go : (t : Bool) → cond t None (Some (record { blocks = length (blocks xs); refs = sum_of ref_len xs })) ≡ None → t ≡ true
     go true e = refl
     go false e = never (cc)
 
-pub told_blocks : (xs : List ℕ) (n refs : ℕ) → measured xs ≡ Measured.Blocks n refs → (unfit xs ≡ false) × (n ≡ length (blocks xs)) × (refs ≡ sum_of ref_len xs)
+pub told_blocks : (xs : List ℕ) (n refs : ℕ) → measured xs ≡ Some (record { blocks = n; refs = refs }) → (unfit xs ≡ false) × (n ≡ length (blocks xs)) × (refs ≡ sum_of ref_len xs)
 unfolding measured
 told_blocks xs n refs = go (unfit xs)
   where
-    go : (t : Bool) → cond t Measured.Nothing (Measured.Blocks (length (blocks xs)) (sum_of ref_len xs)) ≡ Measured.Blocks n refs → (t ≡ false) × (n ≡ length (blocks xs)) × (refs ≡ sum_of ref_len xs)
+    go : (t : Bool) → cond t None (Some (record { blocks = length (blocks xs); refs = sum_of ref_len xs })) ≡ Some (record { blocks = n; refs = refs }) → (t ≡ false) × (n ≡ length (blocks xs)) × (refs ≡ sum_of ref_len xs)
     go true e = never (cc)
     go false e = (refl, cc, cc)

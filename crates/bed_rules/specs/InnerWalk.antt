@@ -1,5 +1,6 @@
 -- What the functions of `bed` go by: the blocks of what is left of a list behind the stretch that is open there, by its start and its size so far; and whether 14 is due.
 use Rattle.std.specs.Prelude.{ℕ, ◌+◌, Bool, true, cond, List, [], ◌∷◌, ◌++◌, eqb, length}
+use Rattle.std.specs.Prelude.{Some, None, Option}
 use Rattle.lists.specs.Lists.{sum_of}
 use Rattle.sam.specs.Op.{ref_len}
 use Rattle.bed_rules.specs.Blocks.{is_skip, Block, blocks}
@@ -22,5 +23,5 @@ unfit_from n size (o ∷ xs) =
     cond (is_skip o) (cond (eqb (n + size) 0) true (unfit_from (n + length (block_of 0 size)) 0 xs)) (unfit_from n (size + ref_len o) xs)
 
 -- what the measuring pass tells of a list
-unfoldable pub measured : List ℕ → Measured
-measured xs = cond (unfit xs) Measured.Nothing (Measured.Blocks (length (blocks xs)) (sum_of ref_len xs))
+unfoldable pub measured : List ℕ → Option Measured
+measured xs = cond (unfit xs) None (Some (record { blocks = length (blocks xs); refs = sum_of ref_len xs }))

@@ -5,14 +5,15 @@ use answers::Refusal;
 
 // chromStart, chromEnd and blockCount, or the refusal.
 #[derive(Clone, Copy)]
-pub enum Bed {
-    Blocks(u32, u32, u32),
-    Refused(Refusal),
+pub struct Bed {
+    pub chrom_start: u32,
+    pub chrom_end: u32,
+    pub block_count: u32,
 }
 
 // How many blocks a list has, and its reference length; or no line can be made of it.
 #[derive(Clone, Copy)]
-pub enum Measured {
-    Blocks(usize, u64),
-    Nothing,
+pub struct Measured {
+    pub blocks: usize,
+    pub refs: u64,
 }

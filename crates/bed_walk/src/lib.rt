@@ -65,7 +65,7 @@ fn is_early(walk: Walk, op: u32) -> bool
 }
 
 // The measuring pass.
-pub fn measure(ops: &[u32]) -> Measured
+pub fn measure(ops: &[u32]) -> Option<Measured>
     requires { length ops.now ≤ 65535 }
     ensures value { result ≡ measured ops.now }
     ensures by_index { (n refs : ℕ) → result ≡ Blocks n refs → (n ≤ 65536) × (refs ≤ 17592186044416) }
@@ -79,13 +79,13 @@ pub fn measure(ops: &[u32]) -> Measured
     while i < ops.len() {
         let op = ops[i];
         if is_early(walk, op) {
-            return Measured::Nothing;
+            return None;
         }
         walk = pass(walk, op);
         i += 1;
     }
     if walk.size == 0 {
-        return Measured::Nothing;
+        return None;
     }
-    Measured::Blocks(walk.n + 1, walk.start + walk.size)
+    Some(Measured { blocks: walk.n + 1, refs: walk.start + walk.size })
 }

@@ -9,6 +9,7 @@ ghost use Rattle.lookup_rules.specs.Lookup.{tell_found};
 ghost use Rattle.overlap_rules.specs.Overlap.{tell_overhang};
 ghost use Rattle.border.specs.Border.{position_of, two_of, lookup_of, blocks_of};
 
+use answers::Answer;
 use bed_rules::Bed;
 use border::{ToldBlocks, ToldLookup, ToldPosition, ToldTwo};
 use clip_rules::Clipped;
@@ -17,26 +18,26 @@ use lookup_rules::Found;
 use overlap_rules::Overhang;
 
 // A position, unmapped, or no ops.
-pub fn told_unclipped(answer: Unclipped) -> ToldPosition
+pub fn told_unclipped(answer: Answer<Unclipped>) -> ToldPosition
     ensures { result ≡ position_of (tell_unclipped answer) }
 {
     match answer {
-        Unclipped::At(p) => ToldPosition {
+        Ok(Unclipped::At(p)) => ToldPosition {
             refusal: 0,
             which: 0,
             value: p.0,
         },
-        Unclipped::Unmapped => ToldPosition {
+        Ok(Unclipped::Unmapped) => ToldPosition {
             refusal: 0,
             which: 1,
             value: 0,
         },
-        Unclipped::NoOps => ToldPosition {
+        Ok(Unclipped::NoOps) => ToldPosition {
             refusal: 0,
             which: 2,
             value: 0,
         },
-        Unclipped::Refused(why) => ToldPosition {
+        Err(why) => ToldPosition {
             refusal: answers::number(why),
             which: 0,
             value: 0,
@@ -45,12 +46,12 @@ pub fn told_unclipped(answer: Unclipped) -> ToldPosition
 }
 
 // The ops written and the count.
-pub fn told_clipped(answer: Clipped) -> ToldTwo
+pub fn told_clipped(answer: Answer<Clipped>) -> ToldTwo
     ensures { result ≡ two_of (tell_clipped answer) }
 {
     match answer {
-        Clipped::Done(n, count) => border::two(n, count),
-        Clipped::Refused(why) => border::refused_two(why),
+        Ok(Clipped { written: n, lost: count }) => border::two(n, count),
+        Err(why) => border::refused_two(why),
     }
 }
 
@@ -81,27 +82,27 @@ pub fn told_found(answer: Found) -> ToldLookup
 }
 
 // The overhang and the ops written.
-pub fn told_overhang(answer: Overhang) -> ToldTwo
+pub fn told_overhang(answer: Answer<Overhang>) -> ToldTwo
     ensures { result ≡ two_of (tell_overhang answer) }
 {
     match answer {
-        Overhang::Bases(bases, written) => border::two(bases, written),
-        Overhang::Refused(why) => border::refused_two(why),
+        Ok(Overhang { bases, written }) => border::two(bases, written),
+        Err(why) => border::refused_two(why),
     }
 }
 
 // chromStart, chromEnd and blockCount.
-pub fn told_blocks(answer: Bed) -> ToldBlocks
+pub fn told_blocks(answer: Answer<Bed>) -> ToldBlocks
     ensures { result ≡ blocks_of (tell_bed answer) }
 {
     match answer {
-        Bed::Blocks(start, end, n) => ToldBlocks {
+        Ok(Bed { chrom_start: start, chrom_end: end, block_count: n }) => ToldBlocks {
             refusal: 0,
             chrom_start: start,
             chrom_end: end,
             block_count: n,
         },
-        Bed::Refused(why) => ToldBlocks {
+        Err(why) => ToldBlocks {
             refusal: answers::number(why),
             chrom_start: 0,
             chrom_end: 0,

@@ -5,6 +5,7 @@ ghost use Rattle.std.specs.Prelude.{◌≡◌};
 ghost use Rattle.receive_rules.specs.Receiving.{part_number, tell_received};
 ghost use Rattle.border.specs.Border.{count_of};
 
+use answers::Answer;
 use border::ToldCount;
 use receive_rules::{Part, Received};
 
@@ -23,12 +24,12 @@ fn part_number(part: Part) -> u64
 }
 
 // 0 for accepted, or the number of the part that differs.
-pub fn told_received(answer: Received) -> ToldCount
+pub fn told_received(answer: Answer<Received>) -> ToldCount
     ensures { result ≡ count_of (tell_received answer) }
 {
     match answer {
-        Received::Accepted => border::told_count(Ok(0)),
-        Received::Differs(part) => border::told_count(Ok(part_number(part))),
-        Received::Refused(why) => border::told_count(Err(why)),
+        Ok(Received::Accepted) => border::told_count(Ok(0)),
+        Ok(Received::Differs(part)) => border::told_count(Ok(part_number(part))),
+        Err(why) => border::told_count(Err(why)),
     }
 }

@@ -11,7 +11,7 @@ use clip_rules::Clipped;
 use oplist::Ops;
 
 // Clips `amount` bases at the start of a lent list: the ops written, and the reference length taken. Refusals 3, 8, 19, 6.
-pub fn clip_cigar_start_raw(ops: &[u32], amount: u64, out: &mut [u32]) -> Clipped
+pub fn clip_cigar_start_raw(ops: &[u32], amount: u64, out: &mut [u32]) -> Answer<Clipped>
     ensures { Settled (clipped_start ops.now amount out.old) result out.new }
 {
     start_up_to(oplist::MOST_OPS, ops, amount, out)
@@ -25,7 +25,7 @@ pub fn clip_cigar_end_raw(ops: &[u32], amount: u64, out: &mut [u32]) -> Answer<u
 }
 
 // And of a long list: at the start,
-pub fn long_clip_cigar_start_raw(ops: &[u32], amount: u64, out: &mut [u32]) -> Clipped
+pub fn long_clip_cigar_start_raw(ops: &[u32], amount: u64, out: &mut [u32]) -> Answer<Clipped>
     ensures { Settled (long_start ops.now amount out.old) result out.new }
 {
     start_up_to(oplist::MOST_LONG_OPS, ops, amount, out)
@@ -39,12 +39,12 @@ pub fn long_clip_cigar_end_raw(ops: &[u32], amount: u64, out: &mut [u32]) -> Ans
 }
 
 // A clip at the start of a lent list of at most `limit` ops.
-fn start_up_to(limit: usize, ops: &[u32], amount: u64, out: &mut [u32]) -> Clipped
+fn start_up_to(limit: usize, ops: &[u32], amount: u64, out: &mut [u32]) -> Answer<Clipped>
     requires { limit ≤ 4294967295 }
     ensures { Settled (start_up_to limit ops.now amount out.old) result out.new }
 {
     if limit < ops.len() {
-        return Clipped::Refused(Refusal::TooManyOps);
+        return Err(Refusal::TooManyOps);
     }
     let list = oplist::lent(ops);
     clip_start(ops, &[], list, limit, amount, out)
@@ -63,11 +63,11 @@ fn end_up_to(limit: usize, ops: &[u32], amount: u64, out: &mut [u32]) -> Answer<
 }
 
 // Clips `amount` bases at the start of a record's ops, whose number is no matter. Refusals 1, 8, 19, 6.
-pub fn clip_cigar_start(bam: &[u8], amount: u64, out: &mut [u32]) -> Clipped
+pub fn clip_cigar_start(bam: &[u8], amount: u64, out: &mut [u32]) -> Answer<Clipped>
     ensures { Settled (record_start bam.now amount out.old) result out.new }
 {
     if bam.len() < 32 {
-        return Clipped::Refused(Refusal::ShortRecord);
+        return Err(Refusal::ShortRecord);
     }
     let list = oplist::of_record(bam);
     let limit = oplist::count(&[], bam, list);
@@ -94,7 +94,7 @@ pub fn clip_start(
     limit: usize,
     amount: u64,
     out: &mut [u32],
-) -> Clipped
+) -> Answer<Clipped>
     ensures { Settled (clipped_up_to limit (ops_of words.now rec.now list) amount true out.old) result out.new }
 {
     clip_write::clip_ops(words, rec, list, limit, amount, true, out)
@@ -115,11 +115,11 @@ pub fn clip_end(
 }
 
 // An answer without its count.
-fn without_count(answer: Clipped) -> Answer<u64>
+fn without_count(answer: Answer<Clipped>) -> Answer<u64>
     ensures { result ≡ uncounted answer }
 {
     match answer {
-        Clipped::Done(n, _) => Ok(n),
-        Clipped::Refused(why) => Err(why),
+        Ok(Clipped { written: n, lost: _ }) => Ok(n),
+        Err(why) => Err(why),
     }
 }

@@ -21,7 +21,6 @@ use Rattle.clip_rules.specs.Clipping.{taking, Cut, hard_of, soft_of, clip}
 use Rattle.answers.specs.Settled.{Outcome}
 use Rattle.clip_rules.specs.Answer.{clipped_ops, clipped_count, clippable, is_beyond, clipped_into, clipped_up_to, clipped_record, written, without_count, start_up_to, end_up_to, record_start, record_end}
 use Rattle.clip_rules.specs.declared.Clipped.{Clipped}
-use Rattle.clip_rules.specs.declared.Clipped.TheVariants.{Done}
 use Rattle.clip_rules.proofs.AnswerLaws.{within, accepted}
 use Rattle.clip_rules.proofs.BeyondLaws.{some_beyond, not_within}
 use Rattle.clip_laws.specs.Demand3.{is_inner, kept_len, Shaped, Takes, most, survives, Clipper, Leaves, StartGives, EndGives, Given, Clips, Further, StartOnce, StartThen, Demand3Start, EndOnce, EndThen, Demand3End, Itself, InRecord}
@@ -232,7 +231,7 @@ module _ {A : Type 0} (f : Clipper A) (s : List ℕ) (a : ℕ) {x y : A} (xs ys 
       let d = xs ++ ys in
       sym (take_written d xs) ∙ ap (λ (o : Outcome A). take (length xs) o.left) same ∙ ap (λ (k : ℕ). take k (splice d 0 ys)) p ∙ take_written d ys
 
-pub same_start : (f : Clipper Clipped) (s : List ℕ) (a : ℕ) (xs ys : List ℕ) (m n : ℕ) → StartGives f s a xs m → StartGives f s a ys n → (xs ≡ ys) × (m ≡ n)
+pub same_start : (f : Clipper (Answer Clipped)) (s : List ℕ) (a : ℕ) (xs ys : List ℕ) (m n : ℕ) → StartGives f s a xs m → StartGives f s a ys n → (xs ≡ ys) × (m ≡ n)
 same_start f s a xs ys m n X Y =
     let e = same_answer f s a xs ys X Y in
     let p : length xs ≡ length ys = cc in
@@ -277,21 +276,21 @@ less a b le G = record { holds = G.holds; takes = G.takes; within = omega (arith
 -- ---- DEMAND 3 at the start and at the end
 
 -- the answers of the rule at the start
-abbrev start_tells : ℕ → ℕ → Clipped
-start_tells n count = Done n count
+abbrev start_tells : ℕ → ℕ → Answer Clipped
+start_tells n count = Ok (record { written = n; lost = count })
 
 abbrev end_tells : ℕ → ℕ → Answer ℕ
 end_tells n count = Ok n
 
 -- the rules of a call at the start, and at the end
-abbrev pub StartRules : ℕ → (List ℕ → List ℕ → Type 0) → Clipper Clipped → Type 0
+abbrev pub StartRules : ℕ → (List ℕ → List ℕ → Type 0) → Clipper (Answer Clipped) → Type 0
 StartRules limit Holds f = Rules start_tells limit Holds true f
 
 abbrev pub EndRules : ℕ → (List ℕ → List ℕ → Type 0) → Clipper (Answer ℕ) → Type 0
 EndRules limit Holds f = Rules end_tells limit Holds false f
 
-pub start_then : (limit : ℕ) (Holds : List ℕ → List ℕ → Type 0) (f : Clipper Clipped) → StartRules limit Holds f
-    → (Left : List ℕ → List ℕ → Type 0) (g : Clipper Clipped) → StartRules limit Left g → StartThen limit Holds f Left g
+pub start_then : (limit : ℕ) (Holds : List ℕ → List ℕ → Type 0) (f : Clipper (Answer Clipped)) → StartRules limit Holds f
+    → (Left : List ℕ → List ℕ → Type 0) (g : Clipper (Answer Clipped)) → StartRules limit Left g → StartThen limit Holds f Left g
 start_then limit Holds f rules Left g then-rules s xs a b G ys first A zs whole B F t K =
     let p = same_start f s a ys (clipped_ops xs a true) first (clipped_count xs a true) A (by-rule start_tells limit Holds true f rules xs s a (less a b F.le G)) in
     let q = same_start f s b zs (clipped_ops xs b true) whole (clipped_count xs b true) B (by-rule start_tells limit Holds true f rules xs s b G) in
@@ -303,7 +302,7 @@ start_then limit Holds f rules Left g then-rules s xs a b G ys first A zs whole 
       counts_add = ap (λ (k : ℕ). k + clipped_count (clipped_ops xs a true) b true) p.1 ∙ (rule-twice xs true G.takes a b F').1 ∙ sym q.1;
     }
 
-pub start_demand3 : (limit : ℕ) (Holds : List ℕ → List ℕ → Type 0) (f : Clipper Clipped) → StartRules limit Holds f → Demand3Start limit Holds f
+pub start_demand3 : (limit : ℕ) (Holds : List ℕ → List ℕ → Type 0) (f : Clipper (Answer Clipped)) → StartRules limit Holds f → Demand3Start limit Holds f
 start_demand3 limit Holds f rules = record { once = once_is; twice = start_then limit Holds f rules Holds f rules }
   where
     once_is : (s xs : List ℕ) (a : ℕ) → Given limit Holds true s xs a → StartOnce f s xs a

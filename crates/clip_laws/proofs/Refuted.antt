@@ -82,7 +82,7 @@ given_end = record { holds = refl; takes = matched_taken; within = lit≤ tt }
 
 -- ---- "A clipper that copies its list breaks demand 3's hard-clip floor"
 
-abbrev copies : Clipper Clipped
+abbrev copies : Clipper (Answer Clipped)
 copies xs a d = written xs 0 d
 
 pub copier : Demand3Start most_ops Itself copies → ⊥
@@ -108,7 +108,7 @@ end_copier D =
 
 -- ---- "One that clips honestly once and then only copies breaks [..] demand 3 for b beyond the first cut": 1H1M, which 2M by 1 leaves, by 2
 
-abbrev once_only : Clipper Clipped
+abbrev once_only : Clipper (Answer Clipped)
 once_only xs a d = cond (leb 1 (outer_hard xs)) (written xs 0 d) (clipped_up_to most_ops xs a true d)
 
 pub honest_once : Demand3Start most_ops Itself once_only → ⊥
@@ -122,7 +122,7 @@ honest_once D =
 
 -- ---- "An invented count fails the lost reference length": the amount for the count
 
-abbrev invents : Clipper Clipped
+abbrev invents : Clipper (Answer Clipped)
 invents xs a d = written (clipped_ops xs a true) a d
 
 pub invented : Demand3Start most_ops Itself invents → ⊥
@@ -140,13 +140,13 @@ unfolding outer_hard leading sum_of
 zeros_soft zero = refl
 zeros_soft (suc n) = refl
 
-pub constant : (r : Clipped) → Demand3Start most_ops Itself (λ xs a d. keeps r d) → ⊥
+pub constant : (r : Answer Clipped) → Demand3Start most_ops Itself (λ xs a d. keeps r d) → ⊥
 constant r D =
     let O = D.once matched matched 1 given in
     let n = length O.ys in
     let d : List ℕ = replicate n 0 in
     let l : length d ≡ n = length-replicate n 0 in
-    let m : d ≡ splice d 0 O.ys = ap (λ (o : Outcome Clipped). o.left) (O.gives d (omega arith)) in
+    let m : d ≡ splice d 0 O.ys = ap (λ (o : Outcome (Answer Clipped)). o.left) (O.gives d (omega arith)) in
     let y : O.ys ≡ d = sym (take_written d O.ys) ∙ ap (take n) (sym m) ∙ take_all n d (omega arith) in
     let f = ap outer_hard y in
     let z = zeros_soft n in

@@ -10,7 +10,6 @@ use Rattle.ops.specs.Ops.{read_len}
 use Rattle.clip_run_rules.specs.Clips.{is_hard, is_soft, hard_len, outer_hard, inside, leading_clips}
 use Rattle.answers.specs.Settled.{Outcome}
 use Rattle.clip_rules.specs.declared.Clipped.{Clipped}
-use Rattle.clip_rules.specs.declared.Clipped.TheVariants.{Done}
 
 -- "inner ops (M, I, D, N, P, =, X)"
 unfoldable pub is_inner : ℕ → Bool
@@ -76,8 +75,8 @@ abbrev pub Leaves : {A : Type 0} → Clipper A → List ℕ → ℕ → A → Li
 Leaves f s amount answer ys = (d : List ℕ) → length ys ≤ length d → f s amount d ≡ record { answer = answer; left = splice d 0 ys }
 
 -- a call at the start answers the ops written and a count, one at the end the ops written
-abbrev pub StartGives : Clipper Clipped → List ℕ → ℕ → List ℕ → ℕ → Type 0
-StartGives f s amount ys count = Leaves f s amount (Done (length ys) count) ys
+abbrev pub StartGives : Clipper (Answer Clipped) → List ℕ → ℕ → List ℕ → ℕ → Type 0
+StartGives f s amount ys count = Leaves f s amount (Ok (record { written = length ys; lost = count })) ys
 
 abbrev pub EndGives : Clipper (Answer ℕ) → List ℕ → ℕ → List ℕ → Type 0
 EndGives f s amount ys = Leaves f s amount (Ok (length ys)) ys
@@ -109,7 +108,7 @@ pub record Further (start : Bool) (xs : List ℕ) (a b : ℕ) (ys : List ℕ) : 
 -- ---- DEMAND 3 at the start
 
 -- one call, by a, on s, which holds the list xs
-pub record StartOnce (f : Clipper Clipped) (s xs : List ℕ) (a : ℕ) : Type 0 where
+pub record StartOnce (f : Clipper (Answer Clipped)) (s xs : List ℕ) (a : ℕ) : Type 0 where
   pub ys : List ℕ
   pub count : ℕ
   pub gives : StartGives f s a ys count
@@ -118,7 +117,7 @@ pub record StartOnce (f : Clipper Clipped) (s xs : List ℕ) (a : ℕ) : Type 0 
   pub lost : count + sum_of ref_len ys ≡ sum_of ref_len xs
 
 -- a second call, by b, on t, which holds the list that the first call left; b alone answers zs and the count whole
-pub record StartTwice (f : Clipper Clipped) (t : List ℕ) (b first : ℕ) (zs : List ℕ) (whole : ℕ) : Type 0 where
+pub record StartTwice (f : Clipper (Answer Clipped)) (t : List ℕ) (b first : ℕ) (zs : List ℕ) (whole : ℕ) : Type 0 where
   pub second : ℕ
   -- "a then b gives b's list,
   pub then_b : StartGives f t b zs second
@@ -126,7 +125,7 @@ pub record StartTwice (f : Clipper Clipped) (t : List ℕ) (b first : ℕ) (zs :
   pub counts_add : first + second ≡ whole
 
 -- two calls of f: a answered ys and first, b zs and whole; then a call of a clipper g, which is f, or takes what f leaves
-abbrev pub StartThen : ℕ → (List ℕ → List ℕ → Type 0) → Clipper Clipped → (List ℕ → List ℕ → Type 0) → Clipper Clipped → Type 0
+abbrev pub StartThen : ℕ → (List ℕ → List ℕ → Type 0) → Clipper (Answer Clipped) → (List ℕ → List ℕ → Type 0) → Clipper (Answer Clipped) → Type 0
 StartThen limit Holds f Left g =
     (s xs : List ℕ) (a b : ℕ) → Given limit Holds true s xs b
     → (ys : List ℕ) (first : ℕ) → StartGives f s a ys first
@@ -134,7 +133,7 @@ StartThen limit Holds f Left g =
     → Further true xs a b ys
     → (t : List ℕ) → Left t ys → StartTwice g t b first zs whole
 
-pub record Demand3Start (limit : ℕ) (Holds : List ℕ → List ℕ → Type 0) (f : Clipper Clipped) : Type 0 where
+pub record Demand3Start (limit : ℕ) (Holds : List ℕ → List ℕ → Type 0) (f : Clipper (Answer Clipped)) : Type 0 where
   pub once : (s xs : List ℕ) (a : ℕ) → Given limit Holds true s xs a → StartOnce f s xs a
   pub twice : StartThen limit Holds f Holds f
 

@@ -1,5 +1,6 @@
 -- Which case of the answer a call's tests lead to, and what a plan makes of it.
 use mathlib.Core.Path.{◌≡◌, refl, ap, ◌∙◌}
+use Rattle.std.specs.Prelude.{Ok}
 use Rattle.std.specs.Prelude.{Err}
 use Rattle.answers.specs.Answer.{Answer}
 use mathlib.Core.Bool.{Bool, true, false}
@@ -21,7 +22,6 @@ use Rattle.clip_rules.specs.Clipping.{Cut, clip}
 use Rattle.clip_rules.specs.InnerPlan.{PlanIs, PlannedIs}
 use Rattle.clip_rules.specs.Answer.{clipped_ops, clipped_count, is_beyond, clipped_into, clipped_up_to, written, uncounted, without_count}
 use Rattle.clip_rules.specs.declared.Clipped.{Clipped}
-use Rattle.clip_rules.specs.declared.Clipped.TheVariants.{Done, Refused}
 
 module _ (xs : List ℕ) (a : ℕ) (b : Bool) (d : List ℕ) where
   -- of a list that is within the limit
@@ -29,15 +29,15 @@ module _ (xs : List ℕ) (a : ℕ) (b : Bool) (d : List ℕ) where
   unfolding clipped_up_to
   within {limit} h = simp (le-ltb limit (length xs) h)
 
-  pub too_long : 268435455 < sum_of len_of xs → clipped_into xs a b d ≡ keeps (Refused TooLong) d
+  pub too_long : 268435455 < sum_of len_of xs → clipped_into xs a b d ≡ keeps (Err TooLong) d
   unfolding clipped_into
   too_long h = simp (lt-ltb 268435455 (sum_of len_of xs) h)
 
-  pub beyond : sum_of len_of xs ≤ 268435455 → is_beyond xs a b ≡ true → clipped_into xs a b d ≡ keeps (Refused AmountBeyond) d
+  pub beyond : sum_of len_of xs ≤ 268435455 → is_beyond xs a b ≡ true → clipped_into xs a b d ≡ keeps (Err AmountBeyond) d
   unfolding clipped_into
   beyond h e = simp (le-ltb 268435455 (sum_of len_of xs) h, e)
 
-  pub no_room : sum_of len_of xs ≤ 268435455 → is_beyond xs a b ≡ false → length d < length (clipped_ops xs a b) → clipped_into xs a b d ≡ keeps (Refused NoRoom) d
+  pub no_room : sum_of len_of xs ≤ 268435455 → is_beyond xs a b ≡ false → length d < length (clipped_ops xs a b) → clipped_into xs a b d ≡ keeps (Err NoRoom) d
   unfolding clipped_into
   no_room h e l = simp (le-ltb 268435455 (sum_of len_of xs) h, e, lt-ltb (length d) (length (clipped_ops xs a b)) l)
 
@@ -62,31 +62,31 @@ module _ (xs : List ℕ) (b : Bool) {a skip heads first second lost : ℕ} (P : 
       omega arith
 
   module _ (d d' : List ℕ) (n : ℕ) (short : sum_of len_of xs ≤ 268435455) (near : is_beyond xs a b ≡ false) (fits : n ≤ length d) (long : n ≡ heads + (length xs - skip)) where
-    done : (ys : List ℕ) → ys ≡ clipped_ops xs a b → d' ≡ splice d 0 ys → Settled (clipped_into xs a b d) (Done n lost) d'
+    done : (ys : List ℕ) → ys ≡ clipped_ops xs a b → d' ≡ splice d 0 ys → Settled (clipped_into xs a b d) (Ok (record { written = n; lost = lost })) d'
     unfolding clipped_count
     done ys e w =
         let l = plan_length in
         let m : n ≡ length (clipped_ops xs a b) = omega arith in
         let k : lost ≡ clipped_count xs a b = ap (λ (c : Cut). c.lost) P.cut_is in
-        settled (accepted xs a b d short near (omega arith) ∙ outcome (ap (λ (i : ℕ). Done i lost) m ∙ ap (Done (length (clipped_ops xs a b))) k) (w ∙ ap (splice d 0) e))
+        settled (accepted xs a b d short near (omega arith) ∙ outcome (ap (λ (i : ℕ). (Ok (record { written = i; lost = lost }))) m ∙ ap ((λ x y. Ok (record { written = x; lost = y })) (length (clipped_ops xs a b))) k) (w ∙ ap (splice d 0) e))
 
-    pub done-start : b ≡ true → d' ≡ splice d 0 (take heads (first ∷ (second ∷ [])) ++ drop skip xs) → Settled (clipped_into xs a b d) (Done n lost) d'
+    pub done-start : b ≡ true → d' ≡ splice d 0 (take heads (first ∷ (second ∷ [])) ++ drop skip xs) → Settled (clipped_into xs a b d) (Ok (record { written = n; lost = lost })) d'
     unfolding clipped_ops
     done-start e w = done (take heads (first ∷ (second ∷ [])) ++ drop skip xs) (rw e (rw e at ops_are)) w
 
-    pub done_end : b ≡ false → d' ≡ splice d 0 (reverse (take heads (first ∷ (second ∷ [])) ++ drop skip (reverse xs))) → Settled (clipped_into xs a b d) (Done n lost) d'
+    pub done_end : b ≡ false → d' ≡ splice d 0 (reverse (take heads (first ∷ (second ∷ [])) ++ drop skip (reverse xs))) → Settled (clipped_into xs a b d) (Ok (record { written = n; lost = lost })) d'
     unfolding clipped_ops
     done_end e w = done (reverse (take heads (first ∷ (second ∷ [])) ++ drop skip (reverse xs))) (rw e (ap reverse (rw e at ops_are))) w
 
 -- a refusal that comes before the plan
-pub unplanned : (limit : ℕ) (xs : List ℕ) (a : ℕ) (b : Bool) (d : List ℕ) {r : Refusal} → PlannedIs limit xs a b (Err r) → clipped_up_to limit xs a b d ≡ keeps (Refused r) d
+pub unplanned : (limit : ℕ) (xs : List ℕ) (a : ℕ) (b : Bool) (d : List ℕ) {r : Refusal} → PlannedIs limit xs a b (Err r) → clipped_up_to limit xs a b d ≡ keeps (Err r) d
 unfolding clipped_up_to
 unplanned limit xs a b d (inl (h, e)) = rw e (simp (lt-ltb limit (length xs) h))
 unplanned limit xs a b d (inr (inl (h, l, e))) = rw e (simp (le-ltb limit (length xs) h) (too_long xs a b d l))
 unplanned limit xs a b d (inr (inr (h, l, m))) = rw m.1 (simp (le-ltb limit (length xs) h) (beyond xs a b d l m.0))
 
 -- an answer without its count
-pub uncounted_settled : {o : Outcome Clipped} {a : Clipped} {r : Answer ℕ} {m : List ℕ} → r ≡ uncounted a → Settled o a m → Settled (without_count o) r m
+pub uncounted_settled : {o : Outcome (Answer Clipped)} {a : Answer Clipped} {r : Answer ℕ} {m : List ℕ} → r ≡ uncounted a → Settled o a m → Settled (without_count o) r m
 uncounted_settled e s = record { answer = e ∙ ap uncounted s.answer; memory = s.memory }
 
 -- with a limit of its own number of ops, no limit is left

@@ -5,9 +5,9 @@ use answers::Refusal;
 
 // The ops written and the count, or the refusal.
 #[derive(Clone, Copy)]
-pub enum Clipped {
-    Done(u64, u64),
-    Refused(Refusal),
+pub struct Clipped {
+    pub written: u64,
+    pub lost: u64,
 }
 
 // A clipped list, as seen from the chosen end: the first `heads` of `first` and `second`, then the

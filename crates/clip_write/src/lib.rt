@@ -7,7 +7,7 @@ ghost use Rattle.oplist.specs.Ops.{ops_of};
 ghost use Rattle.answers.specs.Settled.{Settled};
 ghost use Rattle.clip_rules.specs.Answer.{clipped_up_to};
 
-use answers::Refusal;
+use answers::{Answer, Refusal};
 use clip_rules::{Clipped, Plan};
 use oplist::Ops;
 
@@ -64,22 +64,22 @@ pub fn clip_ops(
     amount: u64,
     start: bool,
     out: &mut [u32],
-) -> Clipped
+) -> Answer<Clipped>
     ensures { Settled (clipped_up_to limit (ops_of words.now rec.now list) amount start out.old) result out.new }
 {
     match clip_plan::plan_clip(words, rec, list, limit, amount, start, false) {
         Ok(p) => {
             let n = p.heads + (oplist::count(words, rec, list) - p.skip);
             if out.len() < n {
-                return Clipped::Refused(Refusal::NoRoom);
+                return Err(Refusal::NoRoom);
             }
             if start {
                 write_start(words, rec, list, p, out);
-                return Clipped::Done(n as u64, p.lost);
+                return Ok(Clipped { written: n as u64, lost: p.lost });
             }
             write_end(words, rec, list, p, out);
-            Clipped::Done(n as u64, p.lost)
+            Ok(Clipped { written: n as u64, lost: p.lost })
         }
-        Err(why) => Clipped::Refused(why),
+        Err(why) => Err(why),
     }
 }

@@ -14,14 +14,13 @@ use Rattle.signed.specs.Whole.{natural}
 use Rattle.answers.specs.Settled.{keeps}
 use Rattle.answers.specs.declared.Refusal.TheVariants.{NoRoom}
 use Rattle.answers.proofs.Unique.{outcome}
-use Rattle.csi_rules.specs.declared.Region.TheVariants.{Over}
 use Rattle.csi_rules.specs.Csi.{served, inside, region_of, filled}
 use Rattle.csi_rules.proofs.Ranges.{levels, within}
 use Rattle.csi_rules.proofs.Cases.{levels_first, region_next, taken}
 use Rattle.csi_levels.specs.InnerLevels.{Sound}
 
 -- a region that is taken
-pub found : (beg end : ℤ) (s d first last : ℕ) → region_of beg end s d ≡ Over first last → Sound d s first last
+pub found : (beg end : ℤ) (s d first last : ℕ) → region_of beg end s d ≡ Ok (record { first = first; last = last }) → Sound d s first last
 found beg end s d first last e = go (served s d) refl (inside s d beg end) refl
   where
     go : (t : Bool) → served s d ≡ t → (u : Bool) → inside s d beg end ≡ u → Sound d s first last

@@ -13,8 +13,8 @@ pub fn csi_reg2bin(beg: i64, end: i64, min_shift: u32, depth: u32) -> Answer<u32
     ensures { result ≡ csi_bin beg end min_shift depth }
 {
     match csi_region::region_of(beg, end, min_shift, depth) {
-        Region::Over(first, last) => Ok(csi_levels::bin_up(depth, min_shift, first, last)),
-        Region::Refused(why) => Err(why),
+        Ok(Region { first, last }) => Ok(csi_levels::bin_up(depth, min_shift, first, last)),
+        Err(why) => Err(why),
     }
 }
 
@@ -23,7 +23,7 @@ pub fn csi_reg2bins(beg: i64, end: i64, min_shift: u32, depth: u32, out: &mut [u
     ensures { Settled (csi_bins beg end min_shift depth out.old) result out.new }
 {
     match csi_region::region_of(beg, end, min_shift, depth) {
-        Region::Over(first, last) => {
+        Ok(Region { first, last }) => {
             let n = csi_levels::count_up(depth, min_shift, first, last);
             if out.len() < n {
                 return Err(Refusal::NoRoom);
@@ -31,6 +31,6 @@ pub fn csi_reg2bins(beg: i64, end: i64, min_shift: u32, depth: u32, out: &mut [u
             csi_levels::put_up(depth, min_shift, first, last, out);
             Ok(n as u64)
         }
-        Region::Refused(why) => Err(why),
+        Err(why) => Err(why),
     }
 }

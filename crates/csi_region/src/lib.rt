@@ -4,7 +4,7 @@
 ghost use Rattle.std.specs.Prelude.{◌≡◌, ◌+◌, ◌*◌, ◌^◌, ◌<◌};
 ghost use Rattle.csi_rules.specs.Csi.{served, inside, region_of};
 
-use answers::Refusal;
+use answers::{Answer, Refusal};
 use csi_rules::Region;
 
 fn power(k: u32) -> u64
@@ -51,14 +51,14 @@ fn is_inside(beg: i64, end: i64, shift: u32, depth: u32) -> bool
 }
 
 // The region's first and last place. Refusals 17 and 18.
-pub fn region_of(beg: i64, end: i64, shift: u32, depth: u32) -> Region
+pub fn region_of(beg: i64, end: i64, shift: u32, depth: u32) -> Answer<Region>
     ensures { result ≡ region_of beg end shift depth }
 {
     if !is_served(shift, depth) {
-        return Region::Refused(Refusal::BadLevels);
+        return Err(Refusal::BadLevels);
     }
     if !is_inside(beg, end, shift, depth) {
-        return Region::Refused(Refusal::BadRegion);
+        return Err(Refusal::BadRegion);
     }
-    Region::Over(signed::natural64(beg), signed::natural64(end) - 1)
+    Ok(Region { first: signed::natural64(beg), last: signed::natural64(end) - 1 })
 }

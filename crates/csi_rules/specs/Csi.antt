@@ -37,16 +37,16 @@ abbrev pub last_place : ℤ → ℕ
 last_place end = natural end - 1
 
 -- the region's first and last place: "17 depth or shift out of range, 18 unless 0 ≤ beg < end ≤ 2^(min_shift + 3 × depth)"
-unfoldable pub region_of : ℤ → ℤ → ℕ → ℕ → Region
+unfoldable pub region_of : ℤ → ℤ → ℕ → ℕ → Answer Region
 region_of beg end s d =
-    cond (not (served s d)) (Region.Refused BadLevels)
-    (cond (not (inside s d beg end)) (Region.Refused BadRegion)
-    (Region.Over (natural beg) (last_place end)))
+    cond (not (served s d)) (Err BadLevels)
+    (cond (not (inside s d beg end)) (Err BadRegion)
+    (Ok (record { first = natural beg; last = last_place end })))
 
 -- `csi_reg2bin`: 17, 18; "start at the finest level, and go up one level, with one level fewer left, while the ends differ"
-abbrev pub bin_in : ℕ → ℕ → Region → Answer ℕ
-bin_in s d (Region.Over first last) = Ok (bin_up d s first last)
-bin_in s d (Region.Refused r) = Err r
+abbrev pub bin_in : ℕ → ℕ → Answer Region → Answer ℕ
+bin_in s d (Ok got) = Ok (bin_up d s got.first got.last)
+bin_in s d (Err r) = Err r
 
 unfoldable pub csi_bin : ℤ → ℤ → ℕ → ℕ → Answer ℕ
 csi_bin beg end s d = bin_in s d (region_of beg end s d)
@@ -57,9 +57,9 @@ filled bins out =
     cond (ltb (length out) (length bins)) (keeps (Err NoRoom) out)
     (record { answer = Ok (length bins); left = splice out 0 bins })
 
-abbrev pub bins_in : ℕ → ℕ → List ℕ → Region → Outcome (Answer ℕ)
-bins_in s d out (Region.Over first last) = filled (bins_up d s first last) out
-bins_in s d out (Region.Refused r) = keeps (Err r) out
+abbrev pub bins_in : ℕ → ℕ → List ℕ → Answer Region → Outcome (Answer ℕ)
+bins_in s d out (Ok got) = filled (bins_up d s got.first got.last) out
+bins_in s d out (Err r) = keeps (Err r) out
 
 unfoldable pub csi_bins : ℤ → ℤ → ℕ → ℕ → List ℕ → Outcome (Answer ℕ)
 csi_bins beg end s d out = bins_in s d out (region_of beg end s d)

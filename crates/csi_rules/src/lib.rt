@@ -5,7 +5,7 @@ use answers::Refusal;
 
 // The first and the last place of a region.
 #[derive(Clone, Copy)]
-pub enum Region {
-    Over(u64, u64),
-    Refused(Refusal),
+pub struct Region {
+    pub first: u64,
+    pub last: u64,
 }

@@ -43,11 +43,11 @@ module _ (b : List ℕ) (h : 32 ≤ length b) where
   pub no_end : (r : Refusal) → lt_z (pos_of b) (pos 0) ≡ false → checked_ref_length b ≡ Err r → alignment_end b ≡ Err r
   no_end r t e = sym (end-at t) ∙ rw e
 
-  pub is-unmapped : is_unmapped (flags_of b) ≡ true → Unmapped ≡ unclipped_of b
+  pub is-unmapped : is_unmapped (flags_of b) ≡ true → (Ok Unmapped) ≡ unclipped_of b
   unfolding unclipped_of
   is-unmapped t = simp (le-ltb (length b) 32 h, t)
 
-  pub no_ops : is_unmapped (flags_of b) ≡ false → has_no_ops b ≡ true → NoOps ≡ unclipped_of b
+  pub no_ops : is_unmapped (flags_of b) ≡ false → has_no_ops b ≡ true → (Ok NoOps) ≡ unclipped_of b
   unfolding unclipped_of
   no_ops t u = simp (le-ltb (length b) 32 h, t, u)
 

@@ -154,11 +154,11 @@ no_ops_is b = go (leb (ops_end b) (length b)) refl
     go false e = rw (lt-ltb (length b) (ops_end b) (leb-false (ops_end b) (length b) e)) (either (eqb (op_count_of b) 0))
 
 -- the sums come to a position or to 4, and to neither of the other two answers
-abbrev is_summed : Unclipped → Bool
-is_summed (Unclipped.At p) = true
-is_summed Unclipped.Unmapped = false
-is_summed Unclipped.NoOps = false
-is_summed (Unclipped.Refused r) = true
+abbrev is_summed : Answer Unclipped → Bool
+is_summed (Ok (Unclipped.At p)) = true
+is_summed (Ok Unclipped.Unmapped) = false
+is_summed (Ok Unclipped.NoOps) = false
+is_summed (Err r) = true
 
 sums_end : (s : Option ℤ) → is_summed (as_unclipped s) ≡ true
 sums_end (Some z) = refl
@@ -168,33 +168,33 @@ sums_only : (s : Option ℤ) (reverse : Bool) (xs : List ℕ) → is_summed (unc
 sums_only (Some at) reverse xs = sums_end (five_prime reverse at xs)
 sums_only None reverse xs = refl
 
-position-is : (s : Option ℤ) (p : Pos1) → as_unclipped s ≡ Unclipped.At p → s ≡ Some p.0
+position-is : (s : Option ℤ) (p : Pos1) → as_unclipped s ≡ (Ok (Unclipped.At p)) → s ≡ Some p.0
 position-is (Some z) p e = let f : record { 0 = z } ≡ p = cc in ap (λ (q : Pos1). Some q.0) f
 position-is None p e = never (cc)
 
 module _ (b : List ℕ) where
-  abbrev rest : Unclipped
+  abbrev rest : Answer Unclipped
   rest = unclipped_at (plus_one (record { 0 = pos_of b })) (is_reverse (flags_of b)) (record_ops b)
 
   rest_summed : is_summed rest ≡ true
   rest_summed = sums_only (plus_one (record { 0 = pos_of b })) (is_reverse (flags_of b)) (record_ops b)
 
-  pub unmapped_only : unclipped_of b ≡ Unclipped.Unmapped → (is_short b ≡ false) × (is_unmapped (flags_of b) ≡ true)
+  pub unmapped_only : unclipped_of b ≡ (Ok Unclipped.Unmapped) → (is_short b ≡ false) × (is_unmapped (flags_of b) ≡ true)
   unfolding unclipped_of
   unmapped_only e = go (is_short b) refl (is_unmapped (flags_of b)) refl (has_no_ops b) e
     where
-      go : (s : Bool) → is_short b ≡ s → (t : Bool) → is_unmapped (flags_of b) ≡ t → (u : Bool) → cond s (Unclipped.Refused ShortRecord) (cond t Unclipped.Unmapped (cond u Unclipped.NoOps rest)) ≡ Unclipped.Unmapped
+      go : (s : Bool) → is_short b ≡ s → (t : Bool) → is_unmapped (flags_of b) ≡ t → (u : Bool) → cond s (Err ShortRecord) (cond t (Ok Unclipped.Unmapped) (cond u (Ok Unclipped.NoOps) rest)) ≡ (Ok Unclipped.Unmapped)
           → (is_short b ≡ false) × (is_unmapped (flags_of b) ≡ true)
       go true p t q u h = never (cc)
       go false p true q u h = (p, q)
       go false p false q true h = never (cc)
       go false p false q false h = false_true (sym (ap is_summed h) ∙ rest_summed)
 
-  pub no_ops_only : unclipped_of b ≡ Unclipped.NoOps → (is_short b ≡ false) × (is_unmapped (flags_of b) ≡ false) × (has_no_ops b ≡ true)
+  pub no_ops_only : unclipped_of b ≡ (Ok Unclipped.NoOps) → (is_short b ≡ false) × (is_unmapped (flags_of b) ≡ false) × (has_no_ops b ≡ true)
   unfolding unclipped_of
   no_ops_only e = go (is_short b) refl (is_unmapped (flags_of b)) refl (has_no_ops b) refl e
     where
-      go : (s : Bool) → is_short b ≡ s → (t : Bool) → is_unmapped (flags_of b) ≡ t → (u : Bool) → has_no_ops b ≡ u → cond s (Unclipped.Refused ShortRecord) (cond t Unclipped.Unmapped (cond u Unclipped.NoOps rest)) ≡ Unclipped.NoOps
+      go : (s : Bool) → is_short b ≡ s → (t : Bool) → is_unmapped (flags_of b) ≡ t → (u : Bool) → has_no_ops b ≡ u → cond s (Err ShortRecord) (cond t (Ok Unclipped.Unmapped) (cond u (Ok Unclipped.NoOps) rest)) ≡ (Ok Unclipped.NoOps)
           → (is_short b ≡ false) × (is_unmapped (flags_of b) ≡ false) × (has_no_ops b ≡ true)
       go true p t q u r h = never (cc)
       go false p true q u r h = never (cc)
@@ -202,27 +202,27 @@ module _ (b : List ℕ) where
       go false p false q false r h = false_true (sym (ap is_summed h) ∙ rest_summed)
 
   module _ (p : Pos1) where
-    pub position-only : unclipped_of b ≡ Unclipped.At p → (is_unmapped (flags_of b) ≡ false) × (has_no_ops b ≡ false) × (rest ≡ Unclipped.At p)
+    pub position-only : unclipped_of b ≡ (Ok (Unclipped.At p)) → (is_unmapped (flags_of b) ≡ false) × (has_no_ops b ≡ false) × (rest ≡ (Ok (Unclipped.At p)))
     unfolding unclipped_of
     position-only e = go (is_short b) (is_unmapped (flags_of b)) refl (has_no_ops b) refl e
       where
-        go : (s t : Bool) → is_unmapped (flags_of b) ≡ t → (u : Bool) → has_no_ops b ≡ u → cond s (Unclipped.Refused ShortRecord) (cond t Unclipped.Unmapped (cond u Unclipped.NoOps rest)) ≡ Unclipped.At p
-            → (is_unmapped (flags_of b) ≡ false) × (has_no_ops b ≡ false) × (rest ≡ Unclipped.At p)
+        go : (s t : Bool) → is_unmapped (flags_of b) ≡ t → (u : Bool) → has_no_ops b ≡ u → cond s (Err ShortRecord) (cond t (Ok Unclipped.Unmapped) (cond u (Ok Unclipped.NoOps) rest)) ≡ (Ok (Unclipped.At p))
+            → (is_unmapped (flags_of b) ≡ false) × (has_no_ops b ≡ false) × (rest ≡ (Ok (Unclipped.At p)))
         go true t q u r h = never (cc)
         go false true q u r h = never (cc)
         go false false q true r h = never (cc)
         go false false q false r h = (q, r, h)
 
     -- "from `pos` + 1"
-    from_next : (s : Option ℤ) → plus_one (record { 0 = pos_of b }) ≡ s → unclipped_at s (is_reverse (flags_of b)) (record_ops b) ≡ Unclipped.At p
+    from_next : (s : Option ℤ) → plus_one (record { 0 = pos_of b }) ≡ s → unclipped_at s (is_reverse (flags_of b)) (record_ops b) ≡ (Ok (Unclipped.At p))
         → five_prime (is_reverse (flags_of b)) (pos_of b +ℤ pos 1) (record_ops b) ≡ Some p.0
     from_next (Some z) e h = ap (λ (y : ℤ). five_prime (is_reverse (flags_of b)) y (record_ops b)) (plus_one_is (record { 0 = pos_of b }) z e) ∙ position-is _ p h
     from_next None e h = never (cc)
 
-    pub forward-is : is_reverse (flags_of b) ≡ false → unclipped_of b ≡ Unclipped.At p → pos_of b +ℤ pos 1 -ℤ pos (leading_clips (record_ops b)) ≡ p.0
+    pub forward-is : is_reverse (flags_of b) ≡ false → unclipped_of b ≡ (Ok (Unclipped.At p)) → pos_of b +ℤ pos 1 -ℤ pos (leading_clips (record_ops b)) ≡ p.0
     unfolding five_prime
     forward-is r e = start_is _ _ p.0 (rw r at (from_next _ refl (position-only e).2))
 
-    pub reverse_is : is_reverse (flags_of b) ≡ true → unclipped_of b ≡ Unclipped.At p → pos_of b +ℤ pos 1 +ℤ pos (refs (columns (record_ops b))) +ℤ pos (clips_after_reference (record_ops b)) -ℤ pos 1 ≡ p.0
+    pub reverse_is : is_reverse (flags_of b) ≡ true → unclipped_of b ≡ (Ok (Unclipped.At p)) → pos_of b +ℤ pos 1 +ℤ pos (refs (columns (record_ops b))) +ℤ pos (clips_after_reference (record_ops b)) -ℤ pos 1 ≡ p.0
     unfolding five_prime
     reverse_is r e = end_is _ _ p.0 (rw r at (from_next _ refl (position-only e).2))

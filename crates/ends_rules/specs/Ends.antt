@@ -65,32 +65,32 @@ abbrev pub has_no_ops : List ℕ → Bool
 has_no_ops b = eqb (length (record_ops b)) 0
 
 -- a position, or 4
-abbrev pub as_unclipped : Option ℤ → Unclipped
-as_unclipped (Some z) = Unclipped.At (record { 0 = z })
-as_unclipped None = Unclipped.Refused Overflow
+abbrev pub as_unclipped : Option ℤ → Answer Unclipped
+as_unclipped (Some z) = Ok (Unclipped.At (record { 0 = z }))
+as_unclipped None = Err Overflow
 
 -- "from `pos` + 1"
-abbrev pub unclipped_at : Option ℤ → Bool → List ℕ → Unclipped
+abbrev pub unclipped_at : Option ℤ → Bool → List ℕ → Answer Unclipped
 unclipped_at (Some at) reverse xs = as_unclipped (five_prime reverse at xs)
-unclipped_at None reverse xs = Unclipped.Refused Overflow
+unclipped_at None reverse xs = Err Overflow
 
 -- "a position [..] or no ops", of an op list that is aligned at a place; 4
-abbrev pub unclipped_by : List ℕ → Pos0 → Bool → Unclipped
-unclipped_by xs p reverse = cond (eqb (length xs) 0) Unclipped.NoOps (unclipped_at (plus_one p) reverse xs)
+abbrev pub unclipped_by : List ℕ → Pos0 → Bool → Answer Unclipped
+unclipped_by xs p reverse = cond (eqb (length xs) 0) (Ok Unclipped.NoOps) (unclipped_at (plus_one p) reverse xs)
 
 -- "a position, unmapped, or no ops", unmapped first, as the Rust asks; 1, and 4
-unfoldable pub unclipped_of : List ℕ → Unclipped
+unfoldable pub unclipped_of : List ℕ → Answer Unclipped
 unclipped_of b =
-    cond (is_short b) (Unclipped.Refused ShortRecord)
-    (cond (is_unmapped (flags_of b)) Unclipped.Unmapped
+    cond (is_short b) (Err ShortRecord)
+    (cond (is_unmapped (flags_of b)) (Ok Unclipped.Unmapped)
     (unclipped_by (record_ops b) (record { 0 = pos_of b }) (is_reverse (flags_of b))))
 
 -- told as which of the three it is, 0, 1 or 2, and the position, 0 where there is none
-abbrev pub tell_unclipped : Unclipped → Told
-tell_unclipped (Unclipped.At p) = answered (pos 0 ∷ p.0 ∷ [])
-tell_unclipped Unclipped.Unmapped = answered (pos 1 ∷ pos 0 ∷ [])
-tell_unclipped Unclipped.NoOps = answered (pos 2 ∷ pos 0 ∷ [])
-tell_unclipped (Unclipped.Refused r) = refused r
+abbrev pub tell_unclipped : Answer Unclipped → Told
+tell_unclipped (Ok (Unclipped.At p)) = answered (pos 0 ∷ p.0 ∷ [])
+tell_unclipped (Ok Unclipped.Unmapped) = answered (pos 1 ∷ pos 0 ∷ [])
+tell_unclipped (Ok Unclipped.NoOps) = answered (pos 2 ∷ pos 0 ∷ [])
+tell_unclipped (Err r) = refused r
 
 -- "returns the given position for no ops or overrun": 1, 4
 unfoldable pub unclipped_from : List ℕ → Pos0 → Bool → Answer Pos0

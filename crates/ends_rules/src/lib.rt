@@ -9,7 +9,6 @@ pub enum Unclipped {
     At(Pos1),
     Unmapped,
     NoOps,
-    Refused(Refusal),
 }
 
 // What the walk to the end has met: the reference bases, the S and H since the last reference op, the most that these came to, and whether there was a

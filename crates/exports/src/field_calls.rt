@@ -5,6 +5,7 @@ ghost use Rattle.sam.specs.Record.{ref_id_of, pos_of, name_len_of, stored_bin_of
 ghost use Rattle.fields.specs.Fields.{int_field, nat_field, pos_field, cigar_area, tell_area};
 ghost use Rattle.border.specs.Border.{int_of, count_of, two_of};
 
+use answers::Answer;
 use border::{ToldCount, ToldInt, ToldTwo};
 use fields::Area;
 
@@ -78,12 +79,12 @@ pub extern "C" fn cigar_template_length(rec: &[u8]) -> ToldInt
     border::told_int(fields::template_length(rec))
 }
 
-fn told_area(answer: Area) -> ToldTwo
+fn told_area(answer: Answer<Area>) -> ToldTwo
     ensures { result ≡ two_of (tell_area answer) }
 {
     match answer {
-        Area::At(start, size) => border::two(start, size),
-        Area::Refused(why) => border::refused_two(why),
+        Ok(Area { start, size }) => border::two(start, size),
+        Err(why) => border::refused_two(why),
     }
 }
 

@@ -9,15 +9,16 @@ ghost use Rattle.ends_rules.specs.Ends.{tell_unclipped};
 ghost use Rattle.clip_rules.specs.Answer.{tell_clipped};
 ghost use Rattle.border.specs.Border.{count_of, position_of, two_of, lengths_of, across};
 
+use answers::Answer;
 use border::{ToldCount, ToldLengths, ToldPosition, ToldTwo};
 use tag_rules::TrueList;
 
-fn told_true_list(answer: TrueList) -> ToldTwo
+fn told_true_list(answer: Answer<TrueList>) -> ToldTwo
     ensures { result ≡ two_of (tell_true_list answer) }
 {
     match answer {
-        TrueList::At(at, n) => border::two(at as u64, 4 * (n as u64)),
-        TrueList::Refused(why) => border::refused_two(why),
+        Ok(TrueList { at, n }) => border::two(at as u64, 4 * (n as u64)),
+        Err(why) => border::refused_two(why),
     }
 }
 

@@ -19,14 +19,14 @@ abbrev pub pos_field : (List ℕ → ℤ) → List ℕ → Answer Pos0
 pos_field f b = cond (is_short b) (Err ShortRecord) (Ok (record { 0 = f b }))
 
 -- where the ops lie, 0 and 0 where their area ends past the record
-unfoldable pub cigar_area : List ℕ → Area
+unfoldable pub cigar_area : List ℕ → Answer Area
 cigar_area b =
-    cond (is_short b) (Area.Refused ShortRecord)
-    (cond (ltb (length b) (ops_end b)) (Area.At 0 0) (Area.At (ops_start b) (4 * op_count_of b)))
+    cond (is_short b) (Err ShortRecord)
+    (cond (ltb (length b) (ops_end b)) (Ok (record { start = 0; size = 0 })) (Ok (record { start = ops_start b; size = 4 * op_count_of b })))
 
-abbrev pub tell_area : Area → Told
-tell_area (Area.At start size) = answered (pos start ∷ pos size ∷ [])
-tell_area (Area.Refused r) = refused r
+abbrev pub tell_area : Answer Area → Told
+tell_area (Ok got) = answered (pos got.start ∷ pos got.size ∷ [])
+tell_area (Err r) = refused r
 
 -- that part of the record; an empty part where the area overruns, and beside refusal 1
 unfoldable pub cigar_part : List ℕ → List ℕ

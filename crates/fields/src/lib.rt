@@ -20,9 +20,9 @@ pub const MATE_REVERSE: u32 = 32;
 
 // Where the op area of a record lies: its place and its length in bytes, both 0 where it overruns.
 #[derive(Clone, Copy)]
-pub enum Area {
-    At(u64, u64),
-    Refused(Refusal),
+pub struct Area {
+    pub start: u64,
+    pub size: u64,
 }
 
 // A part of the record, and the refusal's number: 0, or the number that an empty part stands beside.
@@ -171,17 +171,17 @@ pub fn is_mate_reverse(flags: u32) -> bool
 }
 
 // Where the ops of a record lie, as numbers: the static library's call, whose answer holds no reference. Refusal 1.
-pub fn cigar_area(bam: &[u8]) -> Area
+pub fn cigar_area(bam: &[u8]) -> Answer<Area>
     ensures { result ≡ cigar_area bam.now }
 {
     if bam.len() < 32 {
-        return Area::Refused(Refusal::ShortRecord);
+        return Err(Refusal::ShortRecord);
     }
     let list = oplist::of_record(bam);
     if !oplist::inside(bam, list) {
-        return Area::At(0, 0);
+        return Ok(Area { start: 0, size: 0 });
     }
-    Area::At(list.at as u64, 4 * (list.n as u64))
+    Ok(Area { start: list.at as u64, size: 4 * (list.n as u64) })
 }
 
 // The part of the record that holds its ops: empty where the area overruns, and under 32 bytes.

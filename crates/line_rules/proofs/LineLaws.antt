@@ -49,13 +49,13 @@ other_length q n h d = rw (ne_eqb n 0 (λ (e : n ≡ 0). omega arith), ne_eqb q 
 
 -- ---- the fifth field: "`.` for the latter two", unmapped and no ops
 
-pub position_shown : (p : Pos1) → or_dot (Unclipped.At p) ≡ signed_decimal p.0
+pub position_shown : (p : Pos1) → or_dot (Ok (Unclipped.At p)) ≡ signed_decimal p.0
 position_shown p = refl
 
-pub unmapped_shown : or_dot Unclipped.Unmapped ≡ 46 ∷ []
+pub unmapped_shown : or_dot (Ok Unclipped.Unmapped) ≡ 46 ∷ []
 unmapped_shown = refl
 
-pub no_ops_shown : or_dot Unclipped.NoOps ≡ 46 ∷ []
+pub no_ops_shown : or_dot (Ok Unclipped.NoOps) ≡ 46 ∷ []
 no_ops_shown = refl
 
 -- ---- the text, where a part of memory was printed into
@@ -162,13 +162,13 @@ module _ (b : List ℕ) (h : 32 ≤ length b) where
   unfolding checked_ref_length as_int
   refs_are k o = simp (le-ltb _ _ h, le-ltb (length b) (ops_end b) k, le-ltb 2147483647 (sum_of ref_len (record_ops b)) o)
 
-pub figures_are : (b : List ℕ) (i : Answer ℤ) (q : ℕ) (u : Unclipped) (k : Answer ℕ) (l : ℕ) → checked_ref_length b ≡ i → sum_of query_len (record_ops b) ≡ q → unclipped_of b ≡ u → record_bin b ≡ k → seq_len_of b ≡ l
+pub figures_are : (b : List ℕ) (i : Answer ℤ) (q : ℕ) (u : Answer Unclipped) (k : Answer ℕ) (l : ℕ) → checked_ref_length b ≡ i → sum_of query_len (record_ops b) ≡ q → unclipped_of b ≡ u → record_bin b ≡ k → seq_len_of b ≡ l
     → figures_of b ≡ row_of i q u k (length_mark q l)
 unfolding figures_of
 figures_are b i q u k l e f g h m = cc
 
 -- past the position only the bin can refuse
-module _ (z : ℤ) (q : ℕ) (u : Unclipped) (s : ℕ) where
+module _ (z : ℤ) (q : ℕ) (u : Answer Unclipped) (s : ℕ) where
   bin_refused : (k : Answer ℕ) (w : Refusal) → with_bin z q u k s ≡ Err w → (tell_nat k).number ≡ number_of w
   bin_refused (Err r) w e = let g : r ≡ w = cc in ap number_of g
   bin_refused (Ok m) w e = never (cc)
@@ -183,40 +183,40 @@ module _ (z : ℤ) (q : ℕ) (u : Unclipped) (s : ℕ) where
   bin_shown (Ok m) w e =
       let g : ◌≡◌ {A = LineRow} (record { refs = z; query = q; five = u; bin = m; mark = s }) w = cc in ap row_fields g
 
-row_refused : (i : Answer ℤ) (q : ℕ) (u : Unclipped) (k : Answer ℕ) (s : ℕ) (w : Refusal) → row_of i q u k s ≡ Err w
+row_refused : (i : Answer ℤ) (q : ℕ) (u : Answer Unclipped) (k : Answer ℕ) (s : ℕ) (w : Refusal) → row_of i q u k s ≡ Err w
     → first_given 0 (tell_int i).number (tell_unclipped u).number (tell_nat k).number ≡ number_of w
 unfolding row_of
 row_refused (Err r) q u k s w e = let g : r ≡ w = cc in rw (not-zero r) (ap number_of g)
-row_refused (Ok z) q (Unclipped.Refused r) k s w e = let g : r ≡ w = cc in rw (not-zero r) (ap number_of g)
-row_refused (Ok z) q (Unclipped.At p) k s w e = bin_refused z q (Unclipped.At p) s k w e
-row_refused (Ok z) q Unclipped.Unmapped k s w e = bin_refused z q Unclipped.Unmapped s k w e
-row_refused (Ok z) q Unclipped.NoOps k s w e = bin_refused z q Unclipped.NoOps s k w e
+row_refused (Ok z) q (Err r) k s w e = let g : r ≡ w = cc in rw (not-zero r) (ap number_of g)
+row_refused (Ok z) q (Ok (Unclipped.At p)) k s w e = bin_refused z q (Ok (Unclipped.At p)) s k w e
+row_refused (Ok z) q (Ok Unclipped.Unmapped) k s w e = bin_refused z q (Ok Unclipped.Unmapped) s k w e
+row_refused (Ok z) q (Ok Unclipped.NoOps) k s w e = bin_refused z q (Ok Unclipped.NoOps) s k w e
 
-row_given : (i : Answer ℤ) (q : ℕ) (u : Unclipped) (k : Answer ℕ) (s : ℕ) (w : LineRow) → row_of i q u k s ≡ Ok w
+row_given : (i : Answer ℤ) (q : ℕ) (u : Answer Unclipped) (k : Answer ℕ) (s : ℕ) (w : LineRow) → row_of i q u k s ≡ Ok w
     → first_given 0 (tell_int i).number (tell_unclipped u).number (tell_nat k).number ≡ 0
 unfolding row_of
 row_given (Err r) q u k s w e = never (cc)
-row_given (Ok z) q (Unclipped.Refused r) k s w e = never (cc)
-row_given (Ok z) q (Unclipped.At p) k s w e = bin_given z q (Unclipped.At p) s k w e
-row_given (Ok z) q Unclipped.Unmapped k s w e = bin_given z q Unclipped.Unmapped s k w e
-row_given (Ok z) q Unclipped.NoOps k s w e = bin_given z q Unclipped.NoOps s k w e
+row_given (Ok z) q (Err r) k s w e = never (cc)
+row_given (Ok z) q (Ok (Unclipped.At p)) k s w e = bin_given z q (Ok (Unclipped.At p)) s k w e
+row_given (Ok z) q (Ok Unclipped.Unmapped) k s w e = bin_given z q (Ok Unclipped.Unmapped) s k w e
+row_given (Ok z) q (Ok Unclipped.NoOps) k s w e = bin_given z q (Ok Unclipped.NoOps) s k w e
 
-row_shown : (i : Answer ℤ) (q : ℕ) (u : Unclipped) (k : Answer ℕ) (s : ℕ) (w : LineRow) → row_of i q u k s ≡ Ok w
+row_shown : (i : Answer ℤ) (q : ℕ) (u : Answer Unclipped) (k : Answer ℕ) (s : ℕ) (w : LineRow) → row_of i q u k s ≡ Ok w
     → shown (tell_int i) ∷ decimal q ∷ or_dot u ∷ shown (tell_nat k) ∷ (s ∷ []) ∷ [] ≡ row_fields w
 unfolding row_of
 row_shown (Err r) q u k s w e = never (cc)
-row_shown (Ok z) q (Unclipped.Refused r) k s w e = never (cc)
-row_shown (Ok z) q (Unclipped.At p) k s w e = bin_shown z q (Unclipped.At p) s k w e
-row_shown (Ok z) q Unclipped.Unmapped k s w e = bin_shown z q Unclipped.Unmapped s k w e
-row_shown (Ok z) q Unclipped.NoOps k s w e = bin_shown z q Unclipped.NoOps s k w e
+row_shown (Ok z) q (Err r) k s w e = never (cc)
+row_shown (Ok z) q (Ok (Unclipped.At p)) k s w e = bin_shown z q (Ok (Unclipped.At p)) s k w e
+row_shown (Ok z) q (Ok Unclipped.Unmapped) k s w e = bin_shown z q (Ok Unclipped.Unmapped) s k w e
+row_shown (Ok z) q (Ok Unclipped.NoOps) k s w e = bin_shown z q (Ok Unclipped.NoOps) s k w e
 
 -- past the test for a refusal
-pub row-past : (z : ℤ) (q : ℕ) (u : Unclipped) (k : Answer ℕ) (s : ℕ) → ((r : Refusal) → u ≡ Unclipped.Refused r → ⊥) → with_bin z q u k s ≡ row_of (Ok z) q u k s
+pub row-past : (z : ℤ) (q : ℕ) (u : Answer Unclipped) (k : Answer ℕ) (s : ℕ) → ((r : Refusal) → u ≡ Err r → ⊥) → with_bin z q u k s ≡ row_of (Ok z) q u k s
 unfolding row_of
-row-past z q (Unclipped.At p) k s h = refl
-row-past z q Unclipped.Unmapped k s h = refl
-row-past z q Unclipped.NoOps k s h = refl
-row-past z q (Unclipped.Refused r) k s h = absurd (h r refl)
+row-past z q (Ok (Unclipped.At p)) k s h = refl
+row-past z q (Ok Unclipped.Unmapped) k s h = refl
+row-past z q (Ok Unclipped.NoOps) k s h = refl
+row-past z q (Err r) k s h = absurd (h r refl)
 
 module _ (n : ℕ) (b : List ℕ) (h : 32 ≤ length b) (k : ℕ) (e : (printed b text_room).answer ≡ Ok k) where
   given : refusal_of b ≡ first_given 0 (refs_told b).number (five_told b).number (bin_told b).number

@@ -160,7 +160,7 @@ five_among : (b : List ℕ) → 32 ≤ length b → Among (five_told b).number (
 unfolding holds unclipped_of plus_one
 five_among b h = rw (le-ltb (length b) 32 h) (go (is_unmapped (flags_of b)) (has_no_ops b))
   where
-    go : (t u : Bool) → Among (tell_unclipped (cond t Unclipped.Unmapped (cond u Unclipped.NoOps (unclipped_at (plus_one (record { 0 = pos_of b })) (is_reverse (flags_of b)) (record_ops b))))).number (0 ∷ 4 ∷ [])
+    go : (t u : Bool) → Among (tell_unclipped (cond t (Ok Unclipped.Unmapped) (cond u (Ok Unclipped.NoOps) (unclipped_at (plus_one (record { 0 = pos_of b })) (is_reverse (flags_of b)) (record_ops b))))).number (0 ∷ 4 ∷ [])
     go true u = refl
     go false true = refl
     go false false = five_at (Some (pos_of b) ⊕ Some (pos 1)) (is_reverse (flags_of b)) (record_ops b)

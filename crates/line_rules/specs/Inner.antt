@@ -17,17 +17,17 @@ use Rattle.line_rules.specs.Line.{text_room, or_star, or_dot, length_mark}
 use Rattle.line_rules.specs.declared.LineRow.{LineRow}
 
 -- the figures with the bin, or why there is none
-abbrev pub with_bin : ℤ → ℕ → Unclipped → Answer ℕ → ℕ → Answer LineRow
+abbrev pub with_bin : ℤ → ℕ → Answer Unclipped → Answer ℕ → ℕ → Answer LineRow
 with_bin z q u (Err r) m = Err r
 with_bin z q u (Ok k) m = Ok (record { refs = z; query = q; five = u; bin = k; mark = m })
 
 -- the figures, or the first refusal on the way
-unfoldable pub row_of : Answer ℤ → ℕ → Unclipped → Answer ℕ → ℕ → Answer LineRow
+unfoldable pub row_of : Answer ℤ → ℕ → Answer Unclipped → Answer ℕ → ℕ → Answer LineRow
 row_of (Err r) q u n m = Err r
-row_of (Ok z) q (Unclipped.Refused r) n m = Err r
-row_of (Ok z) q (Unclipped.At p) n m = with_bin z q (Unclipped.At p) n m
-row_of (Ok z) q Unclipped.Unmapped n m = with_bin z q Unclipped.Unmapped n m
-row_of (Ok z) q Unclipped.NoOps n m = with_bin z q Unclipped.NoOps n m
+row_of (Ok z) q (Err r) n m = Err r
+row_of (Ok z) q (Ok (Unclipped.At p)) n m = with_bin z q (Ok (Unclipped.At p)) n m
+row_of (Ok z) q (Ok Unclipped.Unmapped) n m = with_bin z q (Ok Unclipped.Unmapped) n m
+row_of (Ok z) q (Ok Unclipped.NoOps) n m = with_bin z q (Ok Unclipped.NoOps) n m
 
 unfoldable pub figures_of : List ℕ → Answer LineRow
 figures_of b =

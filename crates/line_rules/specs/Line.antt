@@ -2,6 +2,8 @@
 -- 1 if query length equals l_seq, else 0. A refused record prints its number, `refused`, the refusal; the first of 1, 7, 6, 2, 4. Text room is 65,536 bytes."
 -- Document 02, item 2: "Document 01's field becomes `-` where l_seq is 0. Its other cases stay." Item 3: "`.` for the latter two", unmapped and no ops.
 use Rattle.std.specs.Prelude.{ℕ, cond, List, [], ◌∷◌, ◌++◌, eqb, ℤ, pos, replicate}
+use Rattle.std.specs.Prelude.{Ok, Err}
+use Rattle.answers.specs.Answer.{Answer}
 use Rattle.lists.specs.Runs.{holds}
 use Rattle.signed.specs.Whole.{natural}
 use Rattle.sam.specs.Record.{seq_len_of}
@@ -66,11 +68,11 @@ or_star [] = 42 ∷ []
 or_star (x ∷ xs) = x ∷ xs
 
 -- the position, or `.` where there is none
-abbrev pub or_dot : Unclipped → List ℕ
-or_dot (Unclipped.At p) = signed_decimal p.0
-or_dot Unclipped.Unmapped = 46 ∷ []
-or_dot Unclipped.NoOps = 46 ∷ []
-or_dot (Unclipped.Refused r) = 46 ∷ []
+abbrev pub or_dot : Answer Unclipped → List ℕ
+or_dot (Ok (Unclipped.At p)) = signed_decimal p.0
+or_dot (Ok Unclipped.Unmapped) = 46 ∷ []
+or_dot (Ok Unclipped.NoOps) = 46 ∷ []
+or_dot (Err r) = 46 ∷ []
 
 -- `-` where no sequence is stored; else "1 if query length equals l_seq, else 0"
 abbrev pub length_mark : ℕ → ℕ → ℕ

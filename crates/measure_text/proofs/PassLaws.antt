@@ -65,30 +65,30 @@ saturated n = go (leb n 2147483647) refl
 
 -- ---- the pass over a list
 
-abbrev passed : Stage → ℕ → ℕ → List ℕ → Measured
-passed p n refs xs = cond (accept_of (stage_after p xs)) (Measured.Ops (n + length xs) (pos (min (refs + sum_of ref_len xs) 2147483647))) Measured.Bad
+abbrev passed : Stage → ℕ → ℕ → List ℕ → Option Measured
+passed p n refs xs = cond (accept_of (stage_after p xs)) (Some (record { ops = n + length xs; refs = pos (min (refs + sum_of ref_len xs) 2147483647) })) None
 
 walk_one : (q : Stage) (n refs : ℕ) (xs : List ℕ) → refs ≤ 2147483647
     → ((s : SoFar) → s.refs ≤ 2147483647 → walk_of s xs ≡ passed s.stage s.n s.refs xs)
-    → on_took (cond (is_wrong q) None (Some (record { stage = q; n = n; refs = refs }))) (λ t. walk_of t xs) Measured.Bad ≡ passed q n refs xs
+    → on_took (cond (is_wrong q) None (Some (record { stage = q; n = n; refs = refs }))) (λ t. walk_of t xs) None ≡ passed q n refs xs
 walk_one q n refs xs h ih = go (is_wrong q) refl
   where
-    go : (t : Bool) → is_wrong q ≡ t → on_took (cond t None (Some (record { stage = q; n = n; refs = refs }))) (λ t. walk_of t xs) Measured.Bad ≡ passed q n refs xs
+    go : (t : Bool) → is_wrong q ≡ t → on_took (cond t None (Some (record { stage = q; n = n; refs = refs }))) (λ t. walk_of t xs) None ≡ passed q n refs xs
     go true e = rw (wrong_accept q xs e) refl
     go false e = ih (record { stage = q; n = n; refs = refs }) h
 
 walk : (xs : List ℕ) (s : SoFar) → s.refs ≤ 2147483647 → walk_of s xs ≡ passed s.stage s.n s.refs xs
 unfolding walk_of stage_after sum_of
 walk [] s h =
-    ap (λ (n : ℕ). cond (accept_of s.stage) (Measured.Ops n (pos s.refs)) Measured.Bad) {x = s.n} {y = s.n + 0} (omega arith)
-    ∙ ap (λ (n : ℕ). cond (accept_of s.stage) (Measured.Ops (s.n + 0) (pos n)) Measured.Bad) {x = s.refs} {y = min (s.refs + 0) 2147483647} (omega arith)
+    ap (λ (n : ℕ). cond (accept_of s.stage) (Some (record { ops = n; refs = pos s.refs })) None) {x = s.n} {y = s.n + 0} (omega arith)
+    ∙ ap (λ (n : ℕ). cond (accept_of s.stage) (Some (record { ops = s.n + 0; refs = pos n })) None) {x = s.refs} {y = min (s.refs + 0) 2147483647} (omega arith)
 walk (o ∷ xs) s h =
     let q = step_of s.stage (class_of o) in
     let r = s.refs + ref_bases_of (class_of o) (len_of o) in
     let e = ref_class o in
     walk_one q (s.n + 1) (min r 2147483647) xs (omega arith) (walk xs)
-    ∙ ap (λ (n : ℕ). cond (accept_of (stage_after q xs)) (Measured.Ops n (pos (min (min r 2147483647 + sum_of ref_len xs) 2147483647))) Measured.Bad) {x = s.n + 1 + length xs} {y = s.n + length (o ∷ xs)} (omega arith)
-    ∙ ap (λ (n : ℕ). cond (accept_of (stage_after q xs)) (Measured.Ops (s.n + length (o ∷ xs)) (pos n)) Measured.Bad)
+    ∙ ap (λ (n : ℕ). cond (accept_of (stage_after q xs)) (Some (record { ops = n; refs = pos (min (min r 2147483647 + sum_of ref_len xs) 2147483647) })) None) {x = s.n + 1 + length xs} {y = s.n + length (o ∷ xs)} (omega arith)
+    ∙ ap (λ (n : ℕ). cond (accept_of (stage_after q xs)) (Some (record { ops = s.n + length (o ∷ xs); refs = pos n })) None)
     {x = min (min r 2147483647 + sum_of ref_len xs) 2147483647} {y = min (s.refs + (ref_len o + sum_of ref_len xs)) 2147483647} (omega arith)
 
 walk_measured : (xs : List ℕ) → walk_of at_start xs ≡ measured_ops xs
@@ -96,9 +96,9 @@ unfolding measured_ops
 walk_measured xs =
     walk xs at_start (omega arith)
     ∙ rw (valid_run xs) refl
-    ∙ ap (λ (z : ℤ). cond (valid_mapped xs) (Measured.Ops (0 + length xs) z) Measured.Bad)
+    ∙ ap (λ (z : ℤ). cond (valid_mapped xs) (Some (record { ops = 0 + length xs; refs = z })) None)
     (ap (λ (n : ℕ). pos (min n 2147483647)) {x = 0 + sum_of ref_len xs} {y = sum_of ref_len xs} (omega arith) ∙ saturated (sum_of ref_len xs))
-    ∙ ap (λ (n : ℕ). cond (valid_mapped xs) (Measured.Ops n (clamp32 (pos (sum_of ref_len xs)))) Measured.Bad) {x = 0 + length xs} {y = length xs} (omega arith)
+    ∙ ap (λ (n : ℕ). cond (valid_mapped xs) (Some (record { ops = n; refs = clamp32 (pos (sum_of ref_len xs)) })) None) {x = 0 + length xs} {y = length xs} (omega arith)
 
 -- one op more keeps the bounds
 pub took_fits : (s t : SoFar) (len : ℕ) (k : Class) → took_of s len k ≡ Some t → (t.n ≡ s.n + 1) × (t.refs ≤ 2147483647)
@@ -118,21 +118,21 @@ took_fits s t len k e = go (is_wrong (step_of s.stage k)) e
 module _ (s : SoFar) (o : ℕ) (xs : List ℕ) where
   pub walk_more : (t : SoFar) → took_of s (len_of o) (class_of o) ≡ Some t → walk_of s (o ∷ xs) ≡ walk_of t xs
   unfolding walk_of
-  walk_more t e = ap (λ (x : Option SoFar). on_took x (λ t. walk_of t xs) Measured.Bad) e
+  walk_more t e = ap (λ (x : Option SoFar). on_took x (λ t. walk_of t xs) None) e
 
-  pub walk_stop : took_of s (len_of o) (class_of o) ≡ None → walk_of s (o ∷ xs) ≡ Measured.Bad
+  pub walk_stop : took_of s (len_of o) (class_of o) ≡ None → walk_of s (o ∷ xs) ≡ None
   unfolding walk_of
-  walk_stop e = ap (λ (x : Option SoFar). on_took x (λ t. walk_of t xs) Measured.Bad) e
+  walk_stop e = ap (λ (x : Option SoFar). on_took x (λ t. walk_of t xs) None) e
 
 -- ---- the pass over a text
 
 -- what is left of it
-unfoldable pub left_of : SoFar → Bool → List ℕ → Measured
-left_of s row xs = cond row (walk_of s xs) Measured.Bad
+unfoldable pub left_of : SoFar → Bool → List ℕ → Option Measured
+left_of s row xs = cond row (walk_of s xs) None
 
 pub left_measured : (s : List ℕ) → left_of at_start (is_row s) (text_ops s) ≡ measured_text s
 unfolding left_of
-left_measured s = ap (λ (m : Measured). cond (is_row s) m Measured.Bad) (walk_measured (text_ops s)) ∙ row_measured s
+left_measured s = ap (λ (m : Option Measured). cond (is_row s) m None) (walk_measured (text_ops s)) ∙ row_measured s
 
 module _ (s : SoFar) (len code : ℕ) (some : 0 < len) (few : code < 9) (row : Bool) (xs : List ℕ) where
   same_took : took_of s len (code_class code) ≡ took_of s (len_of (op_of len code)) (class_of (op_of len code))
@@ -144,22 +144,22 @@ module _ (s : SoFar) (len code : ℕ) (some : 0 < len) (few : code < 9) (row : B
 
   pub left_more : (t : SoFar) → took_of s len (code_class code) ≡ Some t → left_of s row (op_of len code ∷ xs) ≡ left_of t row xs
   unfolding left_of
-  left_more t e = ap (λ (m : Measured). cond row m Measured.Bad) (walk_more s (op_of len code) xs t (sym same_took ∙ e))
+  left_more t e = ap (λ (m : Option Measured). cond row m None) (walk_more s (op_of len code) xs t (sym same_took ∙ e))
 
-  pub left_stop : took_of s len (code_class code) ≡ None → left_of s row (op_of len code ∷ xs) ≡ Measured.Bad
+  pub left_stop : took_of s len (code_class code) ≡ None → left_of s row (op_of len code ∷ xs) ≡ None
   unfolding left_of
-  left_stop e = ap (λ (m : Measured). cond row m Measured.Bad) (walk_stop s (op_of len code) xs (sym same_took ∙ e)) ∙ go row
+  left_stop e = ap (λ (m : Option Measured). cond row m None) (walk_stop s (op_of len code) xs (sym same_took ∙ e)) ∙ go row
     where
-      go : (t : Bool) → cond t Measured.Bad Measured.Bad ≡ Measured.Bad
+      go : (t : Bool) → cond t None None ≡ None
       go true = refl
       go false = refl
 
 -- what is left of the pass at place i of a text
-abbrev pub left_at : SoFar → ℕ → List ℕ → Measured
+abbrev pub left_at : SoFar → ℕ → List ℕ → Option Measured
 left_at seen i s = left_of seen (is_row (drop i s)) (text_ops (drop i s))
 
 module _ (s : List ℕ) (i : ℕ) (seen : SoFar) where
-  pub pass_none : NoneAt s i → left_at seen i s ≡ Measured.Bad
+  pub pass_none : NoneAt s i → left_at seen i s ≡ None
   unfolding left_of
   pass_none n = rw n.row refl
 
@@ -174,5 +174,5 @@ module _ (s : List ℕ) (i : ℕ) (seen : SoFar) where
     pub pass-more : (t : SoFar) → took_of seen len (code_class code) ≡ Some t → left_at seen i s ≡ left_at t next s
     pass-more t e = at_op ∙ left_more seen len code o.some o.known (is_row (drop next s)) (text_ops (drop next s)) t e
 
-    pub pass-stop : took_of seen len (code_class code) ≡ None → left_at seen i s ≡ Measured.Bad
+    pub pass-stop : took_of seen len (code_class code) ≡ None → left_at seen i s ≡ None
     pass-stop e = at_op ∙ left_stop seen len code o.some o.known (is_row (drop next s)) (text_ops (drop next s)) e

@@ -21,8 +21,8 @@ took_of s len k =
     cond (is_wrong (step_of s.stage k)) None
     (Some (record { stage = step_of s.stage k; n = s.n + 1; refs = min (s.refs + ref_bases_of k len) 2147483647 }))
 
-abbrev pub ending_of : SoFar → Measured
-ending_of s = cond (accept_of s.stage) (Measured.Ops s.n (pos s.refs)) Measured.Bad
+abbrev pub ending_of : SoFar → Option Measured
+ending_of s = cond (accept_of s.stage) (Some (record { ops = s.n; refs = pos s.refs })) None
 
 abbrev pub on_took : {A : Type 0} → Option SoFar → (SoFar → A) → A → A
 on_took (Some t) more stop = more t
@@ -32,6 +32,6 @@ abbrev pub at_start : SoFar
 at_start = record { stage = Start; n = 0; refs = 0 }
 
 -- the pass over a list
-unfoldable pub walk_of : SoFar → List ℕ → Measured
+unfoldable pub walk_of : SoFar → List ℕ → Option Measured
 walk_of s [] = ending_of s
-walk_of s (o ∷ xs) = on_took (took_of s (len_of o) (class_of o)) (λ t. walk_of t xs) Measured.Bad
+walk_of s (o ∷ xs) = on_took (took_of s (len_of o) (class_of o)) (λ t. walk_of t xs) None

@@ -60,19 +60,19 @@ fn take_op(seen: SoFar, len: u32, code: u32) -> Option<SoFar>
     })
 }
 
-fn ending(seen: SoFar) -> Measured
+fn ending(seen: SoFar) -> Option<Measured>
     requires { seen.refs ≤ 2147483647 }
     ensures { result ≡ ending_of seen }
 {
     let p = seen.stage;
     if validity::accept(p) {
-        return Measured::Ops(seen.n, signed::of_bits(seen.refs));
+        return Some(Measured { ops: seen.n, refs: signed::of_bits(seen.refs) });
     }
-    Measured::Bad
+    None
 }
 
 // The measuring pass of the strict reader: it writes nothing, and takes text of any length.
-pub fn measure(text: &[u8]) -> Measured
+pub fn measure(text: &[u8]) -> Option<Measured>
     ensures { result ≡ measured_text text.now }
 {
     let mut seen = SoFar {
@@ -82,12 +82,12 @@ pub fn measure(text: &[u8]) -> Measured
     };
     let mut i: usize = 0;
     while i < text.len() {
-        let Token::Op(len, code, next) = tokens::token_at(tokens::short_token(text, i), text, i)
+        let Some(Token { len, code, next }) = tokens::token_at(tokens::short_token(text, i), text, i)
         else {
-            return Measured::Bad;
+            return None;
         };
         let Some(more) = take_op(seen, len, code) else {
-            return Measured::Bad;
+            return None;
         };
         seen = more;
         i = next;
@@ -102,7 +102,7 @@ pub fn write_ops(text: &[u8], out: &mut [u32])
     let mut at: usize = 0;
     let mut i: usize = 0;
     while i < text.len() {
-        let Token::Op(len, code, next) = tokens::token_at(tokens::short_token(text, i), text, i)
+        let Some(Token { len, code, next }) = tokens::token_at(tokens::short_token(text, i), text, i)
         else {
             return;
         };

@@ -1,5 +1,6 @@
 -- The ways out of each call, over plain lists: one test after another, as the definitions have them.
 use Prim.Native.Nat.{ℕ, ◌≤◌, ◌<◌}
+use Rattle.std.specs.Prelude.{Some, None}
 use Rattle.std.specs.Prelude.{Err, Ok, Option}
 use Rattle.answers.specs.Answer.{Answer}
 use mathlib.Core.Path.{◌≡◌, refl, ap}
@@ -101,7 +102,7 @@ module _ (b ys : List ℕ) where
 
 -- ---- the mate's text
 
-module _ (s : List ℕ) (n : ℕ) (z : ℤ) (e : measured_text s ≡ Measured.Ops n z) where
+module _ (s : List ℕ) (n : ℕ) (z : ℤ) (e : measured_text s ≡ Some (record { ops = n; refs = z })) where
   pub text_taken : strict s ≡ true
   unfolding measured_text
   text_taken = (ops_some (strict s) _ _ _ _ e).0
@@ -115,17 +116,17 @@ module _ (s : List ℕ) (n : ℕ) (z : ℤ) (e : measured_text s ≡ Measured.Op
   text_span = (ops_some (strict s) _ _ _ _ e).2
 
 module _ (b s d : List ℕ) where
-  pub text_short : length b < 32 → past_mate_text b s d ≡ keeps (Overhang.Refused ShortRecord) d
+  pub text_short : length b < 32 → past_mate_text b s d ≡ keeps (Err ShortRecord) d
   unfolding past_mate_text
   text_short h = simp (lt-ltb (length b) 32 h)
 
   module _ (h : 32 ≤ length b) where
-    pub text-bad : measured_text s ≡ Measured.Bad → past_mate_text b s d ≡ keeps (Overhang.Bases 0 0) d
+    pub text-bad : measured_text s ≡ None → past_mate_text b s d ≡ keeps (Ok (record { bases = 0; written = 0 })) d
     unfolding past_mate_text measured_text
     text-bad e = simp (le-ltb (length b) 32 h, ops_bad (strict s) _ _ e)
 
-    module _ (n : ℕ) (z : ℤ) (e : measured_text s ≡ Measured.Ops n z) where
-      pub text-many : most_ops < n → past_mate_text b s d ≡ keeps (Overhang.Refused TooManyOps) d
+    module _ (n : ℕ) (z : ℤ) (e : measured_text s ≡ Some (record { ops = n; refs = z })) where
+      pub text-many : most_ops < n → past_mate_text b s d ≡ keeps (Err TooManyOps) d
       unfolding past_mate_text
       text-many k = simp (le-ltb (length b) 32 h, text_taken s n z e, lt-ltb most_ops (length (text_ops s)) (omega (arith, text_count s n z e)))
 
@@ -135,16 +136,16 @@ module _ (b s d : List ℕ) where
 
 -- 4, 6, or the list
 module _ (p : PairPlaces) (b xs d : List ℕ) where
-  pub list_over : is_over p ≡ true → list_left p b xs d ≡ keeps (Overhang.Refused Overflow) d
+  pub list_over : is_over p ≡ true → list_left p b xs d ≡ keeps (Err Overflow) d
   unfolding list_left
   list_over o = simp o
 
   module _ (o : is_over p ≡ false) where
-    pub list-room : length d < length xs → list_left p b xs d ≡ keeps (Overhang.Refused NoRoom) d
+    pub list-room : length d < length xs → list_left p b xs d ≡ keeps (Err NoRoom) d
     unfolding list_left
     list-room l = simp (o, lt-ltb (length d) (length xs) l)
 
-    pub list_is : length xs ≤ length d → list_left p b xs d ≡ record { answer = Overhang.Bases (bases_at p b xs) (length xs); left = splice d 0 xs }
+    pub list_is : length xs ≤ length d → list_left p b xs d ≡ record { answer = Ok (record { bases = bases_at p b xs; written = length xs }); left = splice d 0 xs }
     unfolding list_left
     list_is l = simp (o, le-ltb (length d) (length xs) l)
 

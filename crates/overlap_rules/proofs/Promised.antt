@@ -41,11 +41,11 @@ unfolding past_mate_record
 record_no_length b m r s t e = rw (s, t, e)
 
 pub text_no_length : (b s d : List ℕ) (r : Refusal) → is_short b ≡ false → strict s ≡ true → ltb most_ops (length (text_ops s)) ≡ false → is_fr_by b (text_ops s) ≡ Err r
-    → past_mate_text b s d ≡ keeps (Overhang.Refused r) d
+    → past_mate_text b s d ≡ keeps (Err r) d
 unfolding past_mate_text
 text_no_length b s d r l t m e = rw (l, t, m) (passed (is_fr_by b (text_ops s)) e)
   where
-    passed : (fr : Answer Bool) → fr ≡ Err r → pair_list_left fr b (text_ops s) d ≡ keeps (Overhang.Refused r) d
+    passed : (fr : Answer Bool) → fr ≡ Err r → pair_list_left fr b (text_ops s) d ≡ keeps (Err r) d
     passed fr f = rw f
 
 -- ---- the most that an overhang is
@@ -102,10 +102,10 @@ left_most (Ok fr) b xs d = go (is_over (placed_pair fr b (mate_pos_of b))) (ltb 
     p : PairPlaces
     p = placed_pair fr b (mate_pos_of b)
 
-    done : Outcome Overhang
-    done = record { answer = Overhang.Bases (bases_at p b xs) (length xs); left = splice d 0 xs }
+    done : Outcome (Answer Overhang)
+    done = record { answer = Ok (record { bases = bases_at p b xs; written = length xs }); left = splice d 0 xs }
 
-    go : (w x : Bool) → WithinText (cond {A = Outcome Overhang} w (keeps (Overhang.Refused Overflow) d) (cond {A = Outcome Overhang} x (keeps (Overhang.Refused NoRoom) d) done)).answer (sum_of query_len (record_ops b))
+    go : (w x : Bool) → WithinText (cond {A = Outcome (Answer Overhang)} w (keeps (Err Overflow) d) (cond {A = Outcome (Answer Overhang)} x (keeps (Err NoRoom) d) done)).answer (sum_of query_len (record_ops b))
     go true x = tt
     go false true = tt
     go false false = bases_most p b xs
@@ -115,11 +115,11 @@ pub text_most : (b s d : List ℕ) → WithinText (past_mate_text b s d).answer 
 unfolding past_mate_text
 text_most b s d = go (is_short b) (strict s) (ltb most_ops (length (text_ops s)))
   where
-    left : Outcome Overhang
+    left : Outcome (Answer Overhang)
     left = pair_list_left (is_fr_by b (text_ops s)) b (text_ops s) d
 
-    go : (t u v : Bool) → WithinText (cond {A = Outcome Overhang} t (keeps (Overhang.Refused ShortRecord) d) (cond {A = Outcome Overhang} (not u) (keeps (Overhang.Bases 0 0) d)
-        (cond {A = Outcome Overhang} v (keeps (Overhang.Refused TooManyOps) d) left))).answer (sum_of query_len (record_ops b))
+    go : (t u v : Bool) → WithinText (cond {A = Outcome (Answer Overhang)} t (keeps (Err ShortRecord) d) (cond {A = Outcome (Answer Overhang)} (not u) (keeps (Ok (record { bases = 0; written = 0 })) d)
+        (cond {A = Outcome (Answer Overhang)} v (keeps (Err TooManyOps) d) left))).answer (sum_of query_len (record_ops b))
     go true u v = tt
     go false false v = omega arith
     go false true true = tt

@@ -9,6 +9,6 @@ Within (Ok n) most = n ≤ most
 Within (Err r) most = Unit {0}
 
 -- beside the overhang of a mate text stands how many ops it has
-abbrev pub WithinText : Overhang → ℕ → Type 0
-WithinText (Overhang.Bases n k) most = n ≤ most
-WithinText (Overhang.Refused r) most = Unit {0}
+abbrev pub WithinText : Answer Overhang → ℕ → Type 0
+WithinText (Ok got) most = got.bases ≤ most
+WithinText (Err r) most = Unit {0}

@@ -69,25 +69,25 @@ past_mate_record b m =
     (pair_overhang (is_primary_fr b m) b (pos_of m) (record_ops m)))
 
 -- mate text, with room d for its ops xs: 4, 6
-unfoldable pub list_left : PairPlaces → List ℕ → List ℕ → List ℕ → Outcome Overhang
+unfoldable pub list_left : PairPlaces → List ℕ → List ℕ → List ℕ → Outcome (Answer Overhang)
 list_left p b xs d =
-    cond (is_over p) (keeps (Overhang.Refused Overflow) d)
-    (cond (ltb (length d) (length xs)) (keeps (Overhang.Refused NoRoom) d)
-    (record { answer = Overhang.Bases (bases_at p b xs) (length xs); left = splice d 0 xs }))
+    cond (is_over p) (keeps (Err Overflow) d)
+    (cond (ltb (length d) (length xs)) (keeps (Err NoRoom) d)
+    (record { answer = Ok (record { bases = bases_at p b xs; written = length xs }); left = splice d 0 xs }))
 
 -- the same by the pair test: 2, 4
-abbrev pub pair_list_left : Answer Bool → List ℕ → List ℕ → List ℕ → Outcome Overhang
+abbrev pub pair_list_left : Answer Bool → List ℕ → List ℕ → List ℕ → Outcome (Answer Overhang)
 pair_list_left (Ok fr) b xs d = list_left (placed_pair fr b (mate_pos_of b)) b xs d
-pair_list_left (Err r) b xs d = keeps (Overhang.Refused r) d
+pair_list_left (Err r) b xs d = keeps (Err r) d
 
 -- mate text: 1; overhang 0 for a text that the strict reader refuses by 5; 3
-unfoldable pub past_mate_text : List ℕ → List ℕ → List ℕ → Outcome Overhang
+unfoldable pub past_mate_text : List ℕ → List ℕ → List ℕ → Outcome (Answer Overhang)
 past_mate_text b s d =
-    cond (is_short b) (keeps (Overhang.Refused ShortRecord) d)
-    (cond (not (strict s)) (keeps (Overhang.Bases 0 0) d)
-    (cond (ltb most_ops (length (text_ops s))) (keeps (Overhang.Refused TooManyOps) d)
+    cond (is_short b) (keeps (Err ShortRecord) d)
+    (cond (not (strict s)) (keeps (Ok (record { bases = 0; written = 0 })) d)
+    (cond (ltb most_ops (length (text_ops s))) (keeps (Err TooManyOps) d)
     (pair_list_left (is_fr_by b (text_ops s)) b (text_ops s) d)))
 
-abbrev pub tell_overhang : Overhang → Told
-tell_overhang (Overhang.Bases n k) = answered (pos n ∷ pos k ∷ [])
-tell_overhang (Overhang.Refused r) = refused r
+abbrev pub tell_overhang : Answer Overhang → Told
+tell_overhang (Ok got) = answered (pos got.bases ∷ pos got.written ∷ [])
+tell_overhang (Err r) = refused r

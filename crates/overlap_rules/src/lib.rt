@@ -13,7 +13,7 @@ pub enum PairPlaces {
 
 // The query bases past the mate, and the ops written.
 #[derive(Clone, Copy)]
-pub enum Overhang {
-    Bases(u64, u64),
-    Refused(Refusal),
+pub struct Overhang {
+    pub bases: u64,
+    pub written: u64,
 }

@@ -1,5 +1,6 @@
 -- What is answered of a text, one test after another: of each case the answer that is due.
 use Prim.Native.Nat.{ℕ, ◌≤◌, ◌<◌}
+use Rattle.std.specs.Prelude.{Some, None, Option}
 use Rattle.std.specs.Prelude.{Err, Ok}
 use mathlib.Core.Path.{◌≡◌, refl}
 use mathlib.Core.Bool.{Bool, true, false, cond, ◌&&◌}
@@ -44,23 +45,23 @@ module _ (s d : List ℕ) where
 -- ---- the measuring pass
 
 -- what the pass says of a list
-unfoldable pub measured_ops : List ℕ → Measured
-measured_ops xs = cond (valid_mapped xs) (Measured.Ops (length xs) (clamp32 (pos (sum_of ref_len xs)))) Measured.Bad
+unfoldable pub measured_ops : List ℕ → Option Measured
+measured_ops xs = cond (valid_mapped xs) (Some (record { ops = length xs; refs = clamp32 (pos (sum_of ref_len xs)) })) None
 
-pub row_measured : (s : List ℕ) → cond (is_row s) (measured_ops (text_ops s)) Measured.Bad ≡ measured_text s
+pub row_measured : (s : List ℕ) → cond (is_row s) (measured_ops (text_ops s)) None ≡ measured_text s
 unfolding measured_text strict measured_ops
 row_measured s = go (is_row s)
   where
-    go : (t : Bool) → cond t (measured_ops (text_ops s)) Measured.Bad ≡ cond (t && valid_mapped (text_ops s)) (Measured.Ops (length (text_ops s)) (clamp32 (pos (sum_of ref_len (text_ops s))))) Measured.Bad
+    go : (t : Bool) → cond t (measured_ops (text_ops s)) None ≡ cond (t && valid_mapped (text_ops s)) (Some (record { ops = length (text_ops s); refs = clamp32 (pos (sum_of ref_len (text_ops s))) })) None
     go true = refl
     go false = refl
 
 -- ---- which case a measured list or text is
 
-pub ops_bad : (b : Bool) (n : ℕ) (z : ℤ) → cond b (Measured.Ops n z) Measured.Bad ≡ Measured.Bad → b ≡ false
+pub ops_bad : (b : Bool) (n : ℕ) (z : ℤ) → cond b (Some (record { ops = n; refs = z })) None ≡ None → b ≡ false
 ops_bad true n z e = never (cc)
 ops_bad false n z e = refl
 
-pub ops_some : (b : Bool) (n m : ℕ) (z w : ℤ) → cond b (Measured.Ops n z) Measured.Bad ≡ Measured.Ops m w → (b ≡ true) × (n ≡ m) × (z ≡ w)
+pub ops_some : (b : Bool) (n m : ℕ) (z w : ℤ) → cond b (Some (record { ops = n; refs = z })) None ≡ Some (record { ops = m; refs = w }) → (b ≡ true) × (n ≡ m) × (z ≡ w)
 ops_some true n m z w e = (refl, cc, cc)
 ops_some false n m z w e = never (cc)

@@ -1,5 +1,6 @@
 -- Document 01, module 5: "Order: strict text 5, 3, 6".
 use Rattle.std.specs.Prelude.{ℕ, cond, not, List, pos, length, ltb}
+use Rattle.std.specs.Prelude.{Some, None, Option}
 use Rattle.std.specs.Prelude.{Err, Ok}
 use Rattle.answers.specs.Answer.{Answer}
 use Rattle.lists.specs.Lists.{sum_of, splice}
@@ -13,8 +14,8 @@ use Rattle.text_rules.specs.Strict.{strict}
 use Rattle.parsed_rules.specs.declared.Measured.{Measured}
 
 -- the measuring pass: the ops of a valid mapped CIGAR, and its reference length, saturated
-unfoldable pub measured_text : List ℕ → Measured
-measured_text s = cond (strict s) (Measured.Ops (length (text_ops s)) (clamp32 (pos (sum_of ref_len (text_ops s))))) Measured.Bad
+unfoldable pub measured_text : List ℕ → Option Measured
+measured_text s = cond (strict s) (Some (record { ops = length (text_ops s); refs = clamp32 (pos (sum_of ref_len (text_ops s))) })) None
 
 -- `parse_cigar_string_ops` into lent memory d: 5, 3, 6
 unfoldable pub parsed : List ℕ → List ℕ → Outcome (Answer ℕ)

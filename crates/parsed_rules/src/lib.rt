@@ -3,7 +3,7 @@
 
 // Of a valid mapped CIGAR its ops, and its reference bases, at most 2^31 - 1; or that it is none.
 #[derive(Clone, Copy)]
-pub enum Measured {
-    Ops(u64, i32),
-    Bad,
+pub struct Measured {
+    pub ops: u64,
+    pub refs: i32,
 }

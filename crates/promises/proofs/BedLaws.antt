@@ -1,5 +1,6 @@
 -- What document 02, item 5, promises of blocks. Each line is a theorem of `bed_rules`, over the definitions that the contract uses.
 use Prim.Native.Nat.{ℕ, ◌+◌, ◌<◌}
+use Rattle.std.specs.Prelude.{Ok}
 use Rattle.answers.specs.Answer.{Answer}
 use mathlib.Core.Path.{◌≡◌}
 use mathlib.Core.Bool.{false}
@@ -12,7 +13,6 @@ use Rattle.sam.specs.Columns.{columns, refs}
 use Rattle.bed_rules.specs.Blocks.{is_skip, blocks}
 use Rattle.bed_rules.specs.Bed.{sizes_of, starts_of, bed_blocks}
 use Rattle.bed_rules.specs.Meaning.{skip_len, Apart, last_end, Within, Spelled, IsBlock}
-use Rattle.bed_rules.specs.declared.Bed.TheVariants.{Blocks}
 use Rattle.bed_rules.proofs.Stretches as Stretches
 use Rattle.bed_rules.proofs.BlockLaws as Each
 use Rattle.bed_rules.proofs.Covered as Covered
@@ -23,7 +23,7 @@ pub blocks_are : (xs : List ℕ) → Each (IsBlock xs) (blocks xs)
 blocks_are xs = Stretches.blocks_are xs
 
 -- of an answer, "the first is 0, and the last block ends at chromEnd"
-module _ (start : ℤ) (xs d e : List ℕ) (at end n : ℕ) (a : (bed_blocks start xs d e).answer ≡ Blocks at end n) where
+module _ (start : ℤ) (xs d e : List ℕ) (at end n : ℕ) (a : (bed_blocks start xs d e).answer ≡ Ok (record { chrom_start = at; chrom_end = end; block_count = n })) where
   pub first-start : take 1 (starts_of (blocks xs)) ≡ 0 ∷ []
   first-start = Each.first-start xs (Answer.answered start xs d e at end n a).0
 

@@ -21,7 +21,6 @@ use Rattle.answers.specs.declared.Refusal.TheVariants.{ShortRecord, TooManyOps, 
 use Rattle.ends_rules.specs.Sums.{both, ◌⊕◌, ◌⊖◌}
 use Rattle.ends_rules.specs.Tails.{greatest_run}
 use Rattle.ends_rules.specs.Ends.{provided, trailing_sum, unclipped_start, unclipped_end, five_prime, to_place0, to_place1, plus_one, has_no_ops, as_unclipped, unclipped_at, unclipped_by, unclipped_of, tell_unclipped, unclipped_from, alignment_start, end_at, alignment_end}
-use Rattle.ends_rules.specs.declared.Unclipped.TheVariants as Unclipped
 use Rattle.lookup_rules.specs.Lookup.{Answer, Nothing, Refused, look, read_over, lookup_up_to, counted, looked_up_to, looked, tell_found}
 use Rattle.lookup_rules.specs.Examined.{examined}
 use Rattle.promises.specs.Table.{◌when◌, only, Gives}
@@ -68,15 +67,15 @@ module _ {A : Type 0} (tell : A → Told) (to : Option ℤ → A) (stops : tell 
 pub unclipped-by : (xs : List ℕ) (p : ℤ) (reverse : Bool) → Gives (tell_unclipped (unclipped_by xs (record { 0 = p }) reverse)) (place_rows xs p reverse)
 unfolding plus_one both
 unclipped-by xs p reverse =
-    row_unless tell_unclipped (eqb (length xs) 0) Unclipped.NoOps _ refl
+    row_unless tell_unclipped (eqb (length xs) 0) (Ok Unclipped.NoOps) _ refl
     (row_sum tell_unclipped (λ s. unclipped_at s reverse xs) (p +ℤ pos 1) (end_sums reverse (p +ℤ pos 1) xs) refl
     (end-sums tell_unclipped as_unclipped refl (λ z. refl) reverse (p +ℤ pos 1) xs))
 
 pub unclipped_5prime_from_raw_bam : (b : List ℕ) → Gives (tell_unclipped (unclipped_of b)) (unclipped_rows b)
 unfolding unclipped_of
 unclipped_5prime_from_raw_bam b =
-    row tell_unclipped (is_short b) (Unclipped.Refused ShortRecord) _ 1 refl
-    (row_unless tell_unclipped (is_unmapped (flags_of b)) Unclipped.Unmapped _ refl
+    row tell_unclipped (is_short b) (Err ShortRecord) _ 1 refl
+    (row_unless tell_unclipped (is_unmapped (flags_of b)) (Ok Unclipped.Unmapped) _ refl
     (unclipped-by (record_ops b) (pos_of b) (is_reverse (flags_of b))))
 
 pub unclipped_5prime_raw : (b : List ℕ) (p : Pos0) (reverse : Bool) → Gives (tell_place0 (unclipped_from b p reverse)) (unclipped_from_rows b p.0 reverse)

@@ -71,9 +71,9 @@ template_length = int-field template_len_of
 
 pub cigar_raw_bytes : (b : List ℕ) → Gives (tell_area (cigar_area b)) (record_rows b)
 unfolding cigar_area
-cigar_raw_bytes b = row tell_area (is_short b) (Area.Refused ShortRecord) _ 1 refl (area (ltb (length b) (ops_end b)))
+cigar_raw_bytes b = row tell_area (is_short b) (Err ShortRecord) _ 1 refl (area (ltb (length b) (ops_end b)))
   where
-    area : (t : Bool) → Gives (tell_area (cond t (Area.At 0 0) (Area.At (ops_start b) (4 * op_count_of b)))) []
+    area : (t : Bool) → Gives (tell_area (cond t (Ok (record { start = 0; size = 0 })) (Ok (record { start = ops_start b; size = 4 * op_count_of b })))) []
     area true = answer refl refl
     area false = answer refl refl
 

@@ -1,6 +1,7 @@
 -- Document 02, item 1: what is promised of the reader of long op lists beside its answers. Each line is a theorem of the crate that it is cited from, over the definitions that the contracts use.
 -- A record is its front p up to the ops or, with a placeholder, up to the tags (`Front`), and what follows.
 use Prim.Native.Nat.{ℕ, ◌+◌, ◌*◌, ◌≤◌, ◌<◌}
+use Rattle.std.specs.Prelude.{Ok}
 use mathlib.Core.Path.{◌≡◌, ap, sym, ◌∙◌}
 use mathlib.Core.Bool.{true, false}
 use mathlib.Core.List.{List, ◌++◌}
@@ -12,7 +13,6 @@ use Rattle.sam.specs.TagBytes.{Proper, bytes_of, all_bytes}
 use Rattle.oplist.specs.Ops.{most_long_ops, record_ops}
 use Rattle.tag_rules.specs.Long.{own_list, list_in, true_list, part_of}
 use Rattle.tag_rules.specs.Whole.{Front, NoCg, cg_of}
-use Rattle.tag_rules.specs.declared.TrueList.TheVariants.{At}
 use Rattle.ends_rules.specs.Ends.{unclipped_of}
 use Rattle.clip_rules.specs.Answer.{without_count, record_start, record_end}
 use Rattle.true_rules.specs.True.{true_unclipped, true_start, true_end, HandsBack}
@@ -54,7 +54,7 @@ module _ (p : List ℕ) (f : Front p) (ts : List Tag) (a : Each Proper ts) (n : 
 
   -- where that CG holds the ops xs, the reader hands back their place and number, the ops there are xs, and the part is their bytes
   module _ (xs s : List ℕ) (few : length xs ≤ most_long_ops) (small : Each (λ o. o < 4294967296) xs) where
-    pub held_list : true_list (p ++ (all_bytes ts ++ (bytes_of (cg_of xs) ++ s))) ≡ At (length p + length (all_bytes ts) + 8) (length xs)
+    pub held_list : true_list (p ++ (all_bytes ts ++ (bytes_of (cg_of xs) ++ s))) ≡ Ok (record { at = length p + length (all_bytes ts) + 8; n = length xs })
     held_list = Held.held_list p f ts a n xs s few small
 
     pub held_ops : ops_in (p ++ (all_bytes ts ++ (bytes_of (cg_of xs) ++ s))) (length p + length (all_bytes ts) + 8) (length xs) ≡ xs
@@ -68,5 +68,5 @@ module _ (p : List ℕ) (f : Front p) (ts : List Tag) (a : Each Proper ts) (n : 
     held_part = Held.held_part p f ts a n xs s few small
 
 -- the part that is handed back lies in the record
-pub part_within : (b : List ℕ) (at n : ℕ) → true_list b ≡ At at n → at + 4 * n ≤ length b
+pub part_within : (b : List ℕ) (at n : ℕ) → true_list b ≡ Ok (record { at = at; n = n }) → at + 4 * n ≤ length b
 part_within b at n e = Held.within b at n e

@@ -1,5 +1,6 @@
 -- The refusal table of long op lists: the reader gives the first of its rows, tag by tag; what a call refuses of the ops comes behind.
 use Prim.Native.Nat.{ℕ, ◌+◌}
+use Rattle.answers.specs.Answer.{Answer}
 use Rattle.std.specs.Prelude.{Err, Ok}
 use mathlib.Core.Path.{◌≡◌, refl, sym, ap, ◌∙◌}
 use mathlib.Core.Bool.{Bool, true, false, cond, not, ◌||◌, ◌&&◌}
@@ -21,12 +22,9 @@ use Rattle.print_rules.specs.Text.{any_bad, text_of, printed_ops}
 use Rattle.length_rules.specs.Lengths.{list_lengths, lengths_with, long_ref_length, long_query_length, tell_lengths}
 use Rattle.lookup_rules.specs.Lookup.{long_looked, tell_found}
 use Rattle.ends_rules.specs.Ends.{unclipped_by, tell_unclipped}
-use Rattle.ends_rules.specs.declared.Unclipped.TheVariants as Unclipped
 use Rattle.clip_rules.specs.Answer.{clipped_ops, clipped_count, clipped_into, long_start, long_end, tell_clipped}
-use Rattle.clip_rules.specs.declared.Clipped.TheVariants as Clipped
 use Rattle.tag_rules.specs.Long.{own_list, list_in, first_cg, behind_placeholder, true_list, refusal_of, read_from, tell_true_list}
 use Rattle.tag_rules.specs.declared.TrueList.{TrueList}
-use Rattle.tag_rules.specs.declared.TrueList.TheVariants.{At, Refused}
 use Rattle.true_rules.specs.True.{stop_kept, true_ops, true_printed, true_lengths, true_unclipped, true_clipped, true_start, true_end}
 use Rattle.promises.specs.Table.{Row, first, Gives, GivesFilled}
 use Rattle.promises.specs.LongRows.{holds_placeholder, record_tags, breaks_early, first_is, reader_rows, ops_at, held_ops, behind_reader, true_ops_rows, true_print_rows, true_lengths_rows, true_unclipped_rows, true_clip_rows, long_list_rows, long_length_rows, long_lookup_rows, long_clip_rows}
@@ -44,15 +42,15 @@ tags_number ts =
     (cond (first_is (λ t. not (is_op_array t)) ts) 13
     (cond (first_is (λ t. ltb most_long_ops (array_count t)) ts) 3 0))
 
-tags_number_is : (x n at : ℕ) (ts : Tags) → refusal_of (first_cg (At x n) at ts) ≡ tags_number ts
+tags_number_is : (x n at : ℕ) (ts : Tags) → refusal_of (first_cg (Ok (record { at = x; n = n })) at ts) ≡ tags_number ts
 unfolding first_cg breaks_early first_is list_in
 tags_number_is x n at Ends = refl
 tags_number_is x n at Breaks = refl
 tags_number_is x n at (Then t ts) = go (is_cg t) (is_op_array t) (ltb most_long_ops (array_count t)) (tags_number_is x n (at + (3 + length t.value)) ts)
   where
-    go : (c o l : Bool) → refusal_of (first_cg (At x n) (at + (3 + length t.value)) ts) ≡ tags_number ts
+    go : (c o l : Bool) → refusal_of (first_cg (Ok (record { at = x; n = n })) (at + (3 + length t.value)) ts) ≡ tags_number ts
         → refusal_of
-        (cond c (cond (not o) (Refused OtherCg) (cond l (Refused TooManyOps) (At (at + 3 + 5) (array_count t)))) (first_cg (At x n) (at + (3 + length t.value)) ts))
+        (cond c (cond (not o) (Err OtherCg) (cond l (Err TooManyOps) (Ok (record { at = at + 3 + 5; n = array_count t })))) (first_cg (Ok (record { at = x; n = n })) (at + (3 + length t.value)) ts))
         ≡ cond (cond c false (breaks_early ts)) 12
         (cond (cond c (not o) (first_is (λ t. not (is_op_array t)) ts)) 13
         (cond (cond c l (first_is (λ t. ltb most_long_ops (array_count t)) ts)) 3 0))
@@ -67,9 +65,9 @@ reader_number b = go (is_short b) (ltb (length b) (ops_end b)) (holds_placeholde
   where
     go : (s o p q : Bool) → refusal_of (first_cg (own_list b) (tags_start b) (record_tags b)) ≡ tags_number (record_tags b)
         → refusal_of
-        (cond s (Refused ShortRecord)
-        (cond o (Refused AreaOverrun)
-        (cond p (cond q (Refused BadTags) (first_cg (own_list b) (tags_start b) (record_tags b))) (own_list b))))
+        (cond s (Err ShortRecord)
+        (cond o (Err AreaOverrun)
+        (cond p (cond q (Err BadTags) (first_cg (own_list b) (tags_start b) (record_tags b))) (own_list b))))
         ≡ cond s 1
         (cond o 2
         (cond (p && (q || breaks_early (record_tags b))) 12
@@ -83,9 +81,9 @@ reader_number b = go (is_short b) (ltb (length b) (ops_end b)) (holds_placeholde
 pub true_cigar_raw_bytes : (b : List ℕ) → Gives (tell_true_list (true_list b)) (reader_rows b)
 true_cigar_raw_bytes b = go (true_list b) (reader_number b)
   where
-    go : (t : TrueList) → refusal_of t ≡ first (reader_rows b) → Gives (tell_true_list t) (reader_rows b)
-    go (At at n) e = answer refl e
-    go (Refused r) e = refusal refl e
+    go : (t : Answer TrueList) → refusal_of t ≡ first (reader_rows b) → Gives (tell_true_list t) (reader_rows b)
+    go (Ok got) e = answer refl e
+    go (Err r) e = refusal refl e
 
 -- ---- behind the reader
 
@@ -115,9 +113,9 @@ reads : {A : Type 0} (tell : A → Told) (stop : Refusal → A) (make : List ℕ
     → (b : List ℕ) → Gives (tell (read_from stop make b (true_list b))) (behind_reader rows b)
 reads tell stop make rows p q b = go (true_list b) (reader_number b)
   where
-    go : (t : TrueList) → refusal_of t ≡ first (reader_rows b) → Gives (tell (read_from stop make b t)) (reader_rows b ++ rows (ops_at b t))
-    go (At at n) e = like (past_reader b (rows (ops_in b at n)) e) (q (ops_in b at n))
-    go (Refused r) e = refusal (p r) (by_reader b (rows []) r e)
+    go : (t : Answer TrueList) → refusal_of t ≡ first (reader_rows b) → Gives (tell (read_from stop make b t)) (reader_rows b ++ rows (ops_at b t))
+    go (Ok got) e = like (past_reader b (rows (ops_in b got.at got.n)) e) (q (ops_in b got.at got.n))
+    go (Err r) e = refusal (p r) (by_reader b (rows []) r e)
 
 -- the same of a call with an output d, which it fills with `out` of the ops, and answers `done` of them
 reads_into : {A : Type 0} (tell : A → Told) (stop : Refusal → A) → ((r : Refusal) → tell (stop r) ≡ number_alone (number_of r))
@@ -126,10 +124,10 @@ reads_into : {A : Type 0} (tell : A → Told) (stop : Refusal → A) → ((r : R
     → (b : List ℕ) → GivesFilled tell (read_from (stop_kept stop d) make b (true_list b)) d (behind_reader rows b) (done (held_ops b)) (out (held_ops b))
 reads_into tell stop p d make rows done out q b = go (true_list b) (reader_number b)
   where
-    go : (t : TrueList) → refusal_of t ≡ first (reader_rows b)
+    go : (t : Answer TrueList) → refusal_of t ≡ first (reader_rows b)
         → GivesFilled tell (read_from (stop_kept stop d) make b t) d (reader_rows b ++ rows (ops_at b t)) (done (ops_at b t)) (out (ops_at b t))
-    go (At at n) e = like_filled tell (past_reader b (rows (ops_in b at n)) e) (q (ops_in b at n))
-    go (Refused r) e = kept_refusal tell (stop r) (p r) (by_reader b (rows []) r e) (not-zero r)
+    go (Ok got) e = like_filled tell (past_reader b (rows (ops_in b got.at got.n)) e) (q (ops_in b got.at got.n))
+    go (Err r) e = kept_refusal tell (stop r) (p r) (by_reader b (rows []) r e) (not-zero r)
 
 pub true_cigar_ops : (b d : List ℕ) → GivesFilled tell_count (true_ops b d) d (true_ops_rows b d) (Ok (length (held_ops b))) (held_ops b)
 true_cigar_ops b d =
@@ -148,19 +146,19 @@ true_cigar_lengths b =
 pub true_unclipped_5prime_from_raw_bam : (b : List ℕ) → Gives (tell_unclipped (true_unclipped b)) (true_unclipped_rows b)
 unfolding true_unclipped
 true_unclipped_5prime_from_raw_bam b =
-    row tell_unclipped (is_short b) (Unclipped.Refused ShortRecord) _ 1 refl
-    (row_unless tell_unclipped (is_unmapped (flags_of b)) Unclipped.Unmapped _ refl
-    (reads tell_unclipped Unclipped.Refused (λ xs. unclipped_by xs (record { 0 = pos_of b }) (is_reverse (flags_of b))) _ (λ r. refl) (λ xs. unclipped-by xs (pos_of b) (is_reverse (flags_of b))) b))
+    row tell_unclipped (is_short b) (Err ShortRecord) _ 1 refl
+    (row_unless tell_unclipped (is_unmapped (flags_of b)) (Ok Unclipped.Unmapped) _ refl
+    (reads tell_unclipped Err (λ xs. unclipped_by xs (record { 0 = pos_of b }) (is_reverse (flags_of b))) _ (λ r. refl) (λ xs. unclipped-by xs (pos_of b) (is_reverse (flags_of b))) b))
 
 true_clip : (b : List ℕ) (amount : ℕ) (start : Bool) (d : List ℕ) → GivesFilled tell_clipped (true_clipped b amount start d) d (true_clip_rows b amount start d)
-    (Clipped.Done (length (clipped_ops (held_ops b) amount start)) (clipped_count (held_ops b) amount start)) (clipped_ops (held_ops b) amount start)
+    (Ok (record { written = length (clipped_ops (held_ops b) amount start); lost = clipped_count (held_ops b) amount start })) (clipped_ops (held_ops b) amount start)
 true_clip b amount start d =
-    reads_into tell_clipped Clipped.Refused (λ r. refl) d (λ xs. clipped_into xs amount start d) _
-    (λ xs. Clipped.Done (length (clipped_ops xs amount start)) (clipped_count xs amount start)) (λ xs. clipped_ops xs amount start) (into_rows amount start d) b
+    reads_into tell_clipped Err (λ r. refl) d (λ xs. clipped_into xs amount start d) _
+    (λ xs. (Ok (record { written = length (clipped_ops xs amount start); lost = clipped_count xs amount start }))) (λ xs. clipped_ops xs amount start) (into_rows amount start d) b
 
 module _ (b : List ℕ) (amount : ℕ) (d : List ℕ) where
   pub true_clip_cigar_start : GivesFilled tell_clipped (true_start b amount d) d (true_clip_rows b amount true d)
-      (Clipped.Done (length (clipped_ops (held_ops b) amount true)) (clipped_count (held_ops b) amount true)) (clipped_ops (held_ops b) amount true)
+      (Ok (record { written = length (clipped_ops (held_ops b) amount true); lost = clipped_count (held_ops b) amount true })) (clipped_ops (held_ops b) amount true)
   true_clip_cigar_start = true_clip b amount true d
 
   pub true_clip_cigar_end : GivesFilled tell_count (true_end b amount d) d (true_clip_rows b amount false d) (Ok (length (clipped_ops (held_ops b) amount false))) (clipped_ops (held_ops b) amount false)
@@ -179,7 +177,7 @@ long_read_pos_at_ref_pos_raw = read_pos_up_to most_long_ops
 
 module _ (xs : List ℕ) (amount : ℕ) (d : List ℕ) where
   pub long_clip_cigar_start_raw : GivesFilled tell_clipped (long_start xs amount d) d (long_clip_rows xs amount true d)
-      (Clipped.Done (length (clipped_ops xs amount true)) (clipped_count xs amount true)) (clipped_ops xs amount true)
+      (Ok (record { written = length (clipped_ops xs amount true); lost = clipped_count xs amount true })) (clipped_ops xs amount true)
   long_clip_cigar_start_raw = list_rows amount true d most_long_ops xs
 
   pub long_clip_cigar_end_raw : GivesFilled tell_count (long_end xs amount d) d (long_clip_rows xs amount false d) (Ok (length (clipped_ops xs amount false))) (clipped_ops xs amount false)

@@ -24,7 +24,6 @@ use Rattle.text_rules.specs.Strict.{strict}
 use Rattle.pairs_rules.specs.Pairs.{opposite_pair, fr_pair, primary_fr_pair}
 use Rattle.overhang_rules.specs.Overhang.{bases_extending}
 use Rattle.overlap_rules.specs.Overlap.{both_places, placed_pair, is_over, bases_at, overhang_at, pair_overhang, is_fr_by, past_mate_cigar, past_mate_record, list_left, pair_list_left, past_mate_text, tell_overhang}
-use Rattle.overlap_rules.specs.declared.Overhang.TheVariants as Overhang
 use Rattle.promises.specs.Table.{Row, ◌when◌, Gives, GivesFilled}
 use Rattle.promises.specs.Rows.{any_outside, no_room, is_yes, place_row, record_rows, pair_rows, fr_rows, two_rows, extending_rows, mate_cigar_rows, mate_record_rows, mate_text_rows}
 use Rattle.promises.proofs.RowLaws.{answer, like, row, row-past, row_where, kept_refusal, like_filled, kept_row, kept_past, kept_where, last_row}
@@ -106,27 +105,27 @@ num_bases_extending_past_mate_vs_mate_raw b m =
 
 -- 4, then 6, before the list is written
 list_rows : (fr : Bool) (b xs d : List ℕ) (m : ℤ)
-    → GivesFilled tell_overhang (list_left (placed_pair fr b m) b xs d) d (place_row fr (pos_of b) m ∷ no_room d (length xs) ∷ []) (Overhang.Bases (bases_at (placed_pair fr b m) b xs) (length xs)) xs
+    → GivesFilled tell_overhang (list_left (placed_pair fr b m) b xs d) d (place_row fr (pos_of b) m ∷ no_room d (length xs) ∷ []) (Ok (record { bases = bases_at (placed_pair fr b m) b xs; written = length xs })) xs
 unfolding list_left
 list_rows fr b xs d m =
-    subst (λ t. GivesFilled tell_overhang (list_left (placed_pair fr b m) b xs d) d ((4 when t) ∷ no_room d (length xs) ∷ []) (Overhang.Bases (bases_at (placed_pair fr b m) b xs) (length xs)) xs) (placed_over fr b m)
-    (kept_row tell_overhang (is_over (placed_pair fr b m)) (Overhang.Refused Overflow) 4 refl refl (last_row tell_overhang xs (Overhang.Refused NoRoom) _ refl refl))
+    subst (λ t. GivesFilled tell_overhang (list_left (placed_pair fr b m) b xs d) d ((4 when t) ∷ no_room d (length xs) ∷ []) (Ok (record { bases = bases_at (placed_pair fr b m) b xs; written = length xs })) xs) (placed_over fr b m)
+    (kept_row tell_overhang (is_over (placed_pair fr b m)) (Err Overflow) 4 refl refl (last_row tell_overhang xs (Err NoRoom) _ refl refl))
 
 -- what is left of the room by the pair test
 abbrev LeftBy : List ℕ → List ℕ → List ℕ → Answer Bool → List Row → Type 0
-LeftBy b xs d fr rows = GivesFilled tell_overhang (pair_list_left fr b xs d) d rows (Overhang.Bases (bases_at (placed_pair (is_yes fr) b (mate_pos_of b)) b xs) (length xs)) xs
+LeftBy b xs d fr rows = GivesFilled tell_overhang (pair_list_left fr b xs d) d rows (Ok (record { bases = bases_at (placed_pair (is_yes fr) b (mate_pos_of b)) b xs; written = length xs })) xs
 
 left_rows : (b xs d : List ℕ) → is_short b ≡ false → LeftBy b xs d (is_fr_by b xs) (pair_rows b ++ (place_row (is_yes (is_fr_by b xs)) (pos_of b) (mate_pos_of b) ∷ no_room d (length xs) ∷ []))
 left_rows b xs d l =
-    pair-rows (LeftBy b xs d) (record { stops = λ r rows e. kept_refusal tell_overhang (Overhang.Refused r) refl e (not-zero r); alike = λ fr rows rows' e q. like_filled tell_overhang e q })
+    pair-rows (LeftBy b xs d) (record { stops = λ r rows e. kept_refusal tell_overhang (Err r) refl e (not-zero r); alike = λ fr rows rows' e q. like_filled tell_overhang e q })
     (λ t. place_row t (pos_of b) (mate_pos_of b) ∷ no_room d (length xs) ∷ []) (λ t. list_rows t b xs d (mate_pos_of b)) _ b l
 
 -- an answer leaves the parsed list in the first places; a text that the strict reader refuses answers 0 and leaves the room as it was
 pub num_bases_extending_past_mate_text_raw : (b s d : List ℕ)
-    → GivesFilled tell_overhang (past_mate_text b s d) d (mate_text_rows b s d) (cond (strict s) (Overhang.Bases (bases_at (placed_pair (is_yes (is_fr_by b (text_ops s))) b (mate_pos_of b)) b (text_ops s)) (length (text_ops s))) (Overhang.Bases 0 0)) (cond (strict s) (text_ops s) [])
+    → GivesFilled tell_overhang (past_mate_text b s d) d (mate_text_rows b s d) (cond (strict s) (Ok (record { bases = bases_at (placed_pair (is_yes (is_fr_by b (text_ops s))) b (mate_pos_of b)) b (text_ops s); written = length (text_ops s) })) (Ok (record { bases = 0; written = 0 }))) (cond (strict s) (text_ops s) [])
 unfolding past_mate_text
 num_bases_extending_past_mate_text_raw b s d =
-    kept_past tell_overhang (is_short b) (Overhang.Refused ShortRecord) 1 refl refl (λ l.
-    kept_where tell_overhang (strict s) (Overhang.Bases 0 0) refl
-    (kept_row tell_overhang (ltb most_ops (length (text_ops s))) (Overhang.Refused TooManyOps) 3 refl refl
+    kept_past tell_overhang (is_short b) (Err ShortRecord) 1 refl refl (λ l.
+    kept_where tell_overhang (strict s) (Ok (record { bases = 0; written = 0 })) refl
+    (kept_row tell_overhang (ltb most_ops (length (text_ops s))) (Err TooManyOps) 3 refl refl
     (left_rows b (text_ops s) d l)))

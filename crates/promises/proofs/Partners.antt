@@ -14,7 +14,6 @@ use Rattle.lookup_rules.specs.Lookup.{looked_up_to, looked, long_looked}
 use Rattle.lookup_rules.specs.Meaning.{InBounds}
 use Rattle.clip_rules.specs.Answer.{clipped_ops, clipped_count, clipped_up_to, without_count, clipped_start, clipped_end, long_start, long_end, record_start, record_end}
 use Rattle.clip_rules.specs.declared.Clipped.{Clipped}
-use Rattle.clip_rules.specs.declared.Clipped.TheVariants.{Done}
 use Rattle.clip_laws.specs.Drops.{Drops}
 use Rattle.clip_laws.specs.Demand3.{Clipper, Given, Demand3Start, Demand3End, Itself, InRecord}
 use Rattle.clip_laws.proofs.Demand3 as Law
@@ -43,7 +42,7 @@ record_always limit = Call.always limit _ _ (Call.record_ruled true) (Call.recor
 true_ruled : (start : Bool) → Call.Ruled HandsBack start (λ b a d. true_clipped b a start d)
 true_ruled start s xs d a n r H e =
     let w = clips_held s xs H a start d in
-    w ∙ Call.into_ruled start xs d a n r (ap (λ (o : Outcome Clipped). o.answer) (sym w) ∙ e)
+    w ∙ Call.into_ruled start xs d a n r (ap (λ (o : Outcome (Answer Clipped)). o.answer) (sym w) ∙ e)
 
 pub true_always : (limit : ℕ) → Always limit HandsBack true_start true_end (looked_up_to limit)
 true_always limit = Call.always limit _ _ (true_ruled true) (true_ruled false)
@@ -53,14 +52,14 @@ true_always limit = Call.always limit _ _ (true_ruled true) (true_ruled false)
 in_bounds : {limit start : ℕ} (xs : List ℕ) → length xs ≤ limit → Acceptable start → InBounds limit xs start
 in_bounds xs h A = record { few = h; low = A.low; high = A.high }
 
-module _ (limit : ℕ) {Holds : List ℕ → List ℕ → Type 0} (f g : Clipper Clipped) (F : Call.Ruled Holds true f) (G : Call.Ruled Holds false g)
+module _ (limit : ℕ) {Holds : List ℕ → List ℕ → Type 0} (f g : Clipper (Answer Clipped)) (F : Call.Ruled Holds true f) (G : Call.Ruled Holds false g)
     (P : Demand3Start limit Holds f) (Q : Demand3End limit Holds (λ s a d. without_count (g s a d))) where
-  start_few : (s xs d m : List ℕ) (a n r : ℕ) → Given limit Holds true s xs a → Settled (f s a d) (Done n r) m → length (take n m) ≤ limit
+  start_few : (s xs d m : List ℕ) (a n r : ℕ) → Given limit Holds true s xs a → Settled (f s a d) (Ok (record { written = n; lost = r })) m → length (take n m) ≤ limit
   start_few s xs d m a n r T S =
       let O = P.once s xs a T in
       let l = O.clips.long in
       let w = T.takes.few in
-      let e = Call.as_long true f F s xs d m a n r T.holds S O.ys (length O.ys) O.count (sym (ap (λ (o : Outcome Clipped). o.answer) (O.gives O.ys (omega arith)))) in
+      let e = Call.as_long true f F s xs d m a n r T.holds S O.ys (length O.ys) O.count (sym (ap (λ (o : Outcome (Answer Clipped)). o.answer) (O.gives O.ys (omega arith)))) in
       omega arith
 
   end_few : (s xs d m : List ℕ) (a n : ℕ) → Given limit Holds false s xs a → Settled (without_count (g s a d)) (Ok n) m → length (take n m) ≤ limit
@@ -79,7 +78,7 @@ module _ (limit : ℕ) {Holds : List ℕ → List ℕ → Type 0} (f g : Clipper
         start_answers = λ s xs d m a c T room S.
             let O = P.once s xs a T in
             let l = O.clips.long in
-            (length O.ys, O.count, S.answer ∙ ap (λ (o : Outcome Clipped). o.answer) (O.gives d (omega arith)));
+            (length O.ys, O.count, S.answer ∙ ap (λ (o : Outcome (Answer Clipped)). o.answer) (O.gives d (omega arith)));
         at_start = λ s xs d m a n r start T S A B.
             let w = T.takes.few in
             (Call.always limit f g F G).at_start s xs d m a n r start T.holds S (in_bounds xs (omega arith) A) (in_bounds (take n m) (start_few s xs d m a n r T S) B);

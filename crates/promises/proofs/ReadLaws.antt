@@ -43,7 +43,6 @@ use Rattle.overhang_rules.specs.Reach.{bases_up_to, on_base, Unclamped}
 use Rattle.overhang_rules.specs.Overhang.{end_of, soft_start, soft_end, bases_past, bases_extending}
 use Rattle.overhang_rules.proofs.Meaning as Counts
 use Rattle.overhang_rules.proofs.Gaps as Gaps
-use Rattle.overlap_rules.specs.declared.Overhang.TheVariants as Overhang
 use Rattle.overlap_rules.specs.Overlap.{is_fr_by, past_mate_cigar, past_mate_record, past_mate_text}
 use Rattle.overlap_rules.specs.Bound.{Within, WithinText}
 use Rattle.overlap_rules.proofs.Promised as Most
@@ -161,7 +160,7 @@ module _ (b : List ℕ) (l : is_short b ≡ false) where
   record_no_length m r k e = Most.record_no_length b m r l k e
 
   pub text_no_length : (s d : List ℕ) (r : Refusal) → strict s ≡ true → ltb most_ops (length (text_ops s)) ≡ false → is_fr_by b (text_ops s) ≡ Err r
-      → past_mate_text b s d ≡ keeps (Overhang.Refused r) d
+      → past_mate_text b s d ≡ keeps (Err r) d
   text_no_length s d r t m e = Most.text_no_length b s d r l t m e
 
 -- `set_bin_from_raw_bam` leaves a record that has no bin as it was

@@ -1,5 +1,7 @@
 -- The refusal table of the receiving check: the sent record is refused as it is where it is written with room enough; then the received record's two tests.
 use Prim.Native.Nat.{ℕ, ◌≤◌}
+use Rattle.std.specs.Prelude.{Ok, Err}
+use Rattle.answers.specs.Answer.{Answer}
 use mathlib.Core.Path.{◌≡◌, refl, sym, ap, ◌∙◌}
 use mathlib.Core.Bool.{Bool, true, false, cond}
 use mathlib.Core.List.{List, [], ◌∷◌, ◌++◌}
@@ -15,14 +17,13 @@ use Rattle.answers.specs.Settled.{keeps}
 use Rattle.answers.proofs.Numbers.{not-zero}
 use Rattle.answers.specs.declared.Refusal.TheVariants.{NoRoom, ReceivedShort, ReceivedCut}
 use Rattle.clip_rules.specs.Answer.{tell_clipped}
-use Rattle.clip_rules.specs.declared.Clipped.TheVariants as Clipped
 use Rattle.record_rules.specs.Written.{Change, new_name, new_ops, new_bases, new_quals, new_tags, new_record}
 use Rattle.record_rules.specs.Clipping.{Fate, Refuses, Becomes, clipped_fate, put_into, written}
 use Rattle.receive_rules.specs.Receiving.{same, same_header, unless, compared, weighed, received_as, checked_start, checked_end, tell_received}
 use Rattle.receive_rules.specs.declared.Part.{Part}
 use Rattle.receive_rules.specs.declared.Part.TheVariants.{Header, Name, Ops, Bases, Qualities, Tags}
 use Rattle.receive_rules.specs.declared.Received.{Received}
-use Rattle.receive_rules.specs.declared.Received.TheVariants.{Accepted, Refused}
+use Rattle.receive_rules.specs.declared.Received.TheVariants.{Accepted}
 use Rattle.promises.specs.Table.{Row, ◌when◌, first, Gives}
 use Rattle.promises.specs.RecordRows.{clipped_record}
 use Rattle.promises.specs.ReceiveRows.{sent_rows, received_short, received_cut, check_rows}
@@ -72,14 +73,14 @@ module _ (b : List ℕ) (amount : ℕ) (start : Bool) where
       ∙ sym (ap (λ (f : Fate). (tell_clipped (written b f d).answer).number) e)
       ∙ told_with_room d (omega arith)
     where
-      fits : (t : Bool) → t ≡ false → 0 ≡ (tell_clipped (cond t (keeps (Clipped.Refused NoRoom) (new_record b c ++ clipped_record b amount start))
-          (record { answer = Clipped.Done (length (new_record b c)) c.count; left = splice (new_record b c ++ clipped_record b amount start) 0 (new_record b c) })).answer).number
+      fits : (t : Bool) → t ≡ false → 0 ≡ (tell_clipped (cond t (keeps (Err NoRoom) (new_record b c ++ clipped_record b amount start))
+          (record { answer = Ok (record { written = length (new_record b c); lost = c.count }); left = splice (new_record b c ++ clipped_record b amount start) 0 (new_record b c) })).answer).number
       fits t e = rw e
 
 -- ---- the received record
 
 -- a part that differs is an answer
-unless_answers : (ok : Bool) (p : Part) (x : Received) → (tell_received x).number ≡ 0 → (tell_received (unless ok p x)).number ≡ 0
+unless_answers : (ok : Bool) (p : Part) (x : Answer Received) → (tell_received x).number ≡ 0 → (tell_received (unless ok p x)).number ≡ 0
 unless_answers true p x h = h
 unless_answers false p x h = refl
 
@@ -90,13 +91,13 @@ compared_answers g b c =
     (unless_answers (same (name_part g) (new_name b c)) Name _
     (unless_answers (same (ops_part g) (new_ops b c)) Ops _
     (unless_answers (same (bases_part g) (new_bases b c)) Bases _
-    (unless_answers (same (quals_part g) (new_quals b c)) Qualities _ (unless_answers (same (tags_part g) (new_tags b c)) Tags Accepted refl)))))
+    (unless_answers (same (quals_part g) (new_quals b c)) Qualities _ (unless_answers (same (tags_part g) (new_tags b c)) Tags (Ok Accepted) refl)))))
 
 weighed_rows : (g b : List ℕ) (c : Change) → Gives (tell_received (weighed g b c)) (received_short g ∷ received_cut g ∷ [])
 unfolding weighed
 weighed_rows g b c =
-    row tell_received (is_short g) (Refused ReceivedShort) _ 23 refl
-    (row tell_received (ltb (length g) (tags_start g)) (Refused ReceivedCut) (compared g b c) 24 refl (answer (compared_answers g b c) refl))
+    row tell_received (is_short g) (Err ReceivedShort) _ 23 refl
+    (row tell_received (ltb (length g) (tags_start g)) (Err ReceivedCut) (compared g b c) 24 refl (answer (compared_answers g b c) refl))
 
 -- ---- the two calls
 

@@ -24,7 +24,6 @@ use Rattle.length_rules.specs.Lengths.{as_int}
 use Rattle.bin_rules.specs.Bin.{bin_to, reg2bin, span_of, bin_up_to, bin_from}
 use Rattle.clip_rules.specs.Answer.{clippable, is_beyond, tell_clipped}
 use Rattle.clip_rules.specs.declared.Clipped.{Clipped}
-use Rattle.clip_rules.specs.declared.Clipped.TheVariants.{Done, Refused}
 use Rattle.record_rules.specs.Clipping.{most_record_ops, differs, new_len, first_kept, start_count, bin_at, Fate, Refuses, Becomes, binned, placed, counted, clipped_fate, put_into, written, clipped_record_start, clipped_record_end}
 use Rattle.record_rules.proofs.ClippedLaws.{clipped_total}
 use Rattle.record_rules.proofs.PlanLaws.{refs_small}
@@ -76,8 +75,8 @@ module _ (b : List ℕ) (amount : ℕ) (start : Bool) (d : List ℕ) where
   abbrev new : List ℕ
   new = clipped_record b amount start
 
-  abbrev done : Clipped
-  done = Done (length new) (start_count (record_ops b) amount start)
+  abbrev done : Answer Clipped
+  done = Ok (record { written = length new; lost = start_count (record_ops b) amount start })
 
   -- a fate gives rows, and past them the record
   abbrev FateGives : Fate → List Row → Type 0
@@ -85,12 +84,12 @@ module _ (b : List ℕ) (amount : ℕ) (start : Bool) (d : List ℕ) where
 
   fate_row : (t : Bool) (r : Refusal) (n : ℕ) (f : Fate) {rows : List Row} → number_of r ≡ n → eqb n 0 ≡ false → (t ≡ false → FateGives f rows) → FateGives (cond t (Refuses r) f) ((n when t) ∷ rows)
   unfolding written
-  fate_row true r n f e some q = kept_refusal tell_clipped (Refused r) (ap (λ (k : ℕ). record { number = k; values = [] }) e) refl some
+  fate_row true r n f e some q = kept_refusal tell_clipped (Err r) (ap (λ (k : ℕ). record { number = k; values = [] }) e) refl some
   fate_row false r n f e some q = like_filled tell_clipped refl (q refl)
 
   room_row : FateGives (Becomes (change b amount start)) (no_room d (length new) ∷ [])
   unfolding written put_into
-  room_row = last_row tell_clipped new (Refused NoRoom) done refl refl
+  room_row = last_row tell_clipped new (Err NoRoom) done refl refl
 
   -- 4
   bin_row : (z : ℤ) → z ≡ moved_place b amount start → (n : Answer ℕ) → bin_at z (sum_of ref_len ys) ≡ n → (t : Bool) → Agrees n t
@@ -107,7 +106,7 @@ module _ (b : List ℕ) (amount : ℕ) (start : Bool) (d : List ℕ) where
   bin_row z e (Err r) q t a =
       subst (λ (u : Bool). FateGives (Refuses r) ((4 when (false || u)) ∷ no_room d (length new) ∷ [])) (sym a.1)
       (subst (λ (s : Refusal). FateGives (Refuses s) ((4 when true) ∷ no_room d (length new) ∷ [])) (sym a.0)
-      (kept_refusal tell_clipped (Refused Overflow) refl refl refl))
+      (kept_refusal tell_clipped (Err Overflow) refl refl refl))
 
   place_row : sum_of len_of (record_ops b) ≤ 268435455
       → FateGives (placed b ys start (start_count (record_ops b) amount start) (checked (moved_place b amount start))) (over_moved (moved_place b amount start) ys ∷ no_room d (length new) ∷ [])
@@ -125,8 +124,8 @@ module _ (b : List ℕ) (amount : ℕ) (start : Bool) (d : List ℕ) where
 
       by_side : (low high : Bool)
           → FateGives (placed b ys start (start_count (record_ops b) amount start) (sum_at (cond low Below (cond high Above (Within z))))) ((4 when ((low || high) || test)) ∷ no_room d (length new) ∷ [])
-      by_side true high = kept_refusal tell_clipped (Refused Overflow) refl refl refl
-      by_side false true = kept_refusal tell_clipped (Refused Overflow) refl refl refl
+      by_side true high = kept_refusal tell_clipped (Err Overflow) refl refl refl
+      by_side false true = kept_refusal tell_clipped (Err Overflow) refl refl refl
       by_side false false = bin_row z refl (bin_at z (sum_of ref_len ys)) refl test (bin_agrees z (sum_of ref_len ys) small)
 
   count_rows : sum_of len_of (record_ops b) ≤ 268435455
@@ -148,7 +147,7 @@ module _ (b : List ℕ) (amount : ℕ) (start : Bool) (d : List ℕ) where
 
 module _ (b : List ℕ) (amount : ℕ) (d : List ℕ) where
   pub clip_record_start : GivesFilled tell_clipped (clipped_record_start b amount d) d (clipped_record_rows b amount true d)
-      (Done (length (clipped_record b amount true)) (start_count (record_ops b) amount true)) (clipped_record b amount true)
+      (Ok (record { written = length (clipped_record b amount true); lost = start_count (record_ops b) amount true })) (clipped_record b amount true)
   clip_record_start = fate_rows b amount true d
 
   pub clip_record_end : GivesFilled tell_count (clipped_record_end b amount d) d (clipped_record_rows b amount false d) (Ok (length (clipped_record b amount false))) (clipped_record b amount false)

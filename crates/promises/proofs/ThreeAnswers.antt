@@ -28,10 +28,10 @@ use Rattle.promises.proofs.EndRows.{unclipped_5prime_from_raw_bam}
 
 module _ (b : List ℕ) where
   -- the number that is told is the first row's
-  told : (u : Unclipped) → unclipped_of b ≡ u → (tell_unclipped u).number ≡ first (unclipped_rows b)
-  told u e = ap (λ (v : Unclipped). (tell_unclipped v).number) (sym e) ∙ (unclipped_5prime_from_raw_bam b).number
+  told : (u : Answer Unclipped) → unclipped_of b ≡ u → (tell_unclipped u).number ≡ first (unclipped_rows b)
+  told u e = ap (λ (v : Answer Unclipped). (tell_unclipped v).number) (sym e) ∙ (unclipped_5prime_from_raw_bam b).number
 
-  five_is : (p : Pos1) → unclipped_of b ≡ Unclipped.At p → five_of b ≡ p.0
+  five_is : (p : Pos1) → unclipped_of b ≡ (Ok (Unclipped.At p)) → five_of b ≡ p.0
   five_is p e = go (is_reverse (flags_of b)) refl
     where
       at : ℤ
@@ -46,11 +46,11 @@ module _ (b : List ℕ) where
 
   module _ (p : Pos1) (m : is_unmapped (flags_of b) ≡ false) (o : lacks_ops b ≡ false) (f : refuses (unclipped_rows b) ≡ false) (h : five_of b ≡ p.0) where
     -- neither of the other answers, and no refusal
-    settle : (u : Unclipped) → unclipped_of b ≡ u → unclipped_of b ≡ Unclipped.At p
-    settle (Unclipped.At q) e = e ∙ ap (λ (z : ℤ). Unclipped.At (record { 0 = z })) (sym (five_is q e) ∙ h)
-    settle Unclipped.Unmapped e = false_true (sym m ∙ (Ends.unmapped_only b e).1)
-    settle Unclipped.NoOps e = false_true (sym o ∙ sym (Ends.no_ops_is b) ∙ (Ends.no_ops_only b e).2)
-    settle (Unclipped.Refused r) e = false_true (sym f ∙ ap (λ (n : ℕ). not (eqb n 0)) (sym (told (Unclipped.Refused r) e)) ∙ ap not (not-zero r))
+    settle : (u : Answer Unclipped) → unclipped_of b ≡ u → unclipped_of b ≡ (Ok (Unclipped.At p))
+    settle (Ok (Unclipped.At q)) e = e ∙ ap (λ (z : ℤ). (Ok (Unclipped.At (record { 0 = z })))) (sym (five_is q e) ∙ h)
+    settle (Ok Unclipped.Unmapped) e = false_true (sym m ∙ (Ends.unmapped_only b e).1)
+    settle (Ok Unclipped.NoOps) e = false_true (sym o ∙ sym (Ends.no_ops_is b) ∙ (Ends.no_ops_only b e).2)
+    settle (Err r) e = false_true (sym f ∙ ap (λ (n : ℕ). not (eqb n 0)) (sym (told (Err r) e)) ∙ ap not (not-zero r))
 
 -- "a position, unmapped, or no ops, which an overrun area also gives"
 pub three_answers : (b : List ℕ) → ThreeAnswers b (unclipped_of b)
@@ -62,7 +62,7 @@ three_answers b =
         always = λ w. sym (Cases.no_ops b (ltb-false (length b) 32 w.0) w.1 (Ends.no_ops_is b ∙ w.2));
       };
       position = λ p. record {
-        only = λ e. let w = Ends.position-only b p e in (w.0, sym (Ends.no_ops_is b) ∙ w.1, ap (λ (n : ℕ). not (eqb n 0)) (sym (told b (Unclipped.At p) e)), five_is b p e);
+        only = λ e. let w = Ends.position-only b p e in (w.0, sym (Ends.no_ops_is b) ∙ w.1, ap (λ (n : ℕ). not (eqb n 0)) (sym (told b (Ok (Unclipped.At p)) e)), five_is b p e);
         always = λ w. settle b p w.0 w.1 w.2 w.3 (unclipped_of b) refl;
       };
     }
@@ -80,13 +80,13 @@ pub as-rust : (b : List ℕ) → as_rust (unclipped_of b) ≡ rust_number b
 unfolding unclipped_of rust_number
 as-rust b = rw (sym (Ends.no_ops_is b)) (go (is_short b) (is_unmapped (flags_of b)) (has_no_ops b))
   where
-    rest : Unclipped
+    rest : Answer Unclipped
     rest = unclipped_at (plus_one (record { 0 = pos_of b })) (is_reverse (flags_of b)) (record_ops b)
 
     number : Answer ℤ
     number = sum_as_int (from_next (plus_one (record { 0 = pos_of b })) (is_reverse (flags_of b)) (record_ops b))
 
-    go : (s t u : Bool) → as_rust (cond s (Unclipped.Refused ShortRecord) (cond t Unclipped.Unmapped (cond u Unclipped.NoOps rest))) ≡ cond s (Err ShortRecord) (cond t (Ok (pos 0)) (cond u (Ok (pos 2147483647)) number))
+    go : (s t u : Bool) → as_rust (cond s (Err ShortRecord) (cond t (Ok Unclipped.Unmapped) (cond u (Ok Unclipped.NoOps) rest))) ≡ cond s (Err ShortRecord) (cond t (Ok (pos 0)) (cond u (Ok (pos 2147483647)) number))
     go true t u = refl
     go false true u = refl
     go false false true = refl

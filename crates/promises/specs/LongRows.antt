@@ -2,6 +2,7 @@
 -- qualities or tags up to the first CG that overrun, or among these tags a type not listed, 13 CG of another type, 3 above the new limit; in this order." The calls that
 -- read its list refuse behind it as those on a record's own list do; a lent list has the new limit.
 use Rattle.std.specs.Prelude.{ℕ, Bool, true, false, cond, not, ◌||◌, ◌&&◌, List, [], ◌∷◌, ◌++◌, ltb, pos, length, drop}
+use Rattle.answers.specs.Answer.{Answer}
 use Rattle.lists.specs.Lists.{sum_of}
 use Rattle.sam.specs.Op.{ref_len}
 use Rattle.sam.specs.Record.{seq_len_of, pos_of, flags_of, is_unmapped, is_reverse, tags_start}
@@ -53,7 +54,7 @@ reader_rows b = short b ∷ overrun b ∷ bad_tags b ∷ other_cg b ∷ long_cg 
 -- ---- the calls that read its list
 
 -- the ops that it hands back
-abbrev pub ops_at : List ℕ → TrueList → List ℕ
+abbrev pub ops_at : List ℕ → Answer TrueList → List ℕ
 ops_at b t = read_from (λ r. []) (λ xs. xs) b t
 
 abbrev pub held_ops : List ℕ → List ℕ

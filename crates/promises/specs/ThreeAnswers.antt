@@ -33,20 +33,20 @@ pub record Exactly (given when : Type 0) : Type 0 where
   pub always : when → given
 
 -- unmapped is asked first, then the ops; a position is that sum and no other, and is refused, by 1 or 4, as its rows say
-pub record ThreeAnswers (b : List ℕ) (answer : Unclipped) : Type 0 where
-  pub unmapped : Exactly (answer ≡ Unclipped.Unmapped) ((is_short b ≡ false) × (is_unmapped (flags_of b) ≡ true))
-  pub no_ops : Exactly (answer ≡ Unclipped.NoOps) ((is_short b ≡ false) × (is_unmapped (flags_of b) ≡ false) × (lacks_ops b ≡ true))
+pub record ThreeAnswers (b : List ℕ) (answer : Answer Unclipped) : Type 0 where
+  pub unmapped : Exactly (answer ≡ (Ok Unclipped.Unmapped)) ((is_short b ≡ false) × (is_unmapped (flags_of b) ≡ true))
+  pub no_ops : Exactly (answer ≡ (Ok Unclipped.NoOps)) ((is_short b ≡ false) × (is_unmapped (flags_of b) ≡ false) × (lacks_ops b ≡ true))
   pub position : (p : Pos1)
-      → Exactly (answer ≡ Unclipped.At p) ((is_unmapped (flags_of b) ≡ false) × (lacks_ops b ≡ false) × (refuses (unclipped_rows b) ≡ false) × (five_of b ≡ p.0))
+      → Exactly (answer ≡ (Ok (Unclipped.At p))) ((is_unmapped (flags_of b) ≡ false) × (lacks_ops b ≡ false) × (refuses (unclipped_rows b) ≡ false) × (five_of b ≡ p.0))
 
 -- ---- "folded back to its numbers"
 
 -- document 01: "unmapped 0; no ops or overrun 2,147,483,647"
-abbrev pub as_rust : Unclipped → Answer ℤ
-as_rust (Unclipped.At p) = Ok p.0
-as_rust Unclipped.Unmapped = Ok (pos 0)
-as_rust Unclipped.NoOps = Ok (pos 2147483647)
-as_rust (Unclipped.Refused r) = Err r
+abbrev pub as_rust : Answer Unclipped → Answer ℤ
+as_rust (Ok (Unclipped.At p)) = Ok p.0
+as_rust (Ok Unclipped.Unmapped) = Ok (pos 0)
+as_rust (Ok Unclipped.NoOps) = Ok (pos 2147483647)
+as_rust (Err r) = Err r
 
 abbrev pub sum_as_int : Option ℤ → Answer ℤ
 sum_as_int (Some z) = Ok z

@@ -33,7 +33,7 @@ fn alike(text: &[u8], from: usize, had: usize, digits: usize, out: &mut [u32]) -
     let mut n = had;
     let mut i = from;
     while 5 <= text.len() - i {
-        let Token::Op(len, code, next) = alike_tokens::alike_token(text, i, digits) else {
+        let Some(Token { len, code, next }) = alike_tokens::alike_token(text, i, digits) else {
             break;
         };
         if !validity::is_inner(code) {
@@ -63,7 +63,7 @@ fn stretch(text: &[u8], seen: Reached, out: &mut [u32]) -> Option<Reached>
         if text.len() <= i {
             break;
         }
-        let Token::Op(len, code, next) = tokens::token_at(tokens::short_token(text, i), text, i)
+        let Some(Token { len, code, next }) = tokens::token_at(tokens::short_token(text, i), text, i)
         else {
             return None;
         };

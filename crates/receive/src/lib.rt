@@ -9,65 +9,65 @@ ghost use Rattle.record_rules.specs.InnerPlan.{change_by, Fits};
 ghost use Rattle.receive_rules.specs.Receiving.{compared, weighed, received_as, checked_start, checked_end};
 ghost use Rattle.receive_rules.specs.InnerCompared.{behind_ops, behind_header};
 
-use answers::Refusal;
+use answers::{Answer, Refusal};
 use clip_rules::Plan;
 use receive_rules::{Part, Received};
 use record_rules::RecordPlan;
 
 // Whether the received record is the sent one clipped by `amount` bases at its start, and else the first part that differs. Refusals 1, 2, 8, 19, 15, 16, 4, 23, 24.
-pub fn check_clipped_start(sent: &[u8], amount: u64, received: &[u8]) -> Received
+pub fn check_clipped_start(sent: &[u8], amount: u64, received: &[u8]) -> Answer<Received>
     ensures { result ≡ checked_start sent.now amount received.now }
 {
     check_clipped(&*sent, amount, true, &*received)
 }
 
 // The same at the end. Refusals 1, 2, 8, 19, 15, 16, 4, 23, 24.
-pub fn check_clipped_end(sent: &[u8], amount: u64, received: &[u8]) -> Received
+pub fn check_clipped_end(sent: &[u8], amount: u64, received: &[u8]) -> Answer<Received>
     ensures { result ≡ checked_end sent.now amount received.now }
 {
     check_clipped(&*sent, amount, false, &*received)
 }
 
 // Both ends. The records are lent anew to each call, so that their places and lengths are handed on in registers (`record_write`).
-fn check_clipped(sent: &[u8], amount: u64, start: bool, received: &[u8]) -> Received
+fn check_clipped(sent: &[u8], amount: u64, start: bool, received: &[u8]) -> Answer<Received>
     ensures { result ≡ received_as received.now sent.now (clipped_fate sent.now amount start) }
 {
     match record_plan::plan_record(&*sent, amount, start) {
         Ok(p) => weigh(&*received, &*sent, p, start),
-        Err(why) => Received::Refused(why),
+        Err(why) => Err(why),
     }
 }
 
 // A received record beside the plan of the one that was sent. Refusals 23, 24.
-fn weigh(got: &[u8], rec: &[u8], p: RecordPlan, start: bool) -> Received
+fn weigh(got: &[u8], rec: &[u8], p: RecordPlan, start: bool) -> Answer<Received>
     requires fits { Fits rec.now p }
     requires n_bound { p.n ≤ 65535 }
     ensures { result ≡ weighed got.now rec.now (change_by rec.now start p) }
 {
     if got.len() < 32 {
-        return Received::Refused(Refusal::ReceivedShort);
+        return Err(Refusal::ReceivedShort);
     }
     if got.len() < record_parts::tags_start(got) {
-        return Received::Refused(Refusal::ReceivedCut);
+        return Err(Refusal::ReceivedCut);
     }
     compare(got, rec, p, start)
 }
 
 // The first part that differs.
-fn compare(got: &[u8], rec: &[u8], p: RecordPlan, start: bool) -> Received
+fn compare(got: &[u8], rec: &[u8], p: RecordPlan, start: bool) -> Answer<Received>
     requires fits { Fits rec.now p }
     requires n_bound { p.n ≤ 65535 }
     requires got_in_bounds { tags_start got.now ≤ length got.now }
     ensures { result ≡ compared got.now rec.now (change_by rec.now start p) }
 {
     if !receive_header::same_header(got, rec, p) {
-        return Received::Differs(Part::Header);
+        return Ok(Received::Differs(Part::Header));
     }
     compare_behind(got, rec, p, start)
 }
 
 // The first part behind the header that differs.
-fn compare_behind(got: &[u8], rec: &[u8], p: RecordPlan, start: bool) -> Received
+fn compare_behind(got: &[u8], rec: &[u8], p: RecordPlan, start: bool) -> Answer<Received>
     requires fits { Fits rec.now p }
     requires got_in_bounds { tags_start got.now ≤ length got.now }
     requires got_value { name_len_of got.now ≡ name_len_of rec.now }
@@ -79,16 +79,16 @@ fn compare_behind(got: &[u8], rec: &[u8], p: RecordPlan, start: bool) -> Receive
     let n = little_endian::u16_at(rec, 12) as usize;
     let ops: Plan = p.ops;
     if !receive_parts::same_bytes(got, 32, rec, 32, name) {
-        return Received::Differs(Part::Name);
+        return Ok(Received::Differs(Part::Name));
     }
     if !receive_parts::same_ops(got, 32 + name, rec, 32 + name, n, ops, start) {
-        return Received::Differs(Part::Ops);
+        return Ok(Received::Differs(Part::Ops));
     }
     compare_tail(got, rec, p.from as usize, p.len as usize)
 }
 
 // The first part behind the ops that differs.
-fn compare_tail(got: &[u8], rec: &[u8], from: usize, n: usize) -> Received
+fn compare_tail(got: &[u8], rec: &[u8], from: usize, n: usize) -> Answer<Received>
     requires rec_in_bounds { tags_start rec.now ≤ length rec.now }
     requires n_bound { from + n ≤ seq_len_of rec.now }
     requires got_in_bounds { tags_start got.now ≤ length got.now }
@@ -99,13 +99,13 @@ fn compare_tail(got: &[u8], rec: &[u8], from: usize, n: usize) -> Received
     let quals = record_parts::quals_start(rec);
     let tags = record_parts::tags_start(rec);
     if !receive_parts::same_bases(got, record_parts::bases_start(got), rec, bases, from, n) {
-        return Received::Differs(Part::Bases);
+        return Ok(Received::Differs(Part::Bases));
     }
     if !receive_parts::same_bytes(got, record_parts::quals_start(got), rec, quals + from, n) {
-        return Received::Differs(Part::Qualities);
+        return Ok(Received::Differs(Part::Qualities));
     }
     if !receive_parts::same_rest(got, record_parts::tags_start(got), rec, tags) {
-        return Received::Differs(Part::Tags);
+        return Ok(Received::Differs(Part::Tags));
     }
-    Received::Accepted
+    Ok(Received::Accepted)
 }

@@ -19,5 +19,4 @@ pub enum Part {
 pub enum Received {
     Accepted,
     Differs(Part),
-    Refused(Refusal),
 }

@@ -14,7 +14,6 @@ use Rattle.answers.specs.Settled.{Outcome, keeps}
 use Rattle.answers.specs.declared.Refusal.TheVariants.{NoRoom}
 use Rattle.clip_rules.specs.Answer.{without_count, uncounted}
 use Rattle.clip_rules.specs.declared.Clipped.{Clipped}
-use Rattle.clip_rules.specs.declared.Clipped.TheVariants.{Done, Refused}
 use Rattle.clip_laws.specs.Demand3.{StartGives, EndGives}
 use Rattle.clip_laws.proofs.Demand3.{take_written}
 use Rattle.record_rules.specs.Written.{Change, new_record}
@@ -22,12 +21,12 @@ use Rattle.record_rules.specs.Clipping.{Fate, Refuses, Becomes, clipped_fate, pu
 
 -- ---- from a change
 
-put_room : (new : List ℕ) (count : ℕ) (d : List ℕ) → length new ≤ length d → put_into new count d ≡ record { answer = Done (length new) count; left = splice d 0 new }
+put_room : (new : List ℕ) (count : ℕ) (d : List ℕ) → length new ≤ length d → put_into new count d ≡ record { answer = Ok (record { written = length new; lost = count }); left = splice d 0 new }
 unfolding put_into
 put_room new count d h = simp (le-ltb (length d) (length new) h)
 
 written_room : (b : List ℕ) (f : Fate) (c : Change) → f ≡ Becomes c → (d : List ℕ) → length (new_record b c) ≤ length d
-    → written b f d ≡ record { answer = Done (length (new_record b c)) c.count; left = splice d 0 (new_record b c) }
+    → written b f d ≡ record { answer = Ok (record { written = length (new_record b c); lost = c.count }); left = splice d 0 (new_record b c) }
 unfolding written
 written_room b f c e d h = ap (λ (g : Fate). written b g d) e ∙ put_room (new_record b c) c.count d h
 
@@ -46,40 +45,40 @@ pub record Given (b : List ℕ) (f : Fate) (new : List ℕ) (count : ℕ) : Type
   pub record_is : new_record b change ≡ new
   pub count-is : change.count ≡ count
 
-abbrev Answers : Clipped → Type 0
-Answers (Done n count) = Unit {0}
-Answers (Refused r) = ⊥
+abbrev Answers : Answer Clipped → Type 0
+Answers (Ok got) = Unit {0}
+Answers (Err r) = ⊥
 
-abbrev size_in : Clipped → ℕ
-size_in (Done n count) = n
-size_in (Refused r) = 0
+abbrev size_in : Answer Clipped → ℕ
+size_in (Ok got) = got.written
+size_in (Err r) = 0
 
-abbrev count_in : Clipped → ℕ
-count_in (Done n count) = count
-count_in (Refused r) = 0
+abbrev count_in : Answer Clipped → ℕ
+count_in (Ok got) = got.lost
+count_in (Err r) = 0
 
 -- an answer that was given into the very record that it wrote
 module _ (b new : List ℕ) (count : ℕ) where
-  put_given : (c : Change) (d : List ℕ) → length new ≡ length d → put_into (new_record b c) c.count d ≡ record { answer = Done (length new) count; left = splice d 0 new }
+  put_given : (c : Change) (d : List ℕ) → length new ≡ length d → put_into (new_record b c) c.count d ≡ record { answer = Ok (record { written = length new; lost = count }); left = splice d 0 new }
       → (new_record b c ≡ new) × (c.count ≡ count)
   unfolding put_into
   put_given c d l e = go (ltb (length d) (length (new_record b c))) e
     where
-      go : (t : Bool) → cond t (keeps (Refused NoRoom) d) (record { answer = Done (length (new_record b c)) c.count; left = splice d 0 (new_record b c) })
-          ≡ record { answer = Done (length new) count; left = splice d 0 new } → (new_record b c ≡ new) × (c.count ≡ count)
-      go true e = absurd (subst⁻¹ Answers (ap (λ (o : Outcome Clipped). o.answer) e) tt)
+      go : (t : Bool) → cond t (keeps (Err NoRoom) d) (record { answer = Ok (record { written = length (new_record b c); lost = c.count }); left = splice d 0 (new_record b c) })
+          ≡ record { answer = Ok (record { written = length new; lost = count }); left = splice d 0 new } → (new_record b c ≡ new) × (c.count ≡ count)
+      go true e = absurd (subst⁻¹ Answers (ap (λ (o : Outcome (Answer Clipped)). o.answer) e) tt)
       go false e =
-          let n : length (new_record b c) ≡ length new = ap (λ (o : Outcome Clipped). size_in o.answer) e in (
+          let n : length (new_record b c) ≡ length new = ap (λ (o : Outcome (Answer Clipped)). size_in o.answer) e in (
             sym (take_written d (new_record b c))
-                ∙ ap (λ (o : Outcome Clipped). take (length (new_record b c)) o.left) e
+                ∙ ap (λ (o : Outcome (Answer Clipped)). take (length (new_record b c)) o.left) e
                 ∙ ap (λ (k : ℕ). take k (splice d 0 new)) n
                 ∙ take_written d new,
-            ap (λ (o : Outcome Clipped). count_in o.answer) e,
+            ap (λ (o : Outcome (Answer Clipped)). count_in o.answer) e,
           )
 
-  fate_given : (f : Fate) → written b f new ≡ record { answer = Done (length new) count; left = splice new 0 new } → Given b f new count
+  fate_given : (f : Fate) → written b f new ≡ record { answer = Ok (record { written = length new; lost = count }); left = splice new 0 new } → Given b f new count
   unfolding written
-  fate_given (Refuses r) e = absurd (subst⁻¹ Answers (ap (λ (o : Outcome Clipped). o.answer) e) tt)
+  fate_given (Refuses r) e = absurd (subst⁻¹ Answers (ap (λ (o : Outcome (Answer Clipped)). o.answer) e) tt)
   fate_given (Becomes c) e = let p = put_given c new refl e in record { change = c; fate_is = refl; record_is = p.0; count-is = p.1 }
 
 pub start_given : (b : List ℕ) (a : ℕ) (new : List ℕ) (count : ℕ) → StartGives clipped_record_start b a new count → Given b (clipped_fate b a true) new count
@@ -95,18 +94,18 @@ module _ (b new : List ℕ) where
   number_in (Ok n) = n
   number_in (Err r) = 0
 
-  counted_again : (o : Outcome Clipped) → without_count o ≡ record { answer = Ok (length new); left = splice new 0 new }
-      → o ≡ record { answer = Done (length new) (count_in o.answer); left = splice new 0 new }
+  counted_again : (o : Outcome (Answer Clipped)) → without_count o ≡ record { answer = Ok (length new); left = splice new 0 new }
+      → o ≡ record { answer = Ok (record { written = length new; lost = count_in o.answer }); left = splice new 0 new }
   counted_again o e = go o.answer refl
     where
-      go : (c : Clipped) → o.answer ≡ c → o ≡ record { answer = Done (length new) (count_in o.answer); left = splice new 0 new }
-      go (Done n count) p =
+      go : (c : Answer Clipped) → o.answer ≡ c → o ≡ record { answer = Ok (record { written = length new; lost = count_in o.answer }); left = splice new 0 new }
+      go (Ok got) p =
           let q : uncounted o.answer ≡ Ok (length new) = ap (λ (x : Outcome (Answer ℕ)). x.answer) e in
-          let n : n ≡ length new = ap number_in (sym (ap uncounted p) ∙ q) in
+          let got.written : got.written ≡ length new = ap number_in (sym (ap uncounted p) ∙ q) in
           let l : o.left ≡ splice new 0 new = ap (λ (x : Outcome (Answer ℕ)). x.left) e in
-          ap (λ (c : Clipped). record { answer = c; left = o.left }) (p ∙ ap (λ (k : ℕ). Done k count) n ∙ ap (λ (k : ℕ). Done (length new) k) (sym (ap count_in p)))
-          ∙ ap (λ (m : List ℕ). record { answer = Done (length new) (count_in o.answer); left = m }) l
-      go (Refused r) p = absurd (subst⁻¹ Counts (sym (ap uncounted p) ∙ ap (λ (x : Outcome (Answer ℕ)). x.answer) e) tt)
+          ap (λ (c : Answer Clipped). record { answer = c; left = o.left }) (p ∙ ap (λ (k : ℕ). (Ok (record { written = k; lost = got.lost }))) got.written ∙ ap (λ (k : ℕ). (Ok (record { written = length new; lost = k }))) (sym (ap count_in p)))
+          ∙ ap (λ (m : List ℕ). record { answer = Ok (record { written = length new; lost = count_in o.answer }); left = m }) l
+      go (Err r) p = absurd (subst⁻¹ Counts (sym (ap uncounted p) ∙ ap (λ (x : Outcome (Answer ℕ)). x.answer) e) tt)
 
 pub end_given : (b : List ℕ) (a : ℕ) (new : List ℕ) → EndGives clipped_record_end b a new → Given b (clipped_fate b a false) new (count_in (written b (clipped_fate b a false) new).answer)
 end_given b a new G = fate_given b new _ (clipped_fate b a false) (counted_again b new (written b (clipped_fate b a false) new) (G new (omega arith)))

@@ -26,7 +26,6 @@ use Rattle.answers.specs.declared.Refusal.TheVariants.{ShortRecord, AreaOverrun,
 use Rattle.length_rules.specs.Lengths.{as_int}
 use Rattle.bin_rules.specs.Bin.{bin_from}
 use Rattle.clip_rules.specs.declared.Plan.{Plan}
-use Rattle.clip_rules.specs.declared.Clipped.TheVariants.{Done, Refused}
 use Rattle.clip_rules.specs.Clipping.{Cut, clip}
 use Rattle.clip_rules.specs.Answer.{clipped_ops, clipped_count, is_beyond}
 use Rattle.clip_rules.specs.InnerPlan.{PlanIs, PlannedIs}
@@ -201,19 +200,19 @@ module _ (b : List ℕ) (amount : ℕ) (start : Bool) where
 
 -- ---- what is written
 
-pub no_room : (new : List ℕ) (count : ℕ) (d : List ℕ) (size : ℕ) → size ≡ length new → length d < size → Settled (put_into new count d) (Refused NoRoom) d
+pub no_room : (new : List ℕ) (count : ℕ) (d : List ℕ) (size : ℕ) → size ≡ length new → length d < size → Settled (put_into new count d) (Err NoRoom) d
 unfolding put_into
 no_room new count d size e h = settled (simp (lt-ltb (length d) (length new) (omega arith)))
 
-pub room : (new : List ℕ) (count : ℕ) (d d' : List ℕ) (size : ℕ) → size ≡ length new → size ≤ length d → d' ≡ splice d 0 new → Settled (put_into new count d) (Done size count) d'
+pub room : (new : List ℕ) (count : ℕ) (d d' : List ℕ) (size : ℕ) → size ≡ length new → size ≤ length d → d' ≡ splice d 0 new → Settled (put_into new count d) (Ok (record { written = size; lost = count })) d'
 unfolding put_into
-room new count d d' size e h w = settled (simp (le-ltb (length d) (length new) (omega arith)) (outcome (ap (λ (k : ℕ). Done k count) e) w))
+room new count d d' size e h w = settled (simp (le-ltb (length d) (length new) (omega arith)) (outcome (ap (λ (k : ℕ). (Ok (record { written = k; lost = count }))) e) w))
 
 module _ (b d : List ℕ) {f : Fate} where
   pub becomes_is : {c : Change} → f ≡ Becomes c → written b f d ≡ put_into (new_record b c) c.count d
   unfolding written
   becomes_is e = ap (λ (g : Fate). written b g d) e
 
-  pub refuses_is : {r : Refusal} → f ≡ Refuses r → written b f d ≡ keeps (Refused r) d
+  pub refuses_is : {r : Refusal} → f ≡ Refuses r → written b f d ≡ keeps (Err r) d
   unfolding written
   refuses_is e = ap (λ (g : Fate). written b g d) e

@@ -15,7 +15,6 @@ use Rattle.length_rules.specs.Lengths.{as_int}
 use Rattle.bin_rules.specs.Bin.{bin_from}
 use Rattle.clip_rules.specs.Answer.{clipped_ops, clipped_count, is_beyond, without_count}
 use Rattle.clip_rules.specs.declared.Clipped.{Clipped}
-use Rattle.clip_rules.specs.declared.Clipped.TheVariants.{Done, Refused}
 use Rattle.record_rules.specs.Written.{Change, new_record}
 
 -- the most ops that a record counts
@@ -79,17 +78,17 @@ clipped_fate b amount start =
     (counted b (clipped_ops (record_ops b) amount start) start (start_count (record_ops b) amount start)))))
 
 -- 6; else the bytes written and the count are the answer
-unfoldable pub put_into : List ℕ → ℕ → List ℕ → Outcome Clipped
+unfoldable pub put_into : List ℕ → ℕ → List ℕ → Outcome (Answer Clipped)
 put_into new count d =
-    cond (ltb (length d) (length new)) (keeps (Refused NoRoom) d)
-    (record { answer = Done (length new) count; left = splice d 0 new })
+    cond (ltb (length d) (length new)) (keeps (Err NoRoom) d)
+    (record { answer = Ok (record { written = length new; lost = count }); left = splice d 0 new })
 
-unfoldable pub written : List ℕ → Fate → List ℕ → Outcome Clipped
-written b (Refuses r) d = keeps (Refused r) d
+unfoldable pub written : List ℕ → Fate → List ℕ → Outcome (Answer Clipped)
+written b (Refuses r) d = keeps (Err r) d
 written b (Becomes c) d = put_into (new_record b c) c.count d
 
 -- `clip_record_start`, `clip_record_end`: "a start call with count, an end call without"
-abbrev pub clipped_record_start : List ℕ → ℕ → List ℕ → Outcome Clipped
+abbrev pub clipped_record_start : List ℕ → ℕ → List ℕ → Outcome (Answer Clipped)
 clipped_record_start b amount d = written b (clipped_fate b amount true) d
 
 abbrev pub clipped_record_end : List ℕ → ℕ → List ℕ → Outcome (Answer ℕ)

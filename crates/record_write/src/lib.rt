@@ -15,12 +15,12 @@ use record_rules::RecordPlan;
 
 // Writes the record clipped by `amount` bases at its start to the first places of out: the bytes written, and the reference length taken. Refusals 1, 2, 8, 19, 15, 16, 4, 6.
 // The record is lent anew to each call, so that its place and its length are handed on in registers: passed on as it stands it is copied, sixteen bytes that were stored as two numbers, for which the machine waits longer than for any of the copies.
-pub fn clip_record_start(bam: &[u8], amount: u64, out: &mut [u8]) -> Clipped
+pub fn clip_record_start(bam: &[u8], amount: u64, out: &mut [u8]) -> Answer<Clipped>
     ensures { Settled (clipped_record_start bam.now amount out.old) result out.new }
 {
     match record_plan::plan_record(&*bam, amount, true) {
         Ok(p) => put_start(&*bam, p, out),
-        Err(why) => Clipped::Refused(why),
+        Err(why) => Err(why),
     }
 }
 
@@ -66,16 +66,16 @@ fn write_record(rec: &[u8], p: RecordPlan, start: bool, out: &mut [u8])
 }
 
 // Writes the record that a plan at the start is for, where there is room. Refusal 6. Each end has its own answer, which so needs no memory.
-fn put_start(bam: &[u8], p: RecordPlan, out: &mut [u8]) -> Clipped
+fn put_start(bam: &[u8], p: RecordPlan, out: &mut [u8]) -> Answer<Clipped>
     requires { Fits bam.now p }
     ensures { Settled (put_into (new_record bam.now (change_by bam.now true p)) p.count out.old) result out.new }
 {
     let size = size_of(bam, p);
     if out.len() < size {
-        return Clipped::Refused(Refusal::NoRoom);
+        return Err(Refusal::NoRoom);
     }
     write_record(bam, p, true, out);
-    Clipped::Done(size as u64, p.count)
+    Ok(Clipped { written: size as u64, lost: p.count })
 }
 
 // The same at the end.

@@ -30,7 +30,7 @@ fn row_of(rec: &[u8]) -> Answer<LineRow>
     let query = total.query;
     let mark = report_fields::length_mark(query, little_endian::u32_at(rec, 16));
     let five = unclipped::unclipped_5prime_from_raw_bam(rec);
-    if let Unclipped::Refused(why) = five {
+    if let Err(why) = five {
         return Err(why);
     }
     match bin::bin_from_raw_bam(rec) {

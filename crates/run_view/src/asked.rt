@@ -94,7 +94,7 @@ pub fn alignment_end_1based(bam: &[u8]) -> Answer<Option<Pos1>> {
     RawRecordView::new(bam).alignment_end_1based()
 }
 
-pub fn unclipped_5prime_1based(bam: &[u8]) -> Unclipped {
+pub fn unclipped_5prime_1based(bam: &[u8]) -> Answer<Unclipped> {
     RawRecordView::new(bam).unclipped_5prime_1based()
 }
 
@@ -102,7 +102,7 @@ pub fn cigar_to_string(bam: &[u8], out: &mut [u8]) -> Answer<u64> {
     RawRecordView::new(bam).cigar_to_string(out)
 }
 
-pub fn clip_cigar_start(bam: &[u8], amount: u64, out: &mut [u32]) -> Clipped {
+pub fn clip_cigar_start(bam: &[u8], amount: u64, out: &mut [u32]) -> Answer<Clipped> {
     RawRecordView::new(bam).clip_cigar_start(amount, out)
 }
 

@@ -87,12 +87,12 @@ pub fn place1(rt: &impl Print, answer: Answer<Option<Pos1>>) {
     }
 }
 
-pub fn unclipped(rt: &impl Print, answer: Unclipped) {
+pub fn unclipped(rt: &impl Print, answer: Answer<Unclipped>) {
     match answer {
-        Unclipped::At(at) => integer(rt, at.0),
-        Unclipped::Unmapped => text(rt, b"unmapped"),
-        Unclipped::NoOps => text(rt, b"no ops"),
-        Unclipped::Refused(why) => refused(rt, why),
+        Ok(Unclipped::At(at)) => integer(rt, at.0),
+        Ok(Unclipped::Unmapped) => text(rt, b"unmapped"),
+        Ok(Unclipped::NoOps) => text(rt, b"no ops"),
+        Err(why) => refused(rt, why),
     }
 }
 
@@ -135,14 +135,14 @@ fn refused_beside(rt: &impl Print, why: Refusal, out: &[u32]) {
 }
 
 // The list written and the count.
-pub fn clipped_start(rt: &impl Print, answer: Clipped, out: &[u32]) {
+pub fn clipped_start(rt: &impl Print, answer: Answer<Clipped>, out: &[u32]) {
     match answer {
-        Clipped::Done(n, count) => {
+        Ok(Clipped { written: n, lost: count }) => {
             first(rt, out, n as usize);
             text(rt, b" ");
             natural(rt, count);
         }
-        Clipped::Refused(why) => refused_beside(rt, why, out),
+        Err(why) => refused_beside(rt, why, out),
     }
 }
 

@@ -1,5 +1,7 @@
 -- Worked records, each with what the reader answers: reads of three bases, whose tags begin at 46, unless another length is said.
 use Prim.Native.Nat.{ℕ}
+use Rattle.std.specs.Prelude.{Ok, Err}
+use Rattle.answers.specs.Answer.{Answer}
 use mathlib.Core.Path.{◌≡◌, refl}
 use mathlib.Core.List.{List, [], ◌∷◌, ◌++◌}
 use lib.ListN.{length, take, replicate}
@@ -9,14 +11,13 @@ use Rattle.oplist.specs.Ops.{record_ops}
 use Rattle.answers.specs.declared.Refusal.TheVariants.{ShortRecord, AreaOverrun, BadTags, OtherCg}
 use Rattle.tag_rules.specs.Long.{list_in, first_cg, behind_placeholder, true_list}
 use Rattle.tag_rules.specs.declared.TrueList.{TrueList}
-use Rattle.tag_rules.specs.declared.TrueList.TheVariants.{At, Refused}
 
 -- a record of so many bases with these ops and what follows them; its name is a NUL
 abbrev made : ℕ → List ℕ → List ℕ → List ℕ
 made seq ops rest = replicate 8 0 ++ (1 ∷ 0 ∷ 0 ∷ 0 ∷ length ops ∷ 0 ∷ 0 ∷ 0 ∷ (uint32 seq ++ (replicate 12 0 ++ (0 ∷ (op_bytes ops ++ rest)))))
 
 -- 3S10N, two bytes of bases, three of qualities, tags
-abbrev three : List ℕ → TrueList
+abbrev three : List ℕ → Answer TrueList
 three tags = true_list (made 3 (52 ∷ 163 ∷ []) (replicate 5 9 ++ tags))
 
 -- NM:C:5, RG:Z:a, XB:B:s,1,2
@@ -28,7 +29,7 @@ abbrev cg : ℕ → ℕ → List ℕ → List ℕ
 cg kind n xs = 67 ∷ 71 ∷ 66 ∷ kind ∷ (uint32 n ++ op_bytes xs)
 
 -- a CG behind other tags, before a byte that is no tag, before a CG of another type, of no op; no tag; tags without CG
-pub worked : ◌≡◌ {A = List TrueList}
+pub worked : ◌≡◌ {A = List (Answer TrueList)}
     (three (before ++ cg 73 2 (16 ∷ 32 ∷ []))
     ∷ three (cg 73 2 (16 ∷ 32 ∷ []) ++ (1 ∷ []))
     ∷ three (cg 73 1 (16 ∷ []) ++ cg 105 1 (16 ∷ []))
@@ -36,13 +37,13 @@ pub worked : ◌≡◌ {A = List TrueList}
     ∷ three []
     ∷ three before
     ∷ [])
-    (At 75 2 ∷ At 54 2 ∷ At 54 1 ∷ At 54 0 ∷ At 33 2 ∷ At 33 2 ∷ [])
+    ((Ok (record { at = 75; n = 2 })) ∷ (Ok (record { at = 54; n = 2 })) ∷ (Ok (record { at = 54; n = 1 })) ∷ (Ok (record { at = 54; n = 0 })) ∷ (Ok (record { at = 33; n = 2 })) ∷ (Ok (record { at = 33; n = 2 })) ∷ [])
 unfolding ops_in op_bytes record_ops number_size to_nul array_size value_size tag_size tag_at tags_behind is_placeholder is_cg is_op_array list_in first_cg behind_placeholder true_list
 worked = refl
 
 -- refusal 12: one and two bytes where a tag should begin; a type and an array's type that are not listed; a text without its NUL; a CG cut in its count, one short of a
 -- number, of 2^30 + 1 numbers, of a type not listed; then 13: a CG that is an array of signed numbers, and one that is a text
-pub refused : ◌≡◌ {A = List TrueList}
+pub refused : ◌≡◌ {A = List (Answer TrueList)}
     (three (before ++ (88 ∷ []))
     ∷ three (before ++ (88 ∷ 89 ∷ []))
     ∷ three (88 ∷ 89 ∷ 100 ∷ 1 ∷ 2 ∷ 3 ∷ 4 ∷ 5 ∷ 6 ∷ 7 ∷ 8 ∷ [])
@@ -55,13 +56,13 @@ pub refused : ◌≡◌ {A = List TrueList}
     ∷ three (cg 105 1 (16 ∷ []))
     ∷ three (67 ∷ 71 ∷ 90 ∷ 97 ∷ 0 ∷ [])
     ∷ [])
-    (replicate 9 (Refused BadTags) ++ (Refused OtherCg ∷ Refused OtherCg ∷ []))
+    (replicate 9 (Err BadTags) ++ (Err OtherCg ∷ Err OtherCg ∷ []))
 unfolding ops_in op_bytes record_ops number_size to_nul array_size value_size tag_size tag_at tags_behind is_placeholder is_cg is_op_array list_in first_cg behind_placeholder true_list
 refused = refl
 
 -- no bases, `0S` and `0N`: the tags begin at 41; S of another length, and three ops, are no placeholder, whatever follows; an l_seq that no S can have; qualities that
 -- overrun, far and by one; an area that overruns; a short record
-pub fronts : ◌≡◌ {A = List TrueList}
+pub fronts : ◌≡◌ {A = List (Answer TrueList)}
     (true_list (made 0 (4 ∷ 3 ∷ []) (cg 73 1 (16 ∷ [])))
     ∷ true_list (made 3 (36 ∷ 163 ∷ []) (replicate 5 9 ++ cg 73 1 (16 ∷ [])))
     ∷ true_list (made 3 (52 ∷ 163 ∷ 0 ∷ []) (88 ∷ []))
@@ -71,6 +72,6 @@ pub fronts : ◌≡◌ {A = List TrueList}
     ∷ true_list (take 40 (made 3 (52 ∷ 163 ∷ []) []))
     ∷ true_list (take 31 (made 3 (52 ∷ 163 ∷ []) []))
     ∷ [])
-    (At 49 1 ∷ At 33 2 ∷ At 33 3 ∷ At 33 2 ∷ Refused BadTags ∷ Refused BadTags ∷ Refused AreaOverrun ∷ Refused ShortRecord ∷ [])
+    ((Ok (record { at = 49; n = 1 })) ∷ (Ok (record { at = 33; n = 2 })) ∷ (Ok (record { at = 33; n = 3 })) ∷ (Ok (record { at = 33; n = 2 })) ∷ Err BadTags ∷ Err BadTags ∷ Err AreaOverrun ∷ Err ShortRecord ∷ [])
 unfolding ops_in op_bytes record_ops number_size to_nul array_size value_size tag_size tag_at tags_behind is_placeholder is_cg is_op_array list_in first_cg behind_placeholder true_list
 fronts = refl

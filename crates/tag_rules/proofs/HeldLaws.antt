@@ -1,5 +1,7 @@
 -- The list that the reader hands back lies in the record, so that every walk over a record's ops reads it; and it is the ops that stand in the CG.
 use Prim.Native.Nat.{ℕ, zero, suc, ◌+◌, ◌-◌, ◌*◌, ◌≤◌, ◌<◌}
+use Rattle.std.specs.Prelude.{Ok, Err}
+use Rattle.answers.specs.Answer.{Answer}
 use mathlib.Core.Path.{◌≡◌, refl, sym, ap, ◌∙◌, subst, subst⁻¹}
 use mathlib.Core.Bool.{Bool, true, false, cond}
 use mathlib.Core.List.{List, [], ◌∷◌, ◌++◌, append_assoc}
@@ -21,7 +23,6 @@ use Rattle.answers.specs.declared.Refusal.{Refusal}
 use Rattle.tag_rules.specs.Long.{own_list, list_in, first_cg, true_list, part_of, read_from}
 use Rattle.tag_rules.specs.Whole.{Front, NoCg, cg_of}
 use Rattle.tag_rules.specs.declared.TrueList.{TrueList}
-use Rattle.tag_rules.specs.declared.TrueList.TheVariants.{At, Refused}
 use Rattle.tag_rules.proofs.ListLaws.{short, overrun, ordinary, behind, bases_overrun, tags_walked}
 use Rattle.tag_rules.proofs.WalkLaws.{kind_other, numbers-other, list-long, list_is}
 use Rattle.tag_rules.proofs.TrueLaws.{first_cg_counts}
@@ -29,9 +30,9 @@ use Rattle.tag_rules.proofs.TrueLaws.{first_cg_counts}
 -- ---- where the list ends
 
 -- a list ends before a place
-abbrev EndsBy : ℕ → TrueList → Type 0
-EndsBy end (At at n) = at + 4 * n ≤ end
-EndsBy end (Refused r) = Unit
+abbrev EndsBy : ℕ → Answer TrueList → Type 0
+EndsBy end (Ok got) = got.at + 4 * got.n ≤ end
+EndsBy end (Err r) = Unit
 
 module _ (s : List ℕ) (h : 0 < tag_size s) where
   list_ends : (at : ℕ) → EndsBy (at + tag_size s) (list_in (at + 3) (tag_at s))
@@ -48,11 +49,11 @@ module _ (s : List ℕ) (h : 0 < tag_size s) where
           let k : at + 3 + 5 + 4 * le32 s 4 ≤ at + tag_size s = omega arith in
           subst⁻¹ (EndsBy (at + tag_size s)) (list_is (at + 3) s h (eqb-true (byte_at s 2) 66 p) (eqb-true (byte_at s 3) 73 q) (ltb-false most_long_ops (le32 s 4) r)) k
 
-later : (e e' : ℕ) → e ≤ e' → (p : TrueList) → EndsBy e p → EndsBy e' p
-later e e' h (At at n) k = omega arith
-later e e' h (Refused r) k = tt
+later : (e e' : ℕ) → e ≤ e' → (p : Answer TrueList) → EndsBy e p → EndsBy e' p
+later e e' h (Ok got) k = omega arith
+later e e' h (Err r) k = tt
 
-walk_in : (without : TrueList) (e : ℕ) → EndsBy e without → (n : ℕ) (s : List ℕ) (at : ℕ) → at + length s ≤ e → EndsBy e (first_cg without (at + n) (tags_behind n s))
+walk_in : (without : Answer TrueList) (e : ℕ) → EndsBy e without → (n : ℕ) (s : List ℕ) (at : ℕ) → at + length s ≤ e → EndsBy e (first_cg without (at + n) (tags_behind n s))
 unfolding first_cg tags_behind
 walk_in without e o n [] at l = o
 walk_in without e o zero (x ∷ s) at l = go (eqb (tag_size (x ∷ s)) 0) refl (is_cg (tag_at (x ∷ s))) refl (walk_in without e o (tag_size (x ∷ s) - 1) s (at + 1) (omega arith))
@@ -98,7 +99,7 @@ in_record b = go (ltb (length b) 32) refl (ltb (length b) (ops_end b)) refl (is_
         subst⁻¹ (EndsBy (length b)) (behind b (ltb-false (length b) 32 p) k r ∙ tags_walked b m)
         (subst (λ (n : ℕ). EndsBy (length b) (first_cg (own_list b) n (tags_of (drop (tags_start b) b)))) z (walk_in (own_list b) (length b) k 0 (drop (tags_start b) b) (tags_start b) (omega arith)))
 
-module _ (b : List ℕ) (at n : ℕ) (e : true_list b ≡ At at n) where
+module _ (b : List ℕ) (at n : ℕ) (e : true_list b ≡ Ok (record { at = at; n = n })) where
   pub within : at + 4 * n ≤ length b
   within = subst (EndsBy (length b)) e (in_record b)
 
@@ -108,15 +109,15 @@ module _ (b : List ℕ) (at n : ℕ) (e : true_list b ≡ At at n) where
 
 -- a call that reads the list makes of it what it makes of these ops, or stops as the reader does
 module _ {A : Type 0} (stop : Refusal → A) (make : List ℕ → A) (b : List ℕ) where
-  pub reads_list : (at n : ℕ) → true_list b ≡ At at n → read_from stop make b (true_list b) ≡ make (ops_of [] b (record { inside = true; at = at; n = n }))
+  pub reads_list : (at n : ℕ) → true_list b ≡ Ok (record { at = at; n = n }) → read_from stop make b (true_list b) ≡ make (ops_of [] b (record { inside = true; at = at; n = n }))
   reads_list at n e = ap (read_from stop make b) e ∙ ap make (sym (list_ops b at n e []))
 
-  pub reads_none : (r : Refusal) → true_list b ≡ Refused r → read_from stop make b (true_list b) ≡ stop r
+  pub reads_none : (r : Refusal) → true_list b ≡ Err r → read_from stop make b (true_list b) ≡ stop r
   reads_none r e = ap (read_from stop make b) e
 
 -- ---- ops that stand in a record: their part is their bytes
 
-ops-part : (p xs s : List ℕ) → part_of (p ++ (op_bytes xs ++ s)) (At (length p) (length xs)) ≡ op_bytes xs
+ops-part : (p xs s : List ℕ) → part_of (p ++ (op_bytes xs ++ s)) (Ok (record { at = length p; n = length xs })) ≡ op_bytes xs
 ops-part p xs s =
     ap (take (4 * length xs)) (drop_at p (op_bytes xs ++ s) (length p) refl)
     ∙ take_at (op_bytes xs) s (4 * length xs) (length_op_bytes xs)
@@ -128,7 +129,7 @@ module _ (xs : List ℕ) (few : length xs ≤ most_long_ops) where
   unfolding number_size
   cg_proper = array 73 (length xs) (op_bytes xs) refl (omega arith) (omega arith) (length_op_bytes xs) refl
 
-  cg_list : (at : ℕ) → list_in at (cg_of xs) ≡ At (at + 5) (length xs)
+  cg_list : (at : ℕ) → list_in at (cg_of xs) ≡ Ok (record { at = at + 5; n = length xs })
   unfolding list_in is_op_array
   cg_list at =
       let n : le32 (73 ∷ (uint32 (length xs) ++ op_bytes xs)) 1 ≡ length xs = omega arith in
@@ -155,12 +156,12 @@ module _ (p : List ℕ) (f : Front p) (ts : List Tag) (a : Each Proper ts) (n : 
       sym (append_assoc p (all_bytes ts ++ (67 ∷ 71 ∷ 66 ∷ 73 ∷ uint32 (length xs))) (op_bytes xs ++ s)
       ∙ ap (λ (l : List ℕ). p ++ l) (append_assoc (all_bytes ts) (67 ∷ 71 ∷ 66 ∷ 73 ∷ uint32 (length xs)) (op_bytes xs ++ s)))
 
-  pub held_list : true_list (p ++ (all_bytes ts ++ (bytes_of (cg_of xs) ++ s))) ≡ At (length p + length (all_bytes ts) + 8) (length xs)
+  pub held_list : true_list (p ++ (all_bytes ts ++ (bytes_of (cg_of xs) ++ s))) ≡ Ok (record { at = length p + length (all_bytes ts) + 8; n = length xs })
   unfolding is_cg
   held_list =
       first_cg_counts p f ts a n (cg_of xs) s (cg_proper xs few) refl
       ∙ cg_list xs few (length p + length (all_bytes ts) + 3)
-      ∙ ap (λ (k : ℕ). At k (length xs)) {x = length p + length (all_bytes ts) + 3 + 5} {y = length p + length (all_bytes ts) + 8} (omega arith)
+      ∙ ap (λ (k : ℕ). (Ok (record { at = k; n = length xs }))) {x = length p + length (all_bytes ts) + 3 + 5} {y = length p + length (all_bytes ts) + 8} (omega arith)
 
   pub held_ops : ops_in (p ++ (all_bytes ts ++ (bytes_of (cg_of xs) ++ s))) (length p + length (all_bytes ts) + 8) (length xs) ≡ xs
   held_ops = ap (λ (l : List ℕ). ops_in l place (length xs)) parted ∙ ap (λ (k : ℕ). ops_in (ahead ++ (op_bytes xs ++ s)) k (length xs)) place_is ∙ read_ops ahead xs s small
@@ -168,6 +169,6 @@ module _ (p : List ℕ) (f : Front p) (ts : List Tag) (a : Each Proper ts) (n : 
   pub held_part : part_of (p ++ (all_bytes ts ++ (bytes_of (cg_of xs) ++ s))) (true_list (p ++ (all_bytes ts ++ (bytes_of (cg_of xs) ++ s)))) ≡ op_bytes xs
   held_part =
       ap (part_of bytes) held_list
-      ∙ ap (λ (l : List ℕ). part_of l (At place (length xs))) parted
-      ∙ ap (λ (k : ℕ). part_of (ahead ++ (op_bytes xs ++ s)) (At k (length xs))) place_is
+      ∙ ap (λ (l : List ℕ). part_of l (Ok (record { at = place; n = length xs }))) parted
+      ∙ ap (λ (k : ℕ). part_of (ahead ++ (op_bytes xs ++ s)) (Ok (record { at = k; n = length xs }))) place_is
       ∙ ops-part ahead xs s

@@ -1,5 +1,6 @@
 -- Whether a record's ops are a placeholder, op by op; and where its list lies, refusal by refusal.
 use Prim.Native.Nat.{ℕ, ◌+◌, ◌≤◌, ◌<◌}
+use Rattle.std.specs.Prelude.{Ok, Err}
 use mathlib.Core.Path.{◌≡◌, refl, sym, ap, ◌∙◌}
 use mathlib.Core.Bool.{true, false, ◌&&◌}
 use mathlib.Core.List.{List}
@@ -14,7 +15,6 @@ use Rattle.oplist.specs.Ops.{record_ops}
 use Rattle.oplist.proofs.OpsLaws.{length_ops_in}
 use Rattle.answers.specs.declared.Refusal.TheVariants.{ShortRecord, AreaOverrun, BadTags}
 use Rattle.tag_rules.specs.Long.{own_list, first_cg, behind_placeholder, true_list}
-use Rattle.tag_rules.specs.declared.TrueList.TheVariants.{At, Refused}
 
 -- ---- the placeholder
 
@@ -52,12 +52,12 @@ module _ (b : List ℕ) (h : ops_end b ≤ length b) where
 -- ---- the answer, refusal by refusal
 
 module _ (b : List ℕ) where
-  pub short : length b < 32 → true_list b ≡ Refused ShortRecord
+  pub short : length b < 32 → true_list b ≡ Err ShortRecord
   unfolding true_list
   short h = simp (lt-ltb (length b) 32 h)
 
   module _ (h : 32 ≤ length b) where
-    pub overrun : length b < ops_end b → true_list b ≡ Refused AreaOverrun
+    pub overrun : length b < ops_end b → true_list b ≡ Err AreaOverrun
     unfolding true_list
     overrun k = simp (le-ltb (length b) 32 h, lt-ltb (length b) (ops_end b) k)
 
@@ -71,7 +71,7 @@ module _ (b : List ℕ) where
       behind e = simp (le-ltb (length b) 32 h, le-ltb (length b) (ops_end b) k, e)
 
   -- behind a placeholder
-  pub bases_overrun : length b < tags_start b → behind_placeholder b ≡ Refused BadTags
+  pub bases_overrun : length b < tags_start b → behind_placeholder b ≡ Err BadTags
   unfolding behind_placeholder
   bases_overrun h = simp (lt-ltb (length b) (tags_start b) h)
 
@@ -79,5 +79,5 @@ module _ (b : List ℕ) where
   unfolding behind_placeholder
   tags_walked h = simp (le-ltb (length b) (tags_start b) h)
 
-pub same_list : (a a' n n' : ℕ) → a ≡ a' → n ≡ n' → At a n ≡ At a' n'
+pub same_list : (a a' n n' : ℕ) → a ≡ a' → n ≡ n' → (Ok (record { at = a; n = n })) ≡ Ok (record { at = a'; n = n' })
 same_list a a' n n' p q = rw (p, q) refl

@@ -1,6 +1,7 @@
 -- Document 02, item 1, in the words of whole records: without a placeholder no byte behind the ops plays a part; the first CG counts, and nothing behind it plays a
 -- part; without a CG the ordinary list stands.
 use Prim.Native.Nat.{ℕ, ◌+◌, ◌≤◌}
+use Rattle.answers.specs.Answer.{Answer}
 use mathlib.Core.Path.{◌≡◌, refl, ap, ◌∙◌}
 use mathlib.Core.Bool.{true, false}
 use mathlib.Core.List.{List, [], ◌∷◌, ◌++◌}
@@ -50,7 +51,7 @@ module _ (p q : List ℕ) (h : 32 ≤ length p) (k : ops_end p ≤ length p) whe
 
 -- ---- tags
 
-cg_follows : (without : TrueList) (at : ℕ) (ts : List Tag) (cg : Tag) (more : Tags) → NoCg ts → is_cg cg ≡ true
+cg_follows : (without : Answer TrueList) (at : ℕ) (ts : List Tag) (cg : Tag) (more : Tags) → NoCg ts → is_cg cg ≡ true
     → first_cg without at (followed ts (Then cg more)) ≡ list_in (at + length (all_bytes ts) + 3) cg
 unfolding first_cg followed all_bytes
 cg_follows without at [] cg more h e = simp e (ap (λ (k : ℕ). list_in k cg) {x = at + 3} {y = at + 0 + 3} (omega arith))
@@ -60,7 +61,7 @@ cg_follows without at (t ∷ ts) cg more h e =
     (cg_follows without (at + (3 + length t.value)) ts cg more h.1 e
     ∙ ap (λ (k : ℕ). list_in k cg) {x = at + (3 + length t.value) + length (all_bytes ts) + 3} {y = at + length (bytes_of t ++ all_bytes ts) + 3} (omega arith))
 
-none_follows : (without : TrueList) (at : ℕ) (ts : List Tag) → NoCg ts → first_cg without at (followed ts Ends) ≡ without
+none_follows : (without : Answer TrueList) (at : ℕ) (ts : List Tag) → NoCg ts → first_cg without at (followed ts Ends) ≡ without
 unfolding first_cg followed
 none_follows without at [] h = refl
 none_follows without at (t ∷ ts) h = simp h.0 (none_follows without (at + (3 + length t.value)) ts h.1)

@@ -3,6 +3,8 @@
 -- placeholder or CG, the ordinary list stands." Refusals: "1, 2 for an overrun op area, 12, behind a placeholder only, bases, qualities or tags up to the first CG that
 -- overrun, or among these tags a type not listed, 13 CG of another type, 3 above the new limit; in this order."
 use Rattle.std.specs.Prelude.{ℕ, ◌+◌, ◌*◌, cond, not, List, [], ◌∷◌, ltb, pos, length, take, drop}
+use Rattle.std.specs.Prelude.{Ok, Err}
+use Rattle.answers.specs.Answer.{Answer}
 use Rattle.sam.specs.Record.{is_short, seq_len_of, op_count_of, ops_start, ops_end, ops_in, tags_start}
 use Rattle.sam.specs.Tags.{Tag, Tags, Ends, Breaks, Then, tags_of, is_cg, is_op_array, array_count, is_placeholder}
 use Rattle.oplist.specs.Ops.{most_long_ops, record_ops}
@@ -10,55 +12,54 @@ use Rattle.answers.specs.Answers.{Told, answered, refused, number_of}
 use Rattle.answers.specs.declared.Refusal.{Refusal}
 use Rattle.answers.specs.declared.Refusal.TheVariants.{ShortRecord, AreaOverrun, TooManyOps, BadTags, OtherCg}
 use Rattle.tag_rules.specs.declared.TrueList.{TrueList}
-use Rattle.tag_rules.specs.declared.TrueList.TheVariants.{At, Refused}
 
 -- ---- what is made of a list that lies at a place
 
 -- "the part of the record holding the list", and the refusal's number beside it; an empty part beside a refusal
-abbrev pub part_of : List ℕ → TrueList → List ℕ
-part_of b (At at n) = take (4 * n) (drop at b)
-part_of b (Refused r) = []
+abbrev pub part_of : List ℕ → Answer TrueList → List ℕ
+part_of b (Ok got) = take (4 * got.n) (drop got.at b)
+part_of b (Err r) = []
 
-abbrev pub refusal_of : TrueList → ℕ
-refusal_of (At at n) = 0
-refusal_of (Refused r) = number_of r
+abbrev pub refusal_of : Answer TrueList → ℕ
+refusal_of (Ok got) = 0
+refusal_of (Err r) = number_of r
 
 -- a call that reads the list: what it makes of the ops, behind the reader's refusals
-abbrev pub read_from : {A : Type 0} → (Refusal → A) → (List ℕ → A) → List ℕ → TrueList → A
-read_from stop make b (At at n) = make (ops_in b at n)
-read_from stop make b (Refused r) = stop r
+abbrev pub read_from : {A : Type 0} → (Refusal → A) → (List ℕ → A) → List ℕ → Answer TrueList → A
+read_from stop make b (Ok got) = make (ops_in b got.at got.n)
+read_from stop make b (Err r) = stop r
 
 -- what is told of the list: where in the record it begins, and its bytes
-abbrev pub tell_true_list : TrueList → Told
-tell_true_list (At at n) = answered (pos at ∷ pos (4 * n) ∷ [])
-tell_true_list (Refused r) = refused r
+abbrev pub tell_true_list : Answer TrueList → Told
+tell_true_list (Ok got) = answered (pos got.at ∷ pos (4 * got.n) ∷ [])
+tell_true_list (Err r) = refused r
 
 -- ---- the true list
 
 -- the ordinary list
-abbrev pub own_list : List ℕ → TrueList
-own_list b = At (ops_start b) (op_count_of b)
+abbrev pub own_list : List ℕ → Answer TrueList
+own_list b = Ok (record { at = ops_start b; n = op_count_of b })
 
 -- the list in a CG whose value lies at a place: behind its type and its count, five bytes. 13, 3
-unfoldable pub list_in : ℕ → Tag → TrueList
+unfoldable pub list_in : ℕ → Tag → Answer TrueList
 list_in at t =
-    cond (not (is_op_array t)) (Refused OtherCg)
-    (cond (ltb most_long_ops (array_count t)) (Refused TooManyOps)
-    (At (at + 5) (array_count t)))
+    cond (not (is_op_array t)) (Err OtherCg)
+    (cond (ltb most_long_ops (array_count t)) (Err TooManyOps)
+    (Ok (record { at = at + 5; n = array_count t })))
 
 -- the list in the first CG of tags that lie at a place, and where there is none the list `without`. 12 up to the first CG, then the CG's own
-unfoldable pub first_cg : TrueList → ℕ → Tags → TrueList
+unfoldable pub first_cg : Answer TrueList → ℕ → Tags → Answer TrueList
 first_cg without at Ends = without
-first_cg without at Breaks = Refused BadTags
+first_cg without at Breaks = Err BadTags
 first_cg without at (Then t ts) = cond (is_cg t) (list_in (at + 3) t) (first_cg without (at + (3 + length t.value)) ts)
 
 -- behind a placeholder: 12 where bases or qualities overrun, then by the tags
-unfoldable pub behind_placeholder : List ℕ → TrueList
-behind_placeholder b = cond (ltb (length b) (tags_start b)) (Refused BadTags) (first_cg (own_list b) (tags_start b) (tags_of (drop (tags_start b) b)))
+unfoldable pub behind_placeholder : List ℕ → Answer TrueList
+behind_placeholder b = cond (ltb (length b) (tags_start b)) (Err BadTags) (first_cg (own_list b) (tags_start b) (tags_of (drop (tags_start b) b)))
 
 -- THE READER
-unfoldable pub true_list : List ℕ → TrueList
+unfoldable pub true_list : List ℕ → Answer TrueList
 true_list b =
-    cond (is_short b) (Refused ShortRecord)
-    (cond (ltb (length b) (ops_end b)) (Refused AreaOverrun)
+    cond (is_short b) (Err ShortRecord)
+    (cond (ltb (length b) (ops_end b)) (Err AreaOverrun)
     (cond (is_placeholder (seq_len_of b) (record_ops b)) (behind_placeholder b) (own_list b)))

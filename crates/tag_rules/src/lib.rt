@@ -5,7 +5,7 @@ use answers::Refusal;
 
 // The place of the list in the record, and the number of its ops.
 #[derive(Clone, Copy)]
-pub enum TrueList {
-    At(usize, u32),
-    Refused(Refusal),
+pub struct TrueList {
+    pub at: usize,
+    pub n: u32,
 }

@@ -5,7 +5,7 @@ ghost use Rattle.std.specs.Prelude.{◌≡◌, ◌+◌, ◌≤◌, ◌<◌, leng
 ghost use Rattle.sam.specs.Tags.{tag_size, tag_at, tags_of, is_cg};
 ghost use Rattle.tag_rules.specs.Long.{list_in, first_cg};
 
-use answers::Refusal;
+use answers::{Answer, Refusal};
 use tag_rules::TrueList;
 
 // Whether the tag at a place is CG.
@@ -21,26 +21,26 @@ fn is_cg(b: &[u8], at: usize) -> bool
 }
 
 // The list in the CG at a place. Refusals 13 and 3.
-fn list_in(b: &[u8], at: usize) -> TrueList
+fn list_in(b: &[u8], at: usize) -> Answer<TrueList>
     requires nonzero { 0 < tag_size (drop at b.now) }
     requires b_in_bounds { at + tag_size (drop at b.now) ≤ length b.now }
     ensures { result ≡ list_in (at + 3) (tag_at (drop at b.now)) }
 {
     if b[at + 2] != b'B' {
-        return TrueList::Refused(Refusal::OtherCg);
+        return Err(Refusal::OtherCg);
     }
     if b[at + 3] != b'I' {
-        return TrueList::Refused(Refusal::OtherCg);
+        return Err(Refusal::OtherCg);
     }
     let n = little_endian::u32_at(b, at + 4);
     if oplist::MOST_LONG_OPS < n as usize {
-        return TrueList::Refused(Refusal::TooManyOps);
+        return Err(Refusal::TooManyOps);
     }
-    TrueList::At(at + 8, n)
+    Ok(TrueList { at: at + 8, n })
 }
 
 // The list in the first CG of the tags from a place on, and where there is none the list `without`. Refusals 12, 13 and 3.
-pub fn first_cg(b: &[u8], from: usize, without: TrueList) -> TrueList
+pub fn first_cg(b: &[u8], from: usize, without: Answer<TrueList>) -> Answer<TrueList>
     requires { from ≤ length b.now }
     ensures { result ≡ first_cg without from (tags_of (drop from b.now)) }
 {
@@ -48,7 +48,7 @@ pub fn first_cg(b: &[u8], from: usize, without: TrueList) -> TrueList
     while at < b.len() {
         let size = tag_sizes::tag_size(b, at);
         if size == 0 {
-            return TrueList::Refused(Refusal::BadTags);
+            return Err(Refusal::BadTags);
         }
         if is_cg(b, at) {
             return list_in(b, at);

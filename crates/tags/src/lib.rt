@@ -8,7 +8,7 @@ ghost use Rattle.sam.specs.Tags.{is_placeholder};
 ghost use Rattle.oplist.specs.Ops.{record_ops};
 ghost use Rattle.tag_rules.specs.Long.{behind_placeholder, true_list};
 
-use answers::Refusal;
+use answers::{Answer, Refusal};
 use oplist::Ops;
 use tag_rules::TrueList;
 
@@ -33,7 +33,7 @@ fn is_placeholder(bam: &[u8], list: Ops) -> bool
 }
 
 // The list behind a placeholder. Refusals 12, 13 and 3.
-fn behind_placeholder(bam: &[u8], list: Ops) -> TrueList
+fn behind_placeholder(bam: &[u8], list: Ops) -> Answer<TrueList>
     requires in_bounds { 32 ≤ length bam.now }
     requires bam_in_bounds { ops_end bam.now ≤ length bam.now }
     requires at_value { (list.at ≡ ops_start bam.now) × (list.n ≡ op_count_of bam.now) }
@@ -42,24 +42,24 @@ fn behind_placeholder(bam: &[u8], list: Ops) -> TrueList
     let seq = little_endian::u32_at(bam, 16) as usize;
     let start = list.at + 4 * (list.n as usize) + (seq + 1) / 2 + seq;
     if bam.len() < start {
-        return TrueList::Refused(Refusal::BadTags);
+        return Err(Refusal::BadTags);
     }
-    tag_walk::first_cg(bam, start, TrueList::At(list.at, list.n))
+    tag_walk::first_cg(bam, start, Ok(TrueList { at: list.at, n: list.n }))
 }
 
 // Where the true list of a record lies. Refusals 1, 2, 12, 13 and 3.
-pub fn true_list(bam: &[u8]) -> TrueList
+pub fn true_list(bam: &[u8]) -> Answer<TrueList>
     ensures { result ≡ true_list bam.now }
 {
     if bam.len() < 32 {
-        return TrueList::Refused(Refusal::ShortRecord);
+        return Err(Refusal::ShortRecord);
     }
     let list = oplist::of_record(bam);
     if !oplist::inside(bam, list) {
-        return TrueList::Refused(Refusal::AreaOverrun);
+        return Err(Refusal::AreaOverrun);
     }
     if !is_placeholder(bam, list) {
-        return TrueList::At(list.at, list.n);
+        return Ok(TrueList { at: list.at, n: list.n });
     }
     behind_placeholder(bam, list)
 }

@@ -1,5 +1,6 @@
 -- An op of one to four digits and a letter, byte by byte.
 use Prim.Native.Nat.{ℕ, ◌+◌, ◌-◌, ◌*◌, ◌≤◌, ◌<◌}
+use Rattle.std.specs.Prelude.{Some, None, Option}
 use mathlib.Core.Path.{◌≡◌, refl, sym, ap, ◌∙◌, subst}
 use mathlib.Core.Bool.{Bool, true, false, cond}
 use mathlib.Core.List.{List}
@@ -93,8 +94,8 @@ module _ (s : List ℕ) (at first second third fourth : ℕ) (room : at + 5 ≤ 
       letter_on s at (at + 4) _ _ four_digits refl (omega arith) (omega arith) (omega arith) len code next p (omega arith) z (omega arith) c k
 
 -- a letter that is looked up after the number
-pub lettered_short : (s : List ℕ) (at len letter next : ℕ) (r : Token) → Lettered len letter next r
+pub lettered_short : (s : List ℕ) (at len letter next : ℕ) (r : Option Token) → Lettered len letter next r
     → ((code : ℕ) → code ≡ letter_code letter → code ≤ 8 → OpAt s at len code next) → ShortAt s at r
-lettered_short s at len letter next (Token.Op l code n) h f =
-    subst (λ (k : ℕ). OpAt s at k code n) (sym h.0) (subst (λ (k : ℕ). OpAt s at len code k) (sym h.3) (f code h.1 h.2))
-lettered_short s at len letter next Token.Bad h f = tt
+lettered_short s at len letter next (Some got) h f =
+    subst (λ (k : ℕ). OpAt s at k got.code got.next) (sym h.0) (subst (λ (k : ℕ). OpAt s at len got.code k) (sym h.3) (f got.code h.1 h.2))
+lettered_short s at len letter next None h f = tt

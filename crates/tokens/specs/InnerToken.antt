@@ -1,5 +1,6 @@
 -- An op of a text at a place, as the inner functions of the reader tell it; no public contract cites it. Document 01's rules stand in `text_rules`.
 use Rattle.std.specs.Prelude.{ℕ, ◌+◌, ◌≤◌, ◌<◌, ◌≡◌, false, List, [], ◌∷◌, length, drop}
+use Rattle.std.specs.Prelude.{Some, None, Option}
 use Rattle.sam.specs.Op.{op_of, letter_code}
 use Rattle.text_rules.specs.Text.{row_from, ops_from}
 use Rattle.tokens.specs.declared.Token.{Token}
@@ -18,16 +19,16 @@ pub record NoneAt (s : List ℕ) (i : ℕ) : Type 0 where
   pub row : row_from 0 false (drop i s) ≡ false
   pub ops : ops_from 0 (drop i s) ≡ []
 
-abbrev pub TokenAt : List ℕ → ℕ → Token → Type 0
-TokenAt s i (Token.Op len code next) = OpAt s i len code next
-TokenAt s i Token.Bad = NoneAt s i
+abbrev pub TokenAt : List ℕ → ℕ → Option Token → Type 0
+TokenAt s i (Some got) = OpAt s i got.len got.code got.next
+TokenAt s i None = NoneAt s i
 
 -- the short form of the reader tells an op, or nothing
-abbrev pub ShortAt : List ℕ → ℕ → Token → Type 0
-ShortAt s i (Token.Op len code next) = OpAt s i len code next
-ShortAt s i Token.Bad = Unit {0}
+abbrev pub ShortAt : List ℕ → ℕ → Option Token → Type 0
+ShortAt s i (Some got) = OpAt s i got.len got.code got.next
+ShortAt s i None = Unit {0}
 
 -- an op of this number and letter, if the letter is one
-abbrev pub Lettered : ℕ → ℕ → ℕ → Token → Type 0
-Lettered len letter next (Token.Op l code n) = (l ≡ len) × (code ≡ letter_code letter) × (code ≤ 8) × (n ≡ next)
-Lettered len letter next Token.Bad = Unit {0}
+abbrev pub Lettered : ℕ → ℕ → ℕ → Option Token → Type 0
+Lettered len letter next (Some got) = (got.len ≡ len) × (got.code ≡ letter_code letter) × (got.code ≤ 8) × (got.next ≡ next)
+Lettered len letter next None = Unit {0}

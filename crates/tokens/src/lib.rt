@@ -7,9 +7,10 @@ ghost use Rattle.tokens.specs.InnerToken.{TokenAt, ShortAt};
 
 // An op of a text: its length, its code, and the place after its letter.
 #[derive(Clone, Copy)]
-pub enum Token {
-    Op(u32, u32, usize),
-    Bad,
+pub struct Token {
+    pub len: u32,
+    pub code: u32,
+    pub next: usize,
 }
 
 pub fn is_digit(b: u8) -> bool
@@ -25,7 +26,7 @@ pub fn wide(b: u8) -> u32
 }
 
 // The op at a place of a text, digit by digit.
-fn long_token(text: &[u8], at: usize) -> Token
+fn long_token(text: &[u8], at: usize) -> Option<Token>
     requires { at < length text.now }
     ensures { TokenAt text.now at result }
 {
@@ -36,20 +37,20 @@ fn long_token(text: &[u8], at: usize) -> Token
         if !is_digit(b) {
             let code = letters::code_at(b);
             if num == 0 {
-                return Token::Bad;
+                return None;
             }
             if 8 < code {
-                return Token::Bad;
+                return None;
             }
-            return Token::Op(num, code, i + 1);
+            return Some(Token { len: num, code, next: i + 1 });
         }
         num = num * 10 + wide(b) - 48;
         if 268435455 < num {
-            return Token::Bad;
+            return None;
         }
         i += 1;
     }
-    Token::Bad
+    None
 }
 
 // The letter after one digit, after two or after three.
@@ -79,16 +80,16 @@ fn width_of(two: bool, three: bool) -> usize
 }
 
 // The op at a place of a text if it has at most three digits and four bytes stand there: without a branch on how many digits.
-pub fn short_token(text: &[u8], at: usize) -> Token
+pub fn short_token(text: &[u8], at: usize) -> Option<Token>
     requires { at < length text.now }
     ensures { ShortAt text.now at result }
 {
     if text.len() - at < 4 {
-        return Token::Bad;
+        return None;
     }
     let first = text[at];
     if !is_digit(first) {
-        return Token::Bad;
+        return None;
     }
     let second = text[at + 1];
     let third = text[at + 2];
@@ -105,21 +106,21 @@ pub fn short_token(text: &[u8], at: usize) -> Token
     };
     let code = letters::code_at(letter_of(two, three, second, third, fourth));
     if len == 0 {
-        return Token::Bad;
+        return None;
     }
     if 8 < code {
-        return Token::Bad;
+        return None;
     }
-    Token::Op(len, code, at + width_of(two, three))
+    Some(Token { len, code, next: at + width_of(two, three) })
 }
 
 // The op at a place of a text, digits and a letter, of which the short form may be known.
-pub fn token_at(short: Token, text: &[u8], at: usize) -> Token
+pub fn token_at(short: Option<Token>, text: &[u8], at: usize) -> Option<Token>
     requires { (at < length text.now) × ShortAt text.now at short }
     ensures { TokenAt text.now at result }
 {
-    if let Token::Op(len, code, next) = short {
-        return Token::Op(len, code, next);
+    if let Some(Token { len, code, next }) = short {
+        return Some(Token { len, code, next });
     }
     long_token(text, at)
 }

@@ -16,7 +16,7 @@ use tag_rules::TrueList;
 fn true_bytes(bam: &[u8]) -> &[u8]
     ensures { result.now ≡ true_part bam.now }
 {
-    let TrueList::At(at, n) = tags::true_list(bam) else {
+    let Ok(TrueList { at, n }) = tags::true_list(bam) else {
         return &bam[..0];
     };
     let end = at + 4 * (n as usize);
@@ -28,8 +28,8 @@ fn true_refusal(bam: &[u8]) -> u32
     ensures { result ≡ true_part_refusal bam.now }
 {
     match tags::true_list(bam) {
-        TrueList::At(_, _) => 0,
-        TrueList::Refused(why) => answers::number(why),
+        Ok(TrueList { at: _, n: _ }) => 0,
+        Err(why) => answers::number(why),
     }
 }
 
@@ -47,7 +47,7 @@ pub fn true_cigar_ops(bam: &[u8], out: &mut [u32]) -> Answer<u64>
     ensures { Settled (true_ops bam.now out.old) result out.new }
 {
     match tags::true_list(bam) {
-        TrueList::At(at, n) => {
+        Ok(TrueList { at, n }) => {
             let list = Ops {
                 inside: true,
                 at: at,
@@ -55,7 +55,7 @@ pub fn true_cigar_ops(bam: &[u8], out: &mut [u32]) -> Answer<u64>
             };
             copied_ops::copy_ops(bam, list, out)
         }
-        TrueList::Refused(why) => Err(why),
+        Err(why) => Err(why),
     }
 }
 
@@ -64,7 +64,7 @@ pub fn true_cigar_to_bytes_into(bam: &[u8], out: &mut [u8]) -> Answer<u64>
     ensures { Settled (true_printed bam.now out.old) result out.new }
 {
     match tags::true_list(bam) {
-        TrueList::At(at, n) => {
+        Ok(TrueList { at, n }) => {
             let list = Ops {
                 inside: true,
                 at: at,
@@ -72,7 +72,7 @@ pub fn true_cigar_to_bytes_into(bam: &[u8], out: &mut [u8]) -> Answer<u64>
             };
             print::print_ops(bam, list, out)
         }
-        TrueList::Refused(why) => Err(why),
+        Err(why) => Err(why),
     }
 }
 
@@ -81,7 +81,7 @@ pub fn true_cigar_lengths(bam: &[u8]) -> Answer<RecordLengths>
     ensures { result ≡ true_lengths bam.now }
 {
     match tags::true_list(bam) {
-        TrueList::At(at, n) => {
+        Ok(TrueList { at, n }) => {
             let list = Ops {
                 inside: true,
                 at: at,
@@ -89,6 +89,6 @@ pub fn true_cigar_lengths(bam: &[u8]) -> Answer<RecordLengths>
             };
             list_lengths::list_lengths(bam, list)
         }
-        TrueList::Refused(why) => Err(why),
+        Err(why) => Err(why),
     }
 }

@@ -13,18 +13,18 @@ use oplist::Ops;
 use tag_rules::TrueList;
 
 // The unclipped 5' position by the true list, or that the record is unmapped, which is asked before the list is looked for, or that it has no ops. Refusals 1, 2, 12, 13, 3 and 4.
-pub fn true_unclipped_5prime_from_raw_bam(bam: &[u8]) -> Unclipped
+pub fn true_unclipped_5prime_from_raw_bam(bam: &[u8]) -> Answer<Unclipped>
     ensures { result ≡ true_unclipped bam.now }
 {
     if bam.len() < 32 {
-        return Unclipped::Refused(Refusal::ShortRecord);
+        return Err(Refusal::ShortRecord);
     }
     let flags = little_endian::u16_at(bam, 14);
     if fields::is_unmapped(flags) {
-        return Unclipped::Unmapped;
+        return Ok(Unclipped::Unmapped);
     }
     match tags::true_list(bam) {
-        TrueList::At(at, n) => {
+        Ok(TrueList { at, n }) => {
             let list = Ops {
                 inside: true,
                 at: at,
@@ -32,16 +32,16 @@ pub fn true_unclipped_5prime_from_raw_bam(bam: &[u8]) -> Unclipped
             };
             unclipped::unclipped_by(bam, list, fields::own_place(bam), fields::is_reverse(flags))
         }
-        TrueList::Refused(why) => Unclipped::Refused(why),
+        Err(why) => Err(why),
     }
 }
 
 // Clips `amount` bases at the start of the true list: the ops written, and the reference length taken. Refusals 1, 2, 12, 13, 3, 8, 19 and 6.
-pub fn true_clip_cigar_start(bam: &[u8], amount: u64, out: &mut [u32]) -> Clipped
+pub fn true_clip_cigar_start(bam: &[u8], amount: u64, out: &mut [u32]) -> Answer<Clipped>
     ensures { Settled (true_start bam.now amount out.old) result out.new }
 {
     match tags::true_list(bam) {
-        TrueList::At(at, n) => {
+        Ok(TrueList { at, n }) => {
             let list = Ops {
                 inside: true,
                 at: at,
@@ -50,7 +50,7 @@ pub fn true_clip_cigar_start(bam: &[u8], amount: u64, out: &mut [u32]) -> Clippe
             let limit = oplist::count(&[], bam, list);
             clip::clip_start(&[], bam, list, limit, amount, out)
         }
-        TrueList::Refused(why) => Clipped::Refused(why),
+        Err(why) => Err(why),
     }
 }
 
@@ -59,7 +59,7 @@ pub fn true_clip_cigar_end(bam: &[u8], amount: u64, out: &mut [u32]) -> Answer<u
     ensures { Settled (true_end bam.now amount out.old) result out.new }
 {
     match tags::true_list(bam) {
-        TrueList::At(at, n) => {
+        Ok(TrueList { at, n }) => {
             let list = Ops {
                 inside: true,
                 at: at,
@@ -68,6 +68,6 @@ pub fn true_clip_cigar_end(bam: &[u8], amount: u64, out: &mut [u32]) -> Answer<u
             let limit = oplist::count(&[], bam, list);
             clip::clip_end(&[], bam, list, limit, amount, out)
         }
-        TrueList::Refused(why) => Err(why),
+        Err(why) => Err(why),
     }
 }

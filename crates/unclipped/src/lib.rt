@@ -19,39 +19,39 @@ fn to_place0(s: Option<i32>) -> Answer<Pos0>
     }
 }
 
-fn as_unclipped(s: Option<i32>) -> Unclipped
+fn as_unclipped(s: Option<i32>) -> Answer<Unclipped>
     ensures { result ≡ as_unclipped s }
 {
     match s {
-        Some(z) => Unclipped::At(Pos1(z)),
-        None => Unclipped::Refused(Refusal::Overflow),
+        Some(z) => Ok(Unclipped::At(Pos1(z))),
+        None => Err(Refusal::Overflow),
     }
 }
 
 // A record's unclipped 5' position, or that it is unmapped, or that it has no ops or they overrun it. Refusals 1 and 4.
-pub fn unclipped_5prime_from_raw_bam(bam: &[u8]) -> Unclipped
+pub fn unclipped_5prime_from_raw_bam(bam: &[u8]) -> Answer<Unclipped>
     ensures { result ≡ unclipped_of bam.now }
 {
     if bam.len() < 32 {
-        return Unclipped::Refused(Refusal::ShortRecord);
+        return Err(Refusal::ShortRecord);
     }
     let flags = little_endian::u16_at(bam, 14);
     if fields::is_unmapped(flags) {
-        return Unclipped::Unmapped;
+        return Ok(Unclipped::Unmapped);
     }
     let list = oplist::of_record(bam);
     unclipped_by(bam, list, fields::own_place(bam), fields::is_reverse(flags))
 }
 
 // The 5' position by an op list in a record, aligned at `pos`, or that it has no ops. Refusal 4.
-pub fn unclipped_by(bam: &[u8], list: Ops, pos: Pos0, reverse: bool) -> Unclipped
+pub fn unclipped_by(bam: &[u8], list: Ops, pos: Pos0, reverse: bool) -> Answer<Unclipped>
     ensures { result ≡ unclipped_by (ops_of [] bam.now list) pos reverse }
 {
     if oplist::count(&[], bam, list) == 0 {
-        return Unclipped::NoOps;
+        return Ok(Unclipped::NoOps);
     }
     let Some(at) = ends::plus_one(pos) else {
-        return Unclipped::Refused(Refusal::Overflow);
+        return Err(Refusal::Overflow);
     };
     if reverse {
         return as_unclipped(end_sums::end_from(at, end_sums::tail_of(&[], bam, list)));

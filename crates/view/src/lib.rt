@@ -137,7 +137,7 @@ impl<'a> RawRecordView<'a> {
         ends::alignment_end_from_raw(self.0)
     }
 
-    pub fn unclipped_5prime_1based(&self) -> Unclipped
+    pub fn unclipped_5prime_1based(&self) -> Answer<Unclipped>
         ensures { result ≡ unclipped_of self.now.0.now }
     {
         unclipped::unclipped_5prime_from_raw_bam(self.0)
@@ -149,7 +149,7 @@ impl<'a> RawRecordView<'a> {
         print::cigar_to_bytes_into(self.0, out)
     }
 
-    pub fn clip_cigar_start(&self, amount: u64, out: &mut [u32]) -> Clipped
+    pub fn clip_cigar_start(&self, amount: u64, out: &mut [u32]) -> Answer<Clipped>
         ensures { Settled (record_start self.now.0.now amount out.old) result out.new }
     {
         clip::clip_cigar_start(self.0, amount, out)

@@ -32,8 +32,8 @@ returns-in_default c =
 
 pub returns-then-end-gt2147483647 : goal.returns-then-end-gt2147483647
 returns-then-end-gt2147483647 c =
-    let told : (unfit c.args.ops.now ≡ false) × (c.in-Blocks.n ≡ length (blocks c.args.ops.now)) × (c.in-Blocks.refs ≡ sum_of ref_len c.args.ops.now) =
-    told_blocks c.args.ops.now c.in-Blocks.n c.in-Blocks.refs (sym c.measure.ensures.value ∙ c.in-Blocks.is)
+    let told : (unfit c.args.ops.now ≡ false) × (c.in-Some.n ≡ length (blocks c.args.ops.now)) × (c.in-Some.refs ≡ sum_of ref_len c.args.ops.now) =
+    told_blocks c.args.ops.now c.in-Some.n c.in-Some.refs (sym c.measure.ensures.value ∙ c.in-Some.is)
     in
     let past : bed_blocks c.args.start c.args.ops.now c.args.sizes.now c.args.starts.now ≡ bed_from c.natural_of-at.result c.args.ops.now c.args.sizes.now c.args.starts.now =
     let t : lt_z c.args.start (pos 0) ≡ false = simp (to_z-of_z c.ranges.start) at c.if-start-lt0.false in
@@ -44,8 +44,8 @@ returns-then-end-gt2147483647 c =
 
 pub returns-then-sizes-n : goal.returns-then-sizes-n
 returns-then-sizes-n c =
-    let told : (unfit c.args.ops.now ≡ false) × (c.in-Blocks.n ≡ length (blocks c.args.ops.now)) × (c.in-Blocks.refs ≡ sum_of ref_len c.args.ops.now) =
-    told_blocks c.args.ops.now c.in-Blocks.n c.in-Blocks.refs (sym c.measure.ensures.value ∙ c.in-Blocks.is)
+    let told : (unfit c.args.ops.now ≡ false) × (c.in-Some.n ≡ length (blocks c.args.ops.now)) × (c.in-Some.refs ≡ sum_of ref_len c.args.ops.now) =
+    told_blocks c.args.ops.now c.in-Some.n c.in-Some.refs (sym c.measure.ensures.value ∙ c.in-Some.is)
     in
     let past : bed_blocks c.args.start c.args.ops.now c.args.sizes.now c.args.starts.now ≡ bed_from c.natural_of-at.result c.args.ops.now c.args.sizes.now c.args.starts.now =
     let t : lt_z c.args.start (pos 0) ≡ false = simp (to_z-of_z c.ranges.start) at c.if-start-lt0.false in
@@ -56,8 +56,8 @@ returns-then-sizes-n c =
 
 pub returns-then-starts-n : goal.returns-then-starts-n
 returns-then-starts-n c =
-    let told : (unfit c.args.ops.now ≡ false) × (c.in-Blocks.n ≡ length (blocks c.args.ops.now)) × (c.in-Blocks.refs ≡ sum_of ref_len c.args.ops.now) =
-    told_blocks c.args.ops.now c.in-Blocks.n c.in-Blocks.refs (sym c.measure.ensures.value ∙ c.in-Blocks.is)
+    let told : (unfit c.args.ops.now ≡ false) × (c.in-Some.n ≡ length (blocks c.args.ops.now)) × (c.in-Some.refs ≡ sum_of ref_len c.args.ops.now) =
+    told_blocks c.args.ops.now c.in-Some.n c.in-Some.refs (sym c.measure.ensures.value ∙ c.in-Some.is)
     in
     let past : bed_blocks c.args.start c.args.ops.now c.args.sizes.now c.args.starts.now ≡ bed_from c.natural_of-at.result c.args.ops.now c.args.sizes.now c.args.starts.now =
     let t : lt_z c.args.start (pos 0) ≡ false = simp (to_z-of_z c.ranges.start) at c.if-start-lt0.false in
@@ -70,8 +70,8 @@ returns-then-starts-n c =
 
 pub returns : goal.returns
 returns c =
-    let told : (unfit c.args.ops.now ≡ false) × (c.in-Blocks.n ≡ length (blocks c.args.ops.now)) × (c.in-Blocks.refs ≡ sum_of ref_len c.args.ops.now) =
-    told_blocks c.args.ops.now c.in-Blocks.n c.in-Blocks.refs (sym c.measure.ensures.value ∙ c.in-Blocks.is)
+    let told : (unfit c.args.ops.now ≡ false) × (c.in-Some.n ≡ length (blocks c.args.ops.now)) × (c.in-Some.refs ≡ sum_of ref_len c.args.ops.now) =
+    told_blocks c.args.ops.now c.in-Some.n c.in-Some.refs (sym c.measure.ensures.value ∙ c.in-Some.is)
     in
     let past : bed_blocks c.args.start c.args.ops.now c.args.sizes.now c.args.starts.now ≡ bed_from c.natural_of-at.result c.args.ops.now c.args.sizes.now c.args.starts.now =
     let t : lt_z c.args.start (pos 0) ≡ false = simp (to_z-of_z c.ranges.start) at c.if-start-lt0.false in
@@ -85,14 +85,14 @@ returns c =
 
 pub write-requires-clause-ops_len_bound : goal.write-requires-clause-ops_len_bound
 write-requires-clause-ops_len_bound c =
-    let told : (unfit c.args.ops.now ≡ false) × (c.in-Blocks.n ≡ length (blocks c.args.ops.now)) × (c.in-Blocks.refs ≡ sum_of ref_len c.args.ops.now) =
-    told_blocks c.args.ops.now c.in-Blocks.n c.in-Blocks.refs (sym c.measure.ensures.value ∙ c.in-Blocks.is)
+    let told : (unfit c.args.ops.now ≡ false) × (c.in-Some.n ≡ length (blocks c.args.ops.now)) × (c.in-Some.refs ≡ sum_of ref_len c.args.ops.now) =
+    told_blocks c.args.ops.now c.in-Some.n c.in-Some.refs (sym c.measure.ensures.value ∙ c.in-Some.is)
     in
     (c.if-ops-gt-MOST_OPS.false, told.0, omega (arith, c.if-end-gt2147483647.false, told.2))
 
 pub write-requires-clause-ops_in_bounds : goal.write-requires-clause-ops_in_bounds
 write-requires-clause-ops_in_bounds c =
-    let told : (unfit c.args.ops.now ≡ false) × (c.in-Blocks.n ≡ length (blocks c.args.ops.now)) × (c.in-Blocks.refs ≡ sum_of ref_len c.args.ops.now) =
-    told_blocks c.args.ops.now c.in-Blocks.n c.in-Blocks.refs (sym c.measure.ensures.value ∙ c.in-Blocks.is)
+    let told : (unfit c.args.ops.now ≡ false) × (c.in-Some.n ≡ length (blocks c.args.ops.now)) × (c.in-Some.refs ≡ sum_of ref_len c.args.ops.now) =
+    told_blocks c.args.ops.now c.in-Some.n c.in-Some.refs (sym c.measure.ensures.value ∙ c.in-Some.is)
     in
     (omega (arith, told.1), omega (arith, told.1))

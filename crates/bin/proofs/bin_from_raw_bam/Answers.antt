@@ -34,24 +34,24 @@ returns-then-start-lt0 c =
     in
     sym (before_first (b) (long) (simp (start) at c.if-start-lt0.true))
 
-pub returns-in-Number : goal.returns-in-Number
-returns-in-Number c =
+pub returns-in-Ok : goal.returns-in-Ok
+returns-in-Ok c =
     let long : 32 ≤ length c.args.bam.now = omega arith in
     let s : to_z w32 (of_z w32 c.own_place-start.result.0) ≡ c.own_place-start.result.0 = search rules in
     let start : to_z w32 (of_z w32 c.own_place-start.result.0) ≡ pos_of c.args.bam.now = s ∙ c.own_place-start.ensures in
     let cases : record_bin c.args.bam.now ≡ bin_from (pos_of c.args.bam.now) c.reference_length_from_raw_bam.result =
     from_first c.args.bam.now (long) (simp (start) at c.if-start-lt0.false) ∙ ap (bin_from (pos_of c.args.bam.now)) (sym c.reference_length_from_raw_bam.ensures)
     in
-    let e : to_z w32 (of_z w32 c.in-Number.n) ≡ c.in-Number.n = search rules in
-    (simp e at c.bin_from.ensures) ∙ ap (λ (z : ℤ). bin_from z (Ok c.in-Number.n)) c.own_place-start.ensures ∙ sym (cases ∙ ap (bin_from (pos_of c.args.bam.now)) c.in-Number.is)
+    let e : to_z w32 (of_z w32 c.in-Ok.n) ≡ c.in-Ok.n = search rules in
+    (simp e at c.bin_from.ensures) ∙ ap (λ (z : ℤ). bin_from z (Ok c.in-Ok.n)) c.own_place-start.ensures ∙ sym (cases ∙ ap (bin_from (pos_of c.args.bam.now)) c.in-Ok.is)
 
-pub returns-in-Refused : goal.returns-in-Refused
+pub returns-in-Err : goal.returns-in-Err
 unfolding bin_from
-returns-in-Refused c =
+returns-in-Err c =
     let long : 32 ≤ length c.args.bam.now = omega arith in
     let s : to_z w32 (of_z w32 c.own_place-start.result.0) ≡ c.own_place-start.result.0 = search rules in
     let start : to_z w32 (of_z w32 c.own_place-start.result.0) ≡ pos_of c.args.bam.now = s ∙ c.own_place-start.ensures in
     let cases : record_bin c.args.bam.now ≡ bin_from (pos_of c.args.bam.now) c.reference_length_from_raw_bam.result =
     from_first c.args.bam.now (long) (simp (start) at c.if-start-lt0.false) ∙ ap (bin_from (pos_of c.args.bam.now)) (sym c.reference_length_from_raw_bam.ensures)
     in
-    sym (cases ∙ ap (bin_from (pos_of c.args.bam.now)) c.in-Refused.is)
+    sym (cases ∙ ap (bin_from (pos_of c.args.bam.now)) c.in-Err.is)

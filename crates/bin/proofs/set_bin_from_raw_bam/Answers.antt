@@ -20,10 +20,10 @@ unfolding record_bin
 returns-then-bam-lt32 c =
     settled (decided c.args.bam.now (Err ShortRecord) (simp (lt-ltb _ _ c.if-bam-lt32.true)))
 
-pub returns-in-Number : goal.returns-in-Number
-returns-in-Number c =
-    settled (decided c.args.bam.now (Ok c.in-Number.n) (sym c.in-Number.is ∙ c.bin_from_raw_bam.ensures))
+pub returns-in-Ok : goal.returns-in-Ok
+returns-in-Ok c =
+    settled (decided c.args.bam.now (Ok c.in-Ok.n) (sym c.in-Ok.is ∙ c.bin_from_raw_bam.ensures))
 
-pub returns-in-Refused : goal.returns-in-Refused
-returns-in-Refused c =
-    settled (decided c.args.bam.now (Err c.in-Refused.r) (sym c.in-Refused.is ∙ c.bin_from_raw_bam.ensures))
+pub returns-in-Err : goal.returns-in-Err
+returns-in-Err c =
+    settled (decided c.args.bam.now (Err c.in-Err.r) (sym c.in-Err.is ∙ c.bin_from_raw_bam.ensures))

@@ -10,20 +10,20 @@ bin_up-requires c =
     let told : c.region_of.result ≡ region_of c.args.beg c.args.end c.args.min_shift c.args.depth =
     simp (to_z-of_z c.ranges.beg, to_z-of_z c.ranges.end) at c.region_of.ensures
     in
-    found c.args.beg c.args.end _ _ _ _ (sym (told) ∙ c.in-Over.is)
+    found c.args.beg c.args.end _ _ _ _ (sym (told) ∙ c.in-None.is)
 
-pub returns-in-Over : goal.returns-in-Over
+pub returns-in-None : goal.returns-in-None
 unfolding csi_bin
-returns-in-Over c =
+returns-in-None c =
     let told : c.region_of.result ≡ region_of c.args.beg c.args.end c.args.min_shift c.args.depth =
     simp (to_z-of_z c.ranges.beg, to_z-of_z c.ranges.end) at c.region_of.ensures
     in
-    ap Ok c.bin_up.ensures ∙ sym (ap (bin_in c.args.min_shift c.args.depth) (sym (told) ∙ c.in-Over.is))
+    ap Ok c.bin_up.ensures ∙ sym (ap (bin_in c.args.min_shift c.args.depth) (sym (told) ∙ c.in-None.is))
 
-pub returns-in-Refused : goal.returns-in-Refused
+pub returns-in-Err : goal.returns-in-Err
 unfolding csi_bin
-returns-in-Refused c =
+returns-in-Err c =
     let told : c.region_of.result ≡ region_of c.args.beg c.args.end c.args.min_shift c.args.depth =
     simp (to_z-of_z c.ranges.beg, to_z-of_z c.ranges.end) at c.region_of.ensures
     in
-    sym (ap (bin_in c.args.min_shift c.args.depth) (sym (told) ∙ c.in-Refused.is))
+    sym (ap (bin_in c.args.min_shift c.args.depth) (sym (told) ∙ c.in-Err.is))

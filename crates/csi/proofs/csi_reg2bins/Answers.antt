@@ -1,9 +1,9 @@
 use mathlib.Core.Path.{◌≡◌, sym, ap, ◌∙◌}
+use Rattle.std.specs.Prelude.{Ok}
 use native.Mathlib.Omega.{arith}
 use lib.ListN.{length}
 use mir.Facts.{to_z-of_z}
 use Rattle.answers.proofs.Unique.{settled}
-use Rattle.csi_rules.specs.declared.Region.TheVariants.{Over}
 use Rattle.csi_rules.specs.Csi.{region_of, bins_up, bins_in, csi_bins}
 use Rattle.csi_levels.specs.InnerLevels.{Sound}
 use Rattle.csi.proofs.Calls.{found, filled_none, filled_all}
@@ -14,10 +14,10 @@ count_up-n-requires c =
     let told : c.region_of.result ≡ region_of c.args.beg c.args.end c.args.min_shift c.args.depth =
     simp (to_z-of_z c.ranges.beg, to_z-of_z c.ranges.end) at c.region_of.ensures
     in
-    let over : region_of c.args.beg c.args.end c.args.min_shift c.args.depth ≡ Over c.in-Over.first c.in-Over.last =
-    sym (told) ∙ c.in-Over.is
+    let over : region_of c.args.beg c.args.end c.args.min_shift c.args.depth ≡ Ok (record { first = c.in-None.first; last = c.in-None.last }) =
+    sym (told) ∙ c.in-None.is
     in
-    let sound : Sound c.args.depth c.args.min_shift c.in-Over.first c.in-Over.last =
+    let sound : Sound c.args.depth c.args.min_shift c.in-None.first c.in-None.last =
     found c.args.beg c.args.end _ _ _ _ (over)
     in
     sound
@@ -28,10 +28,10 @@ returns-then-out-n c =
     let told : c.region_of.result ≡ region_of c.args.beg c.args.end c.args.min_shift c.args.depth =
     simp (to_z-of_z c.ranges.beg, to_z-of_z c.ranges.end) at c.region_of.ensures
     in
-    let over : region_of c.args.beg c.args.end c.args.min_shift c.args.depth ≡ Over c.in-Over.first c.in-Over.last =
-    sym (told) ∙ c.in-Over.is
+    let over : region_of c.args.beg c.args.end c.args.min_shift c.args.depth ≡ Ok (record { first = c.in-None.first; last = c.in-None.last }) =
+    sym (told) ∙ c.in-None.is
     in
-    let bins = bins_up c.args.depth c.args.min_shift c.in-Over.first c.in-Over.last in
+    let bins = bins_up c.args.depth c.args.min_shift c.in-None.first c.in-None.last in
     let e : c.count_up-n.result ≡ length bins = c.count_up-n.ensures.0 in
     settled (ap (bins_in c.args.min_shift c.args.depth c.args.out.now) (over) ∙ filled_none bins c.args.out.now (omega arith))
 
@@ -41,28 +41,28 @@ returns-else-out-n c =
     let told : c.region_of.result ≡ region_of c.args.beg c.args.end c.args.min_shift c.args.depth =
     simp (to_z-of_z c.ranges.beg, to_z-of_z c.ranges.end) at c.region_of.ensures
     in
-    let over : region_of c.args.beg c.args.end c.args.min_shift c.args.depth ≡ Over c.in-Over.first c.in-Over.last =
-    sym (told) ∙ c.in-Over.is
+    let over : region_of c.args.beg c.args.end c.args.min_shift c.args.depth ≡ Ok (record { first = c.in-None.first; last = c.in-None.last }) =
+    sym (told) ∙ c.in-None.is
     in
-    let bins = bins_up c.args.depth c.args.min_shift c.in-Over.first c.in-Over.last in
+    let bins = bins_up c.args.depth c.args.min_shift c.in-None.first c.in-None.last in
     let e : c.count_up-n.result ≡ length bins = c.count_up-n.ensures.0 in
     settled (ap (bins_in c.args.min_shift c.args.depth c.args.out.now) (over) ∙ filled_all bins c.args.out.now _ _ (omega arith) e c.put_up.ensures.1)
 
-pub returns-in-Refused : goal.returns-in-Refused
+pub returns-in-Err : goal.returns-in-Err
 unfolding csi_bins
-returns-in-Refused c =
+returns-in-Err c =
     let told : c.region_of.result ≡ region_of c.args.beg c.args.end c.args.min_shift c.args.depth =
     simp (to_z-of_z c.ranges.beg, to_z-of_z c.ranges.end) at c.region_of.ensures
     in
-    settled (ap (bins_in c.args.min_shift c.args.depth c.args.out.now) (sym (told) ∙ c.in-Refused.is))
+    settled (ap (bins_in c.args.min_shift c.args.depth c.args.out.now) (sym (told) ∙ c.in-Err.is))
 
 pub put_up-requires : goal.put_up-requires
 put_up-requires c =
     let told : c.region_of.result ≡ region_of c.args.beg c.args.end c.args.min_shift c.args.depth =
     simp (to_z-of_z c.ranges.beg, to_z-of_z c.ranges.end) at c.region_of.ensures
     in
-    let over : region_of c.args.beg c.args.end c.args.min_shift c.args.depth ≡ Over c.in-Over.first c.in-Over.last =
-    sym (told) ∙ c.in-Over.is
+    let over : region_of c.args.beg c.args.end c.args.min_shift c.args.depth ≡ Ok (record { first = c.in-None.first; last = c.in-None.last }) =
+    sym (told) ∙ c.in-None.is
     in
     let e = c.count_up-n.ensures.0 in
     record { sound = found c.args.beg c.args.end _ _ _ _ (over); last_in_bounds = omega arith }

@@ -1,10 +1,10 @@
 -- Each test is one of the definition; the ends are not negative behind them.
 use Prim.Native.Nat.{ℕ, ◌-◌}
+use Rattle.std.specs.Prelude.{Ok}
 use mathlib.Core.Path.{◌≡◌, sym, ap, ◌∙◌}
 use mathlib.Core.Bool.{true}
 use mir.Facts.{to_z-of_z}
 use Rattle.signed.specs.Whole.{natural}
-use Rattle.csi_rules.specs.declared.Region.TheVariants.{Over}
 use Rattle.csi_rules.specs.Csi.{served, inside}
 use Rattle.csi_rules.proofs.Cases.{levels_first, region_next, taken}
 use Rattle.csi_region.proofs.region_of.Goals as goal
@@ -40,6 +40,6 @@ returns c =
     let is-in : inside c.args.shift c.args.depth c.args.beg c.args.end ≡ true =
     sym (tested) ∙ c.if-not-is_inside.false
     in
-    ap (λ (x : ℕ). Over x (c.natural64-2.result - 1)) (from)
-    ∙ ap (λ (x : ℕ). Over (natural c.args.beg) (x - 1)) (to)
+    ap (λ (x : ℕ). (Ok (record { first = x; last = c.natural64-2.result - 1 }))) (from)
+    ∙ ap (λ (x : ℕ). (Ok (record { first = natural c.args.beg; last = x - 1 }))) (to)
     ∙ sym (taken c.args.beg c.args.end c.args.shift c.args.depth (in-range) (is-in))

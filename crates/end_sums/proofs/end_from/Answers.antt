@@ -29,8 +29,8 @@ unfolding both
 returns-in_default-checked_add c =
     let at-end : from_end c.args.w (Some c.args.at ⊕ summed c.args.w.refs) ≡ from_end c.args.w c.checked_add.result =
     let x : to_z w32 (of_z w32 c.args.at) ≡ c.args.at = search rules in
-    let y : to_z w32 (of_z w32 c.in-Number.refs) ≡ c.in-Number.refs = search rules in
-    ap (λ (s : Option ℤ). from_end c.args.w (Some c.args.at ⊕ s)) (sym c.whole.ensures ∙ c.in-Number.is)
+    let y : to_z w32 (of_z w32 c.in-Some.refs) ≡ c.in-Some.refs = search rules in
+    ap (λ (s : Option ℤ). from_end c.args.w (Some c.args.at ⊕ s)) (sym c.whole.ensures ∙ c.in-Some.is)
     ∙ ap (from_end c.args.w) (sym (simp (x, y) at c.checked_add.ensures))
     in
     sym (at-end ∙ ap (from_end c.args.w) c.in_default-checked_add.is)
@@ -40,28 +40,28 @@ unfolding both
 returns-in_default-trailing c =
     let at-end : from_end c.args.w (Some c.args.at ⊕ summed c.args.w.refs) ≡ from_end c.args.w c.checked_add.result =
     let x : to_z w32 (of_z w32 c.args.at) ≡ c.args.at = search rules in
-    let y : to_z w32 (of_z w32 c.in-Number.refs) ≡ c.in-Number.refs = search rules in
-    ap (λ (s : Option ℤ). from_end c.args.w (Some c.args.at ⊕ s)) (sym c.whole.ensures ∙ c.in-Number.is)
+    let y : to_z w32 (of_z w32 c.in-Some.refs) ≡ c.in-Some.refs = search rules in
+    ap (λ (s : Option ℤ). from_end c.args.w (Some c.args.at ⊕ s)) (sym c.whole.ensures ∙ c.in-Some.is)
     ∙ ap (from_end c.args.w) (sym (simp (x, y) at c.checked_add.ensures))
     in
     sym (at-end
-    ∙ ap (from_end c.args.w) c.in-Number-checked_add.is
-    ∙ ap (λ (s : Option ℤ). last-of (Some c.in-Number-checked_add.end ⊕ s)) (sym c.trailing.ensures ∙ c.in_default-trailing.is))
+    ∙ ap (from_end c.args.w) c.in-Some-checked_add.is
+    ∙ ap (λ (s : Option ℤ). last-of (Some c.in-Some-checked_add.end ⊕ s)) (sym c.trailing.ensures ∙ c.in_default-trailing.is))
 
 pub returns-in_default-checked_add-2 : goal.returns-in_default-checked_add-2
 unfolding both
 returns-in_default-checked_add-2 c =
     let at-end : from_end c.args.w (Some c.args.at ⊕ summed c.args.w.refs) ≡ from_end c.args.w c.checked_add.result =
     let x : to_z w32 (of_z w32 c.args.at) ≡ c.args.at = search rules in
-    let y : to_z w32 (of_z w32 c.in-Number.refs) ≡ c.in-Number.refs = search rules in
-    ap (λ (s : Option ℤ). from_end c.args.w (Some c.args.at ⊕ s)) (sym c.whole.ensures ∙ c.in-Number.is)
+    let y : to_z w32 (of_z w32 c.in-Some.refs) ≡ c.in-Some.refs = search rules in
+    ap (λ (s : Option ℤ). from_end c.args.w (Some c.args.at ⊕ s)) (sym c.whole.ensures ∙ c.in-Some.is)
     ∙ ap (from_end c.args.w) (sym (simp (x, y) at c.checked_add.ensures))
     in
     let at-clipped : from_end c.args.w c.checked_add.result ≡ last-of c.checked_add-2.result =
-    let x : to_z w32 (of_z w32 c.in-Number-checked_add.end) ≡ c.in-Number-checked_add.end = search rules in
-    let y : to_z w32 (of_z w32 c.in-Number-trailing.clips) ≡ c.in-Number-trailing.clips = search rules in
-    ap (from_end c.args.w) c.in-Number-checked_add.is
-    ∙ ap (λ (s : Option ℤ). last-of (Some c.in-Number-checked_add.end ⊕ s)) (sym c.trailing.ensures ∙ c.in-Number-trailing.is)
+    let x : to_z w32 (of_z w32 c.in-Some-checked_add.end) ≡ c.in-Some-checked_add.end = search rules in
+    let y : to_z w32 (of_z w32 c.in-Some-trailing.clips) ≡ c.in-Some-trailing.clips = search rules in
+    ap (from_end c.args.w) c.in-Some-checked_add.is
+    ∙ ap (λ (s : Option ℤ). last-of (Some c.in-Some-checked_add.end ⊕ s)) (sym c.trailing.ensures ∙ c.in-Some-trailing.is)
     ∙ ap last-of (sym (simp (x, y) at c.checked_add-2.ensures))
     in
     sym (at-end ∙ at-clipped ∙ ap last-of c.in_default-checked_add-2.is)
@@ -71,17 +71,17 @@ unfolding both
 returns c =
     let at-end : from_end c.args.w (Some c.args.at ⊕ summed c.args.w.refs) ≡ from_end c.args.w c.checked_add.result =
     let x : to_z w32 (of_z w32 c.args.at) ≡ c.args.at = search rules in
-    let y : to_z w32 (of_z w32 c.in-Number.refs) ≡ c.in-Number.refs = search rules in
-    ap (λ (s : Option ℤ). from_end c.args.w (Some c.args.at ⊕ s)) (sym c.whole.ensures ∙ c.in-Number.is)
+    let y : to_z w32 (of_z w32 c.in-Some.refs) ≡ c.in-Some.refs = search rules in
+    ap (λ (s : Option ℤ). from_end c.args.w (Some c.args.at ⊕ s)) (sym c.whole.ensures ∙ c.in-Some.is)
     ∙ ap (from_end c.args.w) (sym (simp (x, y) at c.checked_add.ensures))
     in
     let at-clipped : from_end c.args.w c.checked_add.result ≡ last-of c.checked_add-2.result =
-    let x : to_z w32 (of_z w32 c.in-Number-checked_add.end) ≡ c.in-Number-checked_add.end = search rules in
-    let y : to_z w32 (of_z w32 c.in-Number-trailing.clips) ≡ c.in-Number-trailing.clips = search rules in
-    ap (from_end c.args.w) c.in-Number-checked_add.is
-    ∙ ap (λ (s : Option ℤ). last-of (Some c.in-Number-checked_add.end ⊕ s)) (sym c.trailing.ensures ∙ c.in-Number-trailing.is)
+    let x : to_z w32 (of_z w32 c.in-Some-checked_add.end) ≡ c.in-Some-checked_add.end = search rules in
+    let y : to_z w32 (of_z w32 c.in-Some-trailing.clips) ≡ c.in-Some-trailing.clips = search rules in
+    ap (from_end c.args.w) c.in-Some-checked_add.is
+    ∙ ap (λ (s : Option ℤ). last-of (Some c.in-Some-checked_add.end ⊕ s)) (sym c.trailing.ensures ∙ c.in-Some-trailing.is)
     ∙ ap last-of (sym (simp (x, y) at c.checked_add-2.ensures))
     in
-    let x : to_z w32 (of_z w32 c.in-Number-checked_add-2.clipped) ≡ c.in-Number-checked_add-2.clipped = search rules in
+    let x : to_z w32 (of_z w32 c.in-Some-checked_add-2.clipped) ≡ c.in-Some-checked_add-2.clipped = search rules in
     simp x at c.checked_sub.ensures
-    ∙ sym (at-end ∙ at-clipped ∙ ap last-of c.in-Number-checked_add-2.is)
+    ∙ sym (at-end ∙ at-clipped ∙ ap last-of c.in-Some-checked_add-2.is)

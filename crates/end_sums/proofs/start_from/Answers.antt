@@ -16,5 +16,5 @@ pub returns : goal.returns
 unfolding both
 returns c =
     let x : to_z w32 (of_z w32 c.args.at) ≡ c.args.at = search rules in
-    let y : to_z w32 (of_z w32 c.in-Number.n) ≡ c.in-Number.n = search rules in
-    simp (x, y) at c.checked_sub.ensures ∙ sym (ap (λ (s : Option ℤ). Some c.args.at ⊖ s) (sym c.whole.ensures ∙ c.in-Number.is))
+    let y : to_z w32 (of_z w32 c.in-Some.n) ≡ c.in-Some.n = search rules in
+    simp (x, y) at c.checked_sub.ensures ∙ sym (ap (λ (s : Option ℤ). Some c.args.at ⊖ s) (sym c.whole.ensures ∙ c.in-Some.is))

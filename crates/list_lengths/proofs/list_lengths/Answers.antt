@@ -21,11 +21,11 @@ sums_between-inner-requires c =
     let a = apart c.clip_run-first.ensures c.clip_run-last.ensures (omega arith) in
     (omega arith, omega arith, omega arith)
 
-pub returns-in-Number : goal.returns-in-Number
-returns-in-Number c =
-    let z : to_z w32 (of_z w32 c.in-Number.reference) ≡ c.in-Number.reference = to_z-of_z {w = w32} {z = c.in-Number.reference} (record { sfits = c.in-Number.known_told-1-own.given.0.1 }) in
-    simp z (six-are c.clip_run-first.ensures c.clip_run-last.ensures _ _ c.count-n.ensures.0 c.sums_between-inner.ensures.list_value.0 _ (sym c.as_int.ensures ∙ c.in-Number.is) (omega arith) _ c.sums_between-inner.ensures.list_value.1)
+pub returns-in-Ok : goal.returns-in-Ok
+returns-in-Ok c =
+    let z : to_z w32 (of_z w32 c.in-Ok.reference) ≡ c.in-Ok.reference = to_z-of_z {w = w32} {z = c.in-Ok.reference} (record { sfits = c.in-Ok.known_told-1-own.given.0.1 }) in
+    simp z (six-are c.clip_run-first.ensures c.clip_run-last.ensures _ _ c.count-n.ensures.0 c.sums_between-inner.ensures.list_value.0 _ (sym c.as_int.ensures ∙ c.in-Ok.is) (omega arith) _ c.sums_between-inner.ensures.list_value.1)
 
-pub returns-in-Refused : goal.returns-in-Refused
-returns-in-Refused c =
-    none-are c.clip_run-first.ensures c.clip_run-last.ensures _ _ c.count-n.ensures.0 c.sums_between-inner.ensures.list_value.0 _ (sym c.as_int.ensures ∙ c.in-Refused.is)
+pub returns-in-Err : goal.returns-in-Err
+returns-in-Err c =
+    none-are c.clip_run-first.ensures c.clip_run-last.ensures _ _ c.count-n.ensures.0 c.sums_between-inner.ensures.list_value.0 _ (sym c.as_int.ensures ∙ c.in-Err.is)

@@ -15,8 +15,8 @@ returns-then-ops-gt-MOST_OPS c =
 
 pub returns-then-holds_told-2 : goal.returns-then-holds_told-2
 returns-then-holds_told-2 c =
-    let measured : Measured c.args.ops.now c.args.text.now c.in-Ops.n =
-    subst (WalkedIs c.args.ops.now c.args.text.now) c.in-Ops.is c.measure.ensures
+    let measured : Measured c.args.ops.now c.args.text.now c.in-Some.n =
+    subst (WalkedIs c.args.ops.now c.args.text.now) c.in-Some.is c.measure.ensures
     in
     let few : length c.args.ops.now ≤ 65535 =
     c.if-ops-gt-MOST_OPS.false
@@ -26,8 +26,8 @@ returns-then-holds_told-2 c =
 
 pub returns-then-out-n : goal.returns-then-out-n
 returns-then-out-n c =
-    let measured : Measured c.args.ops.now c.args.text.now c.in-Ops.n =
-    subst (WalkedIs c.args.ops.now c.args.text.now) c.in-Ops.is c.measure.ensures
+    let measured : Measured c.args.ops.now c.args.text.now c.in-Some.n =
+    subst (WalkedIs c.args.ops.now c.args.text.now) c.in-Some.is c.measure.ensures
     in
     let few : length c.args.ops.now ≤ 65535 =
     c.if-ops-gt-MOST_OPS.false
@@ -37,8 +37,8 @@ returns-then-out-n c =
 
 pub returns : goal.returns
 returns c =
-    let measured : Measured c.args.ops.now c.args.text.now c.in-Ops.n =
-    subst (WalkedIs c.args.ops.now c.args.text.now) c.in-Ops.is c.measure.ensures
+    let measured : Measured c.args.ops.now c.args.text.now c.in-Some.n =
+    subst (WalkedIs c.args.ops.now c.args.text.now) c.in-Some.is c.measure.ensures
     in
     let few : length c.args.ops.now ≤ 65535 =
     c.if-ops-gt-MOST_OPS.false

@@ -23,8 +23,8 @@ returns-in_default c =
 
 pub loop-i-preserved : goal.loop-i-preserved
 loop-i-preserved c =
-    let u = subst (StepAt c.args.text.now c.loop-i.s (get_or c.args.ops.now c.loop-i.i 0)) c.in-On.is c.step.ensures in
-    (omega arith, next c.args.ops.now c.args.text.now c.loop-i.i c.loop-i.s c.loop-i.invariant.1 (get_or c.args.ops.now c.loop-i.i 0) refl (omega arith) c.in-On.next u.behind u.agree u.rest u.counted u.few)
+    let u = subst (StepAt c.args.text.now c.loop-i.s (get_or c.args.ops.now c.loop-i.i 0)) c.in-Some.is c.step.ensures in
+    (omega arith, next c.args.ops.now c.args.text.now c.loop-i.i c.loop-i.s c.loop-i.invariant.1 (get_or c.args.ops.now c.loop-i.i 0) refl (omega arith) c.in-Some.next u.behind u.agree u.rest u.counted u.few)
 
 pub returns-then-s-ne0 : goal.returns-then-s-ne0
 returns-then-s-ne0 c =

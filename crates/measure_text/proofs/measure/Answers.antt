@@ -16,29 +16,29 @@ returns-in_default c =
 
 pub returns-in_default-take_op : goal.returns-in_default-take_op
 returns-in_default-take_op c =
-    let found : OpAt c.args.text.now c.loop-i.i c.in-Op.len c.in-Op.code c.in-Op.next =
-    subst (TokenAt c.args.text.now c.loop-i.i) c.in-Op.is c.token_at.ensures
+    let found : OpAt c.args.text.now c.loop-i.i c.in-Some.len c.in-Some.code c.in-Some.next =
+    subst (TokenAt c.args.text.now c.loop-i.i) c.in-Some.is c.token_at.ensures
     in
-    let took : (r : Option SoFar) → c.take_op.result ≡ r → took_of c.loop-i.seen c.in-Op.len (code_class c.in-Op.code) ≡ r =
+    let took : (r : Option SoFar) → c.take_op.result ≡ r → took_of c.loop-i.seen c.in-Some.len (code_class c.in-Some.code) ≡ r =
     λ r e. sym c.take_op.ensures ∙ e
     in
     sym (pass-stop c.args.text.now c.loop-i.i c.loop-i.seen _ _ _ (found) (took _ c.in_default-take_op.is)) ∙ c.loop-i.invariant.3 ∙ left_measured c.args.text.now
 
 pub loop-i-preserved : goal.loop-i-preserved
 loop-i-preserved c =
-    let took : (r : Option SoFar) → c.take_op.result ≡ r → took_of c.loop-i.seen c.in-Op.len (code_class c.in-Op.code) ≡ r =
+    let took : (r : Option SoFar) → c.take_op.result ≡ r → took_of c.loop-i.seen c.in-Some.len (code_class c.in-Some.code) ≡ r =
     λ r e. sym c.take_op.ensures ∙ e
     in
-    let found : OpAt c.args.text.now c.loop-i.i c.in-Op.len c.in-Op.code c.in-Op.next =
-    subst (TokenAt c.args.text.now c.loop-i.i) c.in-Op.is c.token_at.ensures
+    let found : OpAt c.args.text.now c.loop-i.i c.in-Some.len c.in-Some.code c.in-Some.next =
+    subst (TokenAt c.args.text.now c.loop-i.i) c.in-Some.is c.token_at.ensures
     in
-    let e = took _ c.in-More.is in
+    let e = took _ c.in-Some.is in
     let o = found in
-    let f = took_fits c.loop-i.seen c.in-More.more _ _ e in (
+    let f = took_fits c.loop-i.seen c.in-Some.more _ _ e in (
       o.inside,
       omega arith,
       f.1,
-      sym (pass-more c.args.text.now c.loop-i.i c.loop-i.seen _ _ _ o c.in-More.more e) ∙ c.loop-i.invariant.3,
+      sym (pass-more c.args.text.now c.loop-i.i c.loop-i.seen _ _ _ o c.in-Some.more e) ∙ c.loop-i.invariant.3,
     )
 
 pub returns : goal.returns

@@ -29,8 +29,8 @@ returns-then-out-at c =
 
 pub loop-i-preserved : goal.loop-i-preserved
 loop-i-preserved c =
-    let found : OpAt c.args.text.now c.loop-i.i c.in-Op.len c.in-Op.code c.in-Op.next =
-    subst (TokenAt c.args.text.now c.loop-i.i) c.in-Op.is c.token_at.ensures
+    let found : OpAt c.args.text.now c.loop-i.i c.in-Some.len c.in-Some.code c.in-Some.next =
+    subst (TokenAt c.args.text.now c.loop-i.i) c.in-Some.is c.token_at.ensures
     in
     let o = found in (
       o.inside,

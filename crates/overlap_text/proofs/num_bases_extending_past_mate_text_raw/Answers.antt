@@ -1,5 +1,6 @@
 -- The pass decides each refusal before anything is written; the pair test then says what is left.
 use mathlib.Core.Path.{◌≡◌, sym, ap, ◌∙◌}
+use Rattle.std.specs.Prelude.{Some}
 use Rattle.std.specs.Prelude.{Bool, Err, Ok}
 use Rattle.answers.specs.Answer.{Answer}
 use mir.Syntax.{w32}
@@ -7,7 +8,6 @@ use mir.Val.{to_z, of_z}
 use Rattle.answers.proofs.Unique.{settled, resettled}
 use Rattle.text_rules.specs.Text.{text_ops}
 use Rattle.parsed_rules.specs.Parsed.{measured_text}
-use Rattle.parsed_rules.specs.declared.Measured.TheVariants as Measured
 use Rattle.pairs_rules.specs.Pairs.{is_fr_with_mate}
 use Rattle.overlap_rules.specs.Overlap.{pair_list_left, past_mate_text}
 use Rattle.overlap_rules.proofs.CallLaws.{text_count, text_short, text-bad, text-many, text-left}
@@ -24,30 +24,30 @@ returns-in_default c =
 
 pub returns-then-n : goal.returns-then-n
 returns-then-n c =
-    let measured : measured_text c.args.text.now ≡ Measured.Ops c.in-Ops.n c.in-Ops.span =
-    sym c.measure.ensures ∙ c.in-Ops.is
+    let measured : measured_text c.args.text.now ≡ Some (record { ops = c.in-Some.n; refs = c.in-Some.span }) =
+    sym c.measure.ensures ∙ c.in-Some.is
     in
     settled (text-many _ _ _ c.if-bam-lt32.false _ _ (measured) c.if-n.true)
 
 pub list_left-requires : goal.list_left-requires
 list_left-requires c =
-    let measured : measured_text c.args.text.now ≡ Measured.Ops c.in-Ops.n c.in-Ops.span =
-    sym c.measure.ensures ∙ c.in-Ops.is
+    let measured : measured_text c.args.text.now ≡ Some (record { ops = c.in-Some.n; refs = c.in-Some.span }) =
+    sym c.measure.ensures ∙ c.in-Some.is
     in
     (search rules, text_count _ _ _ (measured), c.if-n.false)
 
-pub returns-in-Refused : goal.returns-in-Refused
-returns-in-Refused c =
-    let w : to_z w32 (of_z w32 c.in-Ops.span) ≡ c.in-Ops.span = search rules in
+pub returns-in-Err : goal.returns-in-Err
+returns-in-Err c =
+    let w : to_z w32 (of_z w32 c.in-Some.span) ≡ c.in-Some.span = search rules in
     let left : (fr : Answer Bool) → c.fr_with_mate.result ≡ fr → past_mate_text c.args.bam.now c.args.text.now c.args.out.now ≡ pair_list_left fr c.args.bam.now (text_ops c.args.text.now) c.args.out.now =
-    λ fr e. text-left c.args.bam.now c.args.text.now c.args.out.now c.if-bam-lt32.false _ _ (sym c.measure.ensures ∙ c.in-Ops.is) fr c.if-n.false (sym e ∙ c.fr_with_mate.ensures ∙ ap (is_fr_with_mate c.args.bam.now) w)
+    λ fr e. text-left c.args.bam.now c.args.text.now c.args.out.now c.if-bam-lt32.false _ _ (sym c.measure.ensures ∙ c.in-Some.is) fr c.if-n.false (sym e ∙ c.fr_with_mate.ensures ∙ ap (is_fr_with_mate c.args.bam.now) w)
     in
-    settled (left (Err c.in-Refused.why) c.in-Refused.is)
+    settled (left (Err c.in-Err.why) c.in-Err.is)
 
-pub returns-in-Is : goal.returns-in-Is
-returns-in-Is c =
-    let w : to_z w32 (of_z w32 c.in-Ops.span) ≡ c.in-Ops.span = search rules in
+pub returns-in-Ok : goal.returns-in-Ok
+returns-in-Ok c =
+    let w : to_z w32 (of_z w32 c.in-Some.span) ≡ c.in-Some.span = search rules in
     let left : (fr : Answer Bool) → c.fr_with_mate.result ≡ fr → past_mate_text c.args.bam.now c.args.text.now c.args.out.now ≡ pair_list_left fr c.args.bam.now (text_ops c.args.text.now) c.args.out.now =
-    λ fr e. text-left c.args.bam.now c.args.text.now c.args.out.now c.if-bam-lt32.false _ _ (sym c.measure.ensures ∙ c.in-Ops.is) fr c.if-n.false (sym e ∙ c.fr_with_mate.ensures ∙ ap (is_fr_with_mate c.args.bam.now) w)
+    λ fr e. text-left c.args.bam.now c.args.text.now c.args.out.now c.if-bam-lt32.false _ _ (sym c.measure.ensures ∙ c.in-Some.is) fr c.if-n.false (sym e ∙ c.fr_with_mate.ensures ∙ ap (is_fr_with_mate c.args.bam.now) w)
     in
-    resettled (left (Ok c.in-Is.fr) c.in-Is.is) c.list_left.ensures
+    resettled (left (Ok c.in-Ok.fr) c.in-Ok.is) c.list_left.ensures

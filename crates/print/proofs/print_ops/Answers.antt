@@ -23,8 +23,8 @@ returns-in_default c =
 pub returns-then-out-n : goal.returns-then-out-n
 unfolding room_of
 returns-then-out-n c =
-    let told : (any_bad (ops_of [] c.args.bam.now c.args.list) ≡ false) × (length (text_of (ops_of [] c.args.bam.now c.args.list)) ≡ c.in-Bytes.n) =
-    room_some _ _ _ (sym c.room_for.ensures ∙ c.in-Bytes.is)
+    let told : (any_bad (ops_of [] c.args.bam.now c.args.list) ≡ false) × (length (text_of (ops_of [] c.args.bam.now c.args.list)) ≡ c.in-Some.n) =
+    room_some _ _ _ (sym c.room_for.ensures ∙ c.in-Some.is)
     in
     let t = told in
     settled (no_room (ops_of [] c.args.bam.now c.args.list) c.args.out.now t.0 (omega (arith, t.1, c.if-out-n.true)))
@@ -32,16 +32,16 @@ returns-then-out-n c =
 pub put_text-requires : goal.put_text-requires
 unfolding room_of
 put_text-requires c =
-    let told : (any_bad (ops_of [] c.args.bam.now c.args.list) ≡ false) × (length (text_of (ops_of [] c.args.bam.now c.args.list)) ≡ c.in-Bytes.n) =
-    room_some _ _ _ (sym c.room_for.ensures ∙ c.in-Bytes.is)
+    let told : (any_bad (ops_of [] c.args.bam.now c.args.list) ≡ false) × (length (text_of (ops_of [] c.args.bam.now c.args.list)) ≡ c.in-Some.n) =
+    room_some _ _ _ (sym c.room_for.ensures ∙ c.in-Some.is)
     in
     omega (arith, (told).1, c.if-out-n.false)
 
 pub returns : goal.returns
 unfolding room_of
 returns c =
-    let told : (any_bad (ops_of [] c.args.bam.now c.args.list) ≡ false) × (length (text_of (ops_of [] c.args.bam.now c.args.list)) ≡ c.in-Bytes.n) =
-    room_some _ _ _ (sym c.room_for.ensures ∙ c.in-Bytes.is)
+    let told : (any_bad (ops_of [] c.args.bam.now c.args.list) ≡ false) × (length (text_of (ops_of [] c.args.bam.now c.args.list)) ≡ c.in-Some.n) =
+    room_some _ _ _ (sym c.room_for.ensures ∙ c.in-Some.is)
     in
     let ops = ops_of [] c.args.bam.now c.args.list in
     let t = told in

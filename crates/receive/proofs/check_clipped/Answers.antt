@@ -9,25 +9,25 @@ use Rattle.receive.proofs.check_clipped.Goals as goal
 
 pub weigh-requires-clause-n_bound : goal.weigh-requires-clause-n_bound
 weigh-requires-clause-n_bound c =
-    let made : let a = c.args in FateIs a.sent.now a.start (clipped_fate a.sent.now a.amount a.start) (Planned.Made c.in-Made.p) =
+    let made : let a = c.args in FateIs a.sent.now a.start (clipped_fate a.sent.now a.amount a.start) (Planned.Made c.in-Ok.p) =
     let a = c.args in
-    subst (FateIs a.sent.now a.start (clipped_fate a.sent.now a.amount a.start)) c.in-Made.is c.plan_record.ensures
+    subst (FateIs a.sent.now a.start (clipped_fate a.sent.now a.amount a.start)) c.in-Ok.is c.plan_record.ensures
     in
     let a = c.args in
     let m = made in
     let F = m.1 in
-    let l = ops_left a.sent.now a.start c.in-Made.p F in
-    omega (arith, few_ops a.sent.now a.amount a.start (change_by a.sent.now a.start c.in-Made.p) m.0)
+    let l = ops_left a.sent.now a.start c.in-Ok.p F in
+    omega (arith, few_ops a.sent.now a.amount a.start (change_by a.sent.now a.start c.in-Ok.p) m.0)
 
-pub returns-in-Made : goal.returns-in-Made
-returns-in-Made c =
-    let made : let a = c.args in FateIs a.sent.now a.start (clipped_fate a.sent.now a.amount a.start) (Planned.Made c.in-Made.p) =
+pub returns-in-Ok : goal.returns-in-Ok
+returns-in-Ok c =
+    let made : let a = c.args in FateIs a.sent.now a.start (clipped_fate a.sent.now a.amount a.start) (Planned.Made c.in-Ok.p) =
     let a = c.args in
-    subst (FateIs a.sent.now a.start (clipped_fate a.sent.now a.amount a.start)) c.in-Made.is c.plan_record.ensures
+    subst (FateIs a.sent.now a.start (clipped_fate a.sent.now a.amount a.start)) c.in-Ok.is c.plan_record.ensures
     in
     let a = c.args in
     c.weigh.ensures ∙ sym (becomes_is a.received.now a.sent.now (made).0)
 
-pub returns-in-Refused : goal.returns-in-Refused
-returns-in-Refused c =
-    sym (refuses_is c.args.received.now c.args.sent.now (subst (FateIs c.args.sent.now c.args.start (clipped_fate c.args.sent.now c.args.amount c.args.start)) c.in-Refused.is c.plan_record.ensures))
+pub returns-in-Err : goal.returns-in-Err
+returns-in-Err c =
+    sym (refuses_is c.args.received.now c.args.sent.now (subst (FateIs c.args.sent.now c.args.start (clipped_fate c.args.sent.now c.args.amount c.args.start)) c.in-Err.is c.plan_record.ensures))

@@ -26,15 +26,15 @@ counted-requires-clause-skip_bound c =
     let o = c.of_record-list.ensures.by_index [] in
     rw (c.count-limit.ensures.0 ∙ ap length o, o) at c.plan_clip.ensures
     in
-    let made : PlannedIs (length (record_ops c.args.bam.now)) (record_ops c.args.bam.now) c.args.amount c.args.start (Ok c.in-Made.p) =
-    subst (PlannedIs (length (record_ops c.args.bam.now)) (record_ops c.args.bam.now) c.args.amount c.args.start) c.in-Made.is (answered)
+    let made : PlannedIs (length (record_ops c.args.bam.now)) (record_ops c.args.bam.now) c.args.amount c.args.start (Ok c.in-Ok.p) =
+    subst (PlannedIs (length (record_ops c.args.bam.now)) (record_ops c.args.bam.now) c.args.amount c.args.start) c.in-Ok.is (answered)
     in
     let whole : tags_start c.args.bam.now ≤ length c.args.bam.now =
     omega arith
     in
     let P = (made).2.1 in
     let n = ops_count c.args.bam.now (whole) in
-    let k = skip_fits (record_ops c.args.bam.now) c.args.start c.args.amount c.in-Made.p P in
+    let k = skip_fits (record_ops c.args.bam.now) c.args.start c.args.amount c.in-Ok.p P in
     omega arith
 
 pub counted-requires-clause-bam_value : goal.counted-requires-clause-bam_value
@@ -43,25 +43,25 @@ counted-requires-clause-bam_value c =
     let o = c.of_record-list.ensures.by_index [] in
     rw (c.count-limit.ensures.0 ∙ ap length o, o) at c.plan_clip.ensures
     in
-    let made : PlannedIs (length (record_ops c.args.bam.now)) (record_ops c.args.bam.now) c.args.amount c.args.start (Ok c.in-Made.p) =
-    subst (PlannedIs (length (record_ops c.args.bam.now)) (record_ops c.args.bam.now) c.args.amount c.args.start) c.in-Made.is (answered)
+    let made : PlannedIs (length (record_ops c.args.bam.now)) (record_ops c.args.bam.now) c.args.amount c.args.start (Ok c.in-Ok.p) =
+    subst (PlannedIs (length (record_ops c.args.bam.now)) (record_ops c.args.bam.now) c.args.amount c.args.start) c.in-Ok.is (answered)
     in
     let whole : tags_start c.args.bam.now ≤ length c.args.bam.now =
     omega arith
     in
     let P = (made).2.1 in
     let n = ops_count c.args.bam.now (whole) in
-    let k = skip_fits (record_ops c.args.bam.now) c.args.start c.args.amount c.in-Made.p P in
-    refs_are (record_ops c.args.bam.now) c.args.start c.args.amount c.in-Made.p P
+    let k = skip_fits (record_ops c.args.bam.now) c.args.start c.args.amount c.in-Ok.p P in
+    refs_are (record_ops c.args.bam.now) c.args.start c.args.amount c.in-Ok.p P
 
-pub returns-in-Made : goal.returns-in-Made
-returns-in-Made c =
+pub returns-in-Ok : goal.returns-in-Ok
+returns-in-Ok c =
     let answered : PlannedIs (length (record_ops c.args.bam.now)) (record_ops c.args.bam.now) c.args.amount c.args.start c.plan_clip.result =
     let o = c.of_record-list.ensures.by_index [] in
     rw (c.count-limit.ensures.0 ∙ ap length o, o) at c.plan_clip.ensures
     in
-    let made : PlannedIs (length (record_ops c.args.bam.now)) (record_ops c.args.bam.now) c.args.amount c.args.start (Ok c.in-Made.p) =
-    subst (PlannedIs (length (record_ops c.args.bam.now)) (record_ops c.args.bam.now) c.args.amount c.args.start) c.in-Made.is (answered)
+    let made : PlannedIs (length (record_ops c.args.bam.now)) (record_ops c.args.bam.now) c.args.amount c.args.start (Ok c.in-Ok.p) =
+    subst (PlannedIs (length (record_ops c.args.bam.now)) (record_ops c.args.bam.now) c.args.amount c.args.start) c.in-Ok.is (answered)
     in
     let long : 32 ≤ length c.args.bam.now =
     omega arith
@@ -73,13 +73,13 @@ returns-in-Made c =
     let P = (made).2.1 in
     refated c.args.bam.now c.args.start
     (within-is c.args.bam.now c.args.amount c.args.start (long) (whole) (made).1 (made).2.0
-    ∙ ap (λ (ys : List ℕ). counted c.args.bam.now ys c.args.start (start_count xs c.args.amount c.args.start)) (sym (planned_is xs c.args.start c.args.amount c.in-Made.p P))
-    ∙ ap (counted c.args.bam.now _ c.args.start) (sym (count-is xs c.args.start c.args.amount c.in-Made.p P)))
+    ∙ ap (λ (ys : List ℕ). counted c.args.bam.now ys c.args.start (start_count xs c.args.amount c.args.start)) (sym (planned_is xs c.args.start c.args.amount c.in-Ok.p P))
+    ∙ ap (counted c.args.bam.now _ c.args.start) (sym (count-is xs c.args.start c.args.amount c.in-Ok.p P)))
     c.counted.result
     c.counted.ensures
 
-pub returns-in-Refused : goal.returns-in-Refused
-returns-in-Refused c =
+pub returns-in-Err : goal.returns-in-Err
+returns-in-Err c =
     let long : 32 ≤ length c.args.bam.now =
     omega arith
     in
@@ -91,4 +91,4 @@ returns-in-Refused c =
     rw (c.count-limit.ensures.0 ∙ ap length o, o) at c.plan_clip.ensures
     in
     refused-is c.args.bam.now c.args.amount c.args.start (long) (whole) _
-    (subst (PlannedIs (length (record_ops c.args.bam.now)) (record_ops c.args.bam.now) c.args.amount c.args.start) c.in-Refused.is (answered))
+    (subst (PlannedIs (length (record_ops c.args.bam.now)) (record_ops c.args.bam.now) c.args.amount c.args.start) c.in-Err.is (answered))

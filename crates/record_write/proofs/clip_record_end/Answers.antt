@@ -8,13 +8,13 @@ use Rattle.record_rules.specs.InnerPlan.{FateIs}
 use Rattle.record_rules.proofs.PlanLaws.{becomes_is, refuses_is}
 use Rattle.record_write.proofs.clip_record_end.Goals as goal
 
-pub returns-in-Made : goal.returns-in-Made
-returns-in-Made c =
-    let made : FateIs c.args.bam.now false (clipped_fate c.args.bam.now c.args.amount false) (Planned.Made c.in-Made.p) =
-    subst (FateIs c.args.bam.now false (clipped_fate c.args.bam.now c.args.amount false)) c.in-Made.is c.plan_record.ensures
+pub returns-in-Ok : goal.returns-in-Ok
+returns-in-Ok c =
+    let made : FateIs c.args.bam.now false (clipped_fate c.args.bam.now c.args.amount false) (Planned.Made c.in-Ok.p) =
+    subst (FateIs c.args.bam.now false (clipped_fate c.args.bam.now c.args.amount false)) c.in-Ok.is c.plan_record.ensures
     in
     resettled (ap without_count (becomes_is c.args.bam.now c.args.out.now (made).0)) c.put_end.ensures
 
-pub returns-in-Refused : goal.returns-in-Refused
-returns-in-Refused c =
-    settled (ap without_count (refuses_is c.args.bam.now c.args.out.now (subst (FateIs c.args.bam.now false (clipped_fate c.args.bam.now c.args.amount false)) c.in-Refused.is c.plan_record.ensures)))
+pub returns-in-Err : goal.returns-in-Err
+returns-in-Err c =
+    settled (ap without_count (refuses_is c.args.bam.now c.args.out.now (subst (FateIs c.args.bam.now false (clipped_fate c.args.bam.now c.args.amount false)) c.in-Err.is c.plan_record.ensures)))

@@ -15,40 +15,40 @@ use Rattle.put_text.proofs.PutLaws.{put_then, put_as, put_dropped}
 use Rattle.line_rules.proofs.LineLaws.{line_no_text, line_no_row, line_row}
 use Rattle.report_line.proofs.line.Goals as goal
 
-pub returns-in-Refused-clause-put : goal.returns-in-Refused-clause-put
-returns-in-Refused-clause-put c =
+pub returns-in-Err-clause-put : goal.returns-in-Err-clause-put
+returns-in-Err-clause-put c =
     let a = c.args in
     let p = c.put_number-from in
     let t = c.put_text in
-    let why = c.in-Refused.why in
+    let why = c.in-Err.why in
     let e : TextPut a.rec.now p.new.out p.result (Err why) t.new.out =
-    subst (λ (x : Answer ℕ). TextPut a.rec.now p.new.out p.result x t.new.out) c.in-Refused.is t.ensures in
+    subst (λ (x : Answer ℕ). TextPut a.rec.now p.new.out p.result x t.new.out) c.in-Err.is t.ensures in
     let v = tabbed (refused_fields (number_of why)) in
     put_as (decimal a.number ++ v) (sym (line_no_text a.number a.rec.now why e.0)) refl refl
     (put_then (decimal a.number) v p.ensures.put (put_then [] v e.1 c.put_refusal.ensures.put))
 
-pub returns-in-Refused-row_of-clause-put : goal.returns-in-Refused-row_of-clause-put
-returns-in-Refused-row_of-clause-put c =
+pub returns-in-Err-row_of-clause-put : goal.returns-in-Err-row_of-clause-put
+returns-in-Err-row_of-clause-put c =
     let a = c.args in
     let p = c.put_number-from in
     let t = c.put_text in
-    let why = c.in-Refused-row_of.why in
-    let e : TextPut a.rec.now p.new.out p.result (Ok c.in-End.behind) t.new.out =
-    subst (λ (x : Answer ℕ). TextPut a.rec.now p.new.out p.result x t.new.out) c.in-End.is t.ensures in
+    let why = c.in-Err-row_of.why in
+    let e : TextPut a.rec.now p.new.out p.result (Ok c.in-Ok.behind) t.new.out =
+    subst (λ (x : Answer ℕ). TextPut a.rec.now p.new.out p.result x t.new.out) c.in-Ok.is t.ensures in
     let v = tabbed (refused_fields (number_of why)) in
     let k = put_dropped _ (omega (arith, p.ensures.put.same, p.ensures.upper_bound, c.requires)) e.2 in
-    put_as (decimal a.number ++ v) (sym (line_no_row a.number a.rec.now e.0 _ e.1 why (sym c.row_of.ensures ∙ c.in-Refused-row_of.is))) refl refl
-    (put_then (decimal a.number) v p.ensures.put (put_then [] v k c.put_refusal-in-Refused-row_of.ensures.put))
+    put_as (decimal a.number ++ v) (sym (line_no_row a.number a.rec.now e.0 _ e.1 why (sym c.row_of.ensures ∙ c.in-Err-row_of.is))) refl refl
+    (put_then (decimal a.number) v p.ensures.put (put_then [] v k c.put_refusal-in-Err-row_of.ensures.put))
 
-pub returns-in-Row-clause-put : goal.returns-in-Row-clause-put
-returns-in-Row-clause-put c =
+pub returns-in-Ok-clause-put : goal.returns-in-Ok-clause-put
+returns-in-Ok-clause-put c =
     let a = c.args in
     let p = c.put_number-from in
     let t = c.put_text in
-    let row = c.in-Row.row in
-    let e : TextPut a.rec.now p.new.out p.result (Ok c.in-End.behind) t.new.out =
-    subst (λ (x : Answer ℕ). TextPut a.rec.now p.new.out p.result x t.new.out) c.in-End.is t.ensures in
+    let row = c.in-Ok.row in
+    let e : TextPut a.rec.now p.new.out p.result (Ok c.in-Ok.behind) t.new.out =
+    subst (λ (x : Answer ℕ). TextPut a.rec.now p.new.out p.result x t.new.out) c.in-Ok.is t.ensures in
     let x : List ℕ = 9 ∷ or_star (text_of (record_ops a.rec.now)) in
     let v = tabbed (row_fields row) in
-    put_as (decimal a.number ++ (x ++ v)) (sym (line_row a.number a.rec.now e.0 _ e.1 row (sym c.row_of.ensures ∙ c.in-Row.is))) refl refl
+    put_as (decimal a.number ++ (x ++ v)) (sym (line_row a.number a.rec.now e.0 _ e.1 row (sym c.row_of.ensures ∙ c.in-Ok.is))) refl refl
     (put_then (decimal a.number) (x ++ v) p.ensures.put (put_then x v e.2 c.put_row.ensures.put))

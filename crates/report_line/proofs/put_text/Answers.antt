@@ -27,7 +27,7 @@ returns-then-n-eq0 c =
     let fits : c.put_byte-from.result + 65536 ≤ length c.put_byte-from.new.out =
     omega (arith, c.put_byte-from.ensures.put.same, c.put_byte-from.ensures.upper_bound, c.requires)
     in
-    let q = a_text c.args.rec.now c.args.out.now c.put_byte-from.new.out c.cigar_to_bytes_into.new.out c.args.at c.put_byte-from.result _ _ c.put_byte-from.ensures.put c.cigar_to_bytes_into.ensures (width c.put_byte-from.result) fits c.in-Number.n c.in-Number.is in
+    let q = a_text c.args.rec.now c.args.out.now c.put_byte-from.new.out c.cigar_to_bytes_into.new.out c.args.at c.put_byte-from.result _ _ c.put_byte-from.ensures.put c.cigar_to_bytes_into.ensures (width c.put_byte-from.result) fits c.in-Ok.n c.in-Ok.is in
     let z : length t ≡ 0 = omega (arith, q.count, c.if-n-eq0.true) in
     let f : Put c.args.out.now c.args.at (9 ∷ []) c.put_byte-from.result _ =
     put_as (9 ∷ t) (ap (λ (l : List ℕ). 9 ∷ l) (empty t z)) (omega (arith, c.if-n-eq0.true)) refl q.put in
@@ -38,15 +38,15 @@ overflow_add-result c =
     let fits : c.put_byte-from.result + 65536 ≤ length c.put_byte-from.new.out =
     omega (arith, c.put_byte-from.ensures.put.same, c.put_byte-from.ensures.upper_bound, c.requires)
     in
-    let q = a_text c.args.rec.now c.args.out.now c.put_byte-from.new.out c.cigar_to_bytes_into.new.out c.args.at c.put_byte-from.result _ _ c.put_byte-from.ensures.put c.cigar_to_bytes_into.ensures (width c.put_byte-from.result) fits c.in-Number.n c.in-Number.is in
+    let q = a_text c.args.rec.now c.args.out.now c.put_byte-from.new.out c.cigar_to_bytes_into.new.out c.args.at c.put_byte-from.result _ _ c.put_byte-from.ensures.put c.cigar_to_bytes_into.ensures (width c.put_byte-from.result) fits c.in-Ok.n c.in-Ok.is in
     omega (arith, q.fits)
 
-pub returns-in-Refused : goal.returns-in-Refused
-returns-in-Refused c =
+pub returns-in-Err : goal.returns-in-Err
+returns-in-Err c =
     let fits : c.put_byte-from.result + 65536 ≤ length c.put_byte-from.new.out =
     omega (arith, c.put_byte-from.ensures.put.same, c.put_byte-from.ensures.upper_bound, c.requires)
     in
-    no_text c.args.rec.now c.args.out.now c.put_byte-from.new.out c.cigar_to_bytes_into.new.out c.args.at c.put_byte-from.result _ _ c.put_byte-from.ensures.put c.cigar_to_bytes_into.ensures (width c.put_byte-from.result) (fits) _ c.in-Refused.is
+    no_text c.args.rec.now c.args.out.now c.put_byte-from.new.out c.cigar_to_bytes_into.new.out c.args.at c.put_byte-from.result _ _ c.put_byte-from.ensures.put c.cigar_to_bytes_into.ensures (width c.put_byte-from.result) (fits) _ c.in-Err.is
 
 pub returns-else-n-eq0 : goal.returns-else-n-eq0
 returns-else-n-eq0 c =
@@ -54,6 +54,6 @@ returns-else-n-eq0 c =
     let fits : c.put_byte-from.result + 65536 ≤ length c.put_byte-from.new.out =
     omega (arith, c.put_byte-from.ensures.put.same, c.put_byte-from.ensures.upper_bound, c.requires)
     in
-    let q = a_text c.args.rec.now c.args.out.now c.put_byte-from.new.out c.cigar_to_bytes_into.new.out c.args.at c.put_byte-from.result _ _ c.put_byte-from.ensures.put c.cigar_to_bytes_into.ensures (width c.put_byte-from.result) fits c.in-Number.n c.in-Number.is in
+    let q = a_text c.args.rec.now c.args.out.now c.put_byte-from.new.out c.cigar_to_bytes_into.new.out c.args.at c.put_byte-from.result _ _ c.put_byte-from.ensures.put c.cigar_to_bytes_into.ensures (width c.put_byte-from.result) fits c.in-Ok.n c.in-Ok.is in
     let z : 0 < length t = omega (arith, q.count, c.if-n-eq0.false) in
     (q.long, q.told, put_as (9 ∷ t) (ap (λ (l : List ℕ). 9 ∷ l) (star_some t z)) refl refl q.put, omega (arith, c.put_byte-from.ensures.upper_bound, q.fits))

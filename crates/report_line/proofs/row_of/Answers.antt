@@ -35,9 +35,9 @@ returns-then-total-gt2147483647 c =
     in
     sym (figures_are c.args.rec.now _ _ _ _ _ (refs_over c.args.rec.now c.requires (within) (omega (arith, c.if-total-gt2147483647.true, refs-told))) refl refl refl refl)
 
-pub returns-in-Refused : goal.returns-in-Refused
+pub returns-in-Err : goal.returns-in-Err
 unfolding row_of
-returns-in-Refused c =
+returns-in-Err c =
     let within : ops_end c.args.rec.now ≤ length c.args.rec.now =
     lies c.args.rec.now c.of_record-list.result c.of_record-list.ensures.at_value _ c.inside.ensures (c.if-not-inside.false)
     in
@@ -47,10 +47,10 @@ returns-in-Refused c =
     let refs-kept : checked_ref_length c.args.rec.now ≡ Ok (pos c.sums-total.result.refs) =
     refs_are c.args.rec.now c.requires (within) (omega (arith, c.if-total-gt2147483647.false, refs-told)) ∙ ap (λ (n : ℕ). Ok (pos n)) (sym (refs-told))
     in
-    sym (figures_are c.args.rec.now _ _ _ _ _ (refs-kept) refl (sym c.unclipped_5prime_from_raw_bam-five.ensures ∙ c.in-Refused.is) refl refl)
+    sym (figures_are c.args.rec.now _ _ _ _ _ (refs-kept) refl (sym c.unclipped_5prime_from_raw_bam-five.ensures ∙ c.in-Err.is) refl refl)
 
-pub returns-in-Refused-bin_from_raw_bam : goal.returns-in-Refused-bin_from_raw_bam
-returns-in-Refused-bin_from_raw_bam c =
+pub returns-in-Err-bin_from_raw_bam : goal.returns-in-Err-bin_from_raw_bam
+returns-in-Err-bin_from_raw_bam c =
     let within : ops_end c.args.rec.now ≤ length c.args.rec.now =
     lies c.args.rec.now c.of_record-list.result c.of_record-list.ensures.at_value _ c.inside.ensures (c.if-not-inside.false)
     in
@@ -61,10 +61,10 @@ returns-in-Refused-bin_from_raw_bam c =
     refs_are c.args.rec.now c.requires (within) (omega (arith, c.if-total-gt2147483647.false, refs-told)) ∙ ap (λ (n : ℕ). Ok (pos n)) (sym (refs-told))
     in
     row-past _ _ _ _ _ (λ r e. c.in_default.not-Refused r e)
-    ∙ sym (figures_are c.args.rec.now _ _ _ _ _ (refs-kept) refl (sym c.unclipped_5prime_from_raw_bam-five.ensures) (sym c.bin_from_raw_bam.ensures ∙ c.in-Refused-bin_from_raw_bam.is) refl)
+    ∙ sym (figures_are c.args.rec.now _ _ _ _ _ (refs-kept) refl (sym c.unclipped_5prime_from_raw_bam-five.ensures) (sym c.bin_from_raw_bam.ensures ∙ c.in-Err-bin_from_raw_bam.is) refl)
 
-pub returns-in-Number : goal.returns-in-Number
-returns-in-Number c =
+pub returns-in-Ok : goal.returns-in-Ok
+returns-in-Ok c =
     let within : ops_end c.args.rec.now ≤ length c.args.rec.now =
     lies c.args.rec.now c.of_record-list.result c.of_record-list.ensures.at_value _ c.inside.ensures (c.if-not-inside.false)
     in
@@ -80,4 +80,4 @@ returns-in-Number c =
     let z : to_z w32 c.sums-total.result.refs ≡ pos c.sums-total.result.refs = to_z_pos w32 (omega (arith, c.if-total-gt2147483647.false)) in
     simp (z, c.length_mark-mark.ensures)
     (row-past _ _ _ _ _ (λ r e. c.in_default.not-Refused r e)
-    ∙ sym (figures_are c.args.rec.now _ _ _ _ _ (refs-kept) (query-told) (sym c.unclipped_5prime_from_raw_bam-five.ensures) (sym c.bin_from_raw_bam.ensures ∙ c.in-Number.is) (sym c.u32_at.ensures)))
+    ∙ sym (figures_are c.args.rec.now _ _ _ _ _ (refs-kept) (query-told) (sym c.unclipped_5prime_from_raw_bam-five.ensures) (sym c.bin_from_raw_bam.ensures ∙ c.in-Ok.is) (sym c.u32_at.ensures)))

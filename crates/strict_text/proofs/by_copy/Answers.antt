@@ -19,24 +19,24 @@ returns-in_default c =
 
 pub returns-then-out-n : goal.returns-then-out-n
 returns-then-out-n c =
-    let told : ReadTo c.args.text.now c.args.ops.now (Some c.in-Ops.n) c.read_ops.new.out =
-    subst (λ (r : Option ℕ). ReadTo c.args.text.now c.args.ops.now r c.read_ops.new.out) c.in-Ops.is c.read_ops.ensures
+    let told : ReadTo c.args.text.now c.args.ops.now (Some c.in-Some.n) c.read_ops.new.out =
+    subst (λ (r : Option ℕ). ReadTo c.args.text.now c.args.ops.now r c.read_ops.new.out) c.in-Some.is c.read_ops.ensures
     in
-    let few : c.in-Ops.n ≤ most_ops =
+    let few : c.in-Some.n ≤ most_ops =
     let t = told in omega (arith, t.2, c.requires.0, c.requires.1)
     in
-    settled (no_place c.args.text.now c.args.out.now c.in-Ops.n (told).0 (told).1 (few) c.if-out-n.true)
+    settled (no_place c.args.text.now c.args.out.now c.in-Some.n (told).0 (told).1 (few) c.if-out-n.true)
 
 pub returns : goal.returns
 returns c =
-    let told : ReadTo c.args.text.now c.args.ops.now (Some c.in-Ops.n) c.read_ops.new.out =
-    subst (λ (r : Option ℕ). ReadTo c.args.text.now c.args.ops.now r c.read_ops.new.out) c.in-Ops.is c.read_ops.ensures
+    let told : ReadTo c.args.text.now c.args.ops.now (Some c.in-Some.n) c.read_ops.new.out =
+    subst (λ (r : Option ℕ). ReadTo c.args.text.now c.args.ops.now r c.read_ops.new.out) c.in-Some.is c.read_ops.ensures
     in
-    let few : c.in-Ops.n ≤ most_ops =
+    let few : c.in-Some.n ≤ most_ops =
     let t = told in omega (arith, t.2, c.requires.0, c.requires.1)
     in
-    let kept : (c.in-Ops.n ≤ length c.read_ops.new.out) × (take c.in-Ops.n c.read_ops.new.out ≡ text_ops c.args.text.now) =
+    let kept : (c.in-Some.n ≤ length c.read_ops.new.out) × (take c.in-Some.n c.read_ops.new.out ≡ text_ops c.args.text.now) =
     held c.args.text.now c.args.ops.now _ _ (told) c.requires.0
     in
-    settled (all_told c.args.text.now c.args.out.now c.in-Ops.n (told).0 (told).1 (few) (omega arith) _
+    settled (all_told c.args.text.now c.args.out.now c.in-Some.n (told).0 (told).1 (few) (omega arith) _
     (c.copy.ensures ∙ ap (splice c.args.out.now 0) (kept).1))

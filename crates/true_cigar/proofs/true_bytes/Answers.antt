@@ -1,16 +1,16 @@
 -- The part begins and ends where the list does, in the record.
 use Prim.Native.Nat.{◌+◌, ◌*◌, ◌≤◌}
+use Rattle.std.specs.Prelude.{Ok}
 use mathlib.Core.Path.{◌≡◌, sym, ◌∙◌}
 use native.Mathlib.Omega.{arith}
 use lib.ListN.{length}
 use Rattle.tag_rules.specs.Long.{true_list}
-use Rattle.tag_rules.specs.declared.TrueList.TheVariants.{At}
 use Rattle.tag_rules.proofs.HeldLaws.{within}
 use Rattle.true_cigar.proofs.true_bytes.Goals as goal
 
 pub overflow_add-end : goal.overflow_add-end
 overflow_add-end c =
-    let found : true_list c.args.bam.now ≡ At c.in-At.at c.in-At.n =
+    let found : true_list c.args.bam.now ≡ Ok (record { at = c.in-At.at; n = c.in-At.n }) =
     sym c.true_list.ensures ∙ c.in-At.is
     in
     let inside : c.in-At.at + 4 * c.in-At.n ≤ length c.args.bam.now =
@@ -20,7 +20,7 @@ overflow_add-end c =
 
 pub slice_bounds-result-end-2 : goal.slice_bounds-result-end-2
 slice_bounds-result-end-2 c =
-    let found : true_list c.args.bam.now ≡ At c.in-At.at c.in-At.n =
+    let found : true_list c.args.bam.now ≡ Ok (record { at = c.in-At.at; n = c.in-At.n }) =
     sym c.true_list.ensures ∙ c.in-At.is
     in
     let inside : c.in-At.at + 4 * c.in-At.n ≤ length c.args.bam.now =

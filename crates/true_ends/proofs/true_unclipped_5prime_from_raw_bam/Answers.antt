@@ -1,5 +1,7 @@
 -- By the tests; the place is that of the list that the reader names, from the record's own `pos` and strand.
 use Prim.Native.Nat.{ℕ}
+use Rattle.std.specs.Prelude.{Err}
+use Rattle.answers.specs.Answer.{Answer}
 use mathlib.Core.Path.{◌≡◌, ap, sym, ◌∙◌}
 use mathlib.Core.Bool.{Bool, true, false}
 use mathlib.Core.List.{List, []}
@@ -12,7 +14,7 @@ use Rattle.tag_rules.proofs.HeldLaws.{reads_list, reads_none}
 use Rattle.true_rules.proofs.Cases.{is_short, is-unmapped, is_mapped}
 use Rattle.true_ends.proofs.true_unclipped_5prime_from_raw_bam.Goals as goal
 
-abbrev by-own : List ℕ → List ℕ → Unclipped
+abbrev by-own : List ℕ → List ℕ → Answer Unclipped
 by-own b xs = unclipped_by xs (record { 0 = pos_of b }) (is_reverse (flags_of b))
 
 pub returns-then-bam-lt32 : goal.returns-then-bam-lt32
@@ -32,13 +34,13 @@ returns-in-At c =
     c.unclipped_by.ensures
     ∙ ap (λ (z : ℤ). unclipped_by xs (record { 0 = z }) c.is_reverse.result) c.own_place.ensures
     ∙ ap (λ (t : Bool). unclipped_by xs (record { 0 = pos_of c.args.bam.now }) t) (c.is_reverse.ensures ∙ ap is_reverse c.u16_at-flags.ensures.0)
-    ∙ sym (reads_list Unclipped.Refused (by-own c.args.bam.now) c.args.bam.now _ _ (sym c.true_list.ensures ∙ c.in-At.is))
+    ∙ sym (reads_list Err (by-own c.args.bam.now) c.args.bam.now _ _ (sym c.true_list.ensures ∙ c.in-At.is))
     ∙ is_mapped c.args.bam.now c.if-bam-lt32.false (mapped)
 
-pub returns-in-Refused : goal.returns-in-Refused
-returns-in-Refused c =
+pub returns-in-Err : goal.returns-in-Err
+returns-in-Err c =
     let mapped : is_unmapped (flags_of c.args.bam.now) ≡ false =
     ap is_unmapped (sym c.u16_at-flags.ensures.0) ∙ sym c.is_unmapped.ensures ∙ c.if-is_unmapped.false
     in
-    sym (reads_none Unclipped.Refused (by-own c.args.bam.now) c.args.bam.now _ (sym c.true_list.ensures ∙ c.in-Refused.is))
+    sym (reads_none Err (by-own c.args.bam.now) c.args.bam.now _ (sym c.true_list.ensures ∙ c.in-Err.is))
     ∙ is_mapped c.args.bam.now c.if-bam-lt32.false (mapped)
