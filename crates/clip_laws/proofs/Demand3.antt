@@ -19,7 +19,7 @@ use Rattle.ops.specs.Ops.{read_len}
 use Rattle.clip_run_rules.specs.Clips.{outer_hard, leading_clips}
 use Rattle.clip_rules.specs.Clipping.{taking, Cut, hard_of, soft_of, clip}
 use Rattle.answers.specs.Settled.{Outcome}
-use Rattle.clip_rules.specs.Answer.{clipped_ops, clipped_count, clippable, is_beyond, clipped_into, clipped_up_to, clipped_record, written, without_count, start_up_to, end_up_to, record_start, record_end}
+use Rattle.clip_rules.specs.Answer.{given, clipped_ops, clipped_count, clippable, is_beyond, clipped_into, clipped_up_to, clipped_record, written, without_count, start_up_to, end_up_to, record_start, record_end}
 use Rattle.clip_rules.specs.declared.Clipped.{Clipped}
 use Rattle.clip_rules.proofs.AnswerLaws.{within, accepted}
 use Rattle.clip_rules.proofs.BeyondLaws.{some_beyond, not_within}
@@ -277,7 +277,7 @@ less a b le G = record { holds = G.holds; takes = G.takes; within = omega (arith
 
 -- the answers of the rule at the start
 abbrev start_tells : ℕ → ℕ → Answer Clipped
-start_tells n count = Ok (record { written = n; lost = count })
+start_tells n count = given n count
 
 abbrev end_tells : ℕ → ℕ → Answer ℕ
 end_tells n count = Ok n

@@ -10,6 +10,7 @@ use Rattle.ops.specs.Ops.{read_len}
 use Rattle.clip_run_rules.specs.Clips.{is_hard, is_soft, hard_len, outer_hard, inside, leading_clips}
 use Rattle.answers.specs.Settled.{Outcome}
 use Rattle.clip_rules.specs.declared.Clipped.{Clipped}
+use Rattle.clip_rules.specs.Answer.{given}
 
 -- "inner ops (M, I, D, N, P, =, X)"
 unfoldable pub is_inner : ℕ → Bool
@@ -76,7 +77,7 @@ Leaves f s amount answer ys = (d : List ℕ) → length ys ≤ length d → f s 
 
 -- a call at the start answers the ops written and a count, one at the end the ops written
 abbrev pub StartGives : Clipper (Answer Clipped) → List ℕ → ℕ → List ℕ → ℕ → Type 0
-StartGives f s amount ys count = Leaves f s amount (Ok (record { written = length ys; lost = count })) ys
+StartGives f s amount ys count = Leaves f s amount (given (length ys) count) ys
 
 abbrev pub EndGives : Clipper (Answer ℕ) → List ℕ → ℕ → List ℕ → Type 0
 EndGives f s amount ys = Leaves f s amount (Ok (length ys)) ys

@@ -20,7 +20,7 @@ use Rattle.answers.specs.declared.Refusal.TheVariants.{TooLong, NoRoom, AmountBe
 use Rattle.answers.proofs.Unique.{settled, outcome}
 use Rattle.clip_rules.specs.Clipping.{Cut, clip}
 use Rattle.clip_rules.specs.InnerPlan.{PlanIs, PlannedIs}
-use Rattle.clip_rules.specs.Answer.{clipped_ops, clipped_count, is_beyond, clipped_into, clipped_up_to, written, uncounted, without_count}
+use Rattle.clip_rules.specs.Answer.{given, clipped_ops, clipped_count, is_beyond, clipped_into, clipped_up_to, written, uncounted, without_count}
 use Rattle.clip_rules.specs.declared.Clipped.{Clipped}
 
 module _ (xs : List ℕ) (a : ℕ) (b : Bool) (d : List ℕ) where
@@ -62,19 +62,19 @@ module _ (xs : List ℕ) (b : Bool) {a skip heads first second lost : ℕ} (P : 
       omega arith
 
   module _ (d d' : List ℕ) (n : ℕ) (short : sum_of len_of xs ≤ 268435455) (near : is_beyond xs a b ≡ false) (fits : n ≤ length d) (long : n ≡ heads + (length xs - skip)) where
-    done : (ys : List ℕ) → ys ≡ clipped_ops xs a b → d' ≡ splice d 0 ys → Settled (clipped_into xs a b d) (Ok (record { written = n; lost = lost })) d'
+    done : (ys : List ℕ) → ys ≡ clipped_ops xs a b → d' ≡ splice d 0 ys → Settled (clipped_into xs a b d) (given n lost) d'
     unfolding clipped_count
     done ys e w =
         let l = plan_length in
         let m : n ≡ length (clipped_ops xs a b) = omega arith in
         let k : lost ≡ clipped_count xs a b = ap (λ (c : Cut). c.lost) P.cut_is in
-        settled (accepted xs a b d short near (omega arith) ∙ outcome (ap (λ (i : ℕ). (Ok (record { written = i; lost = lost }))) m ∙ ap ((λ x y. Ok (record { written = x; lost = y })) (length (clipped_ops xs a b))) k) (w ∙ ap (splice d 0) e))
+        settled (accepted xs a b d short near (omega arith) ∙ outcome (ap (λ (i : ℕ). given i lost) m ∙ ap (given (length (clipped_ops xs a b))) k) (w ∙ ap (splice d 0) e))
 
-    pub done-start : b ≡ true → d' ≡ splice d 0 (take heads (first ∷ (second ∷ [])) ++ drop skip xs) → Settled (clipped_into xs a b d) (Ok (record { written = n; lost = lost })) d'
+    pub done-start : b ≡ true → d' ≡ splice d 0 (take heads (first ∷ (second ∷ [])) ++ drop skip xs) → Settled (clipped_into xs a b d) (given n lost) d'
     unfolding clipped_ops
     done-start e w = done (take heads (first ∷ (second ∷ [])) ++ drop skip xs) (rw e (rw e at ops_are)) w
 
-    pub done_end : b ≡ false → d' ≡ splice d 0 (reverse (take heads (first ∷ (second ∷ [])) ++ drop skip (reverse xs))) → Settled (clipped_into xs a b d) (Ok (record { written = n; lost = lost })) d'
+    pub done_end : b ≡ false → d' ≡ splice d 0 (reverse (take heads (first ∷ (second ∷ [])) ++ drop skip (reverse xs))) → Settled (clipped_into xs a b d) (given n lost) d'
     unfolding clipped_ops
     done_end e w = done (reverse (take heads (first ∷ (second ∷ [])) ++ drop skip (reverse xs))) (rw e (ap reverse (rw e at ops_are))) w
 

@@ -31,9 +31,13 @@ clippable xs start = leading_clips (facing start xs) + sum_of read_len xs
 unfoldable pub is_beyond : List ℕ → ℕ → Bool → Bool
 is_beyond xs amount start = not (eqb (length xs) 0) && ltb (clippable xs start) amount
 
+-- an answer that is given: the ops written, and the count
+abbrev pub given : ℕ → ℕ → Answer Clipped
+given n count = Ok (record { written = n; lost = count })
+
 -- the clipped list and the count are the answer
 abbrev pub written : List ℕ → ℕ → List ℕ → Outcome (Answer Clipped)
-written ys count d = record { answer = Ok (record { written = length ys; lost = count }); left = splice d 0 ys }
+written ys count d = record { answer = given (length ys) count; left = splice d 0 ys }
 
 -- 8 sums the lengths of all ops, whatever their codes; 19 comes "directly after 8"; then 6
 unfoldable pub clipped_into : List ℕ → ℕ → Bool → List ℕ → Outcome (Answer Clipped)

@@ -15,7 +15,7 @@ use Rattle.sam.specs.Op.{len_of}
 use Rattle.answers.specs.Settled.{Outcome, Settled, keeps}
 use Rattle.answers.specs.declared.Refusal.TheVariants.{TooManyOps, TooLong, NoRoom, AmountBeyond}
 use Rattle.lookup_rules.specs.Lookup.{looked_up_to}
-use Rattle.clip_rules.specs.Answer.{clipped_ops, clipped_count, is_beyond, clipped_into, clipped_up_to, clipped_record, written, uncounted, without_count}
+use Rattle.clip_rules.specs.Answer.{given, clipped_ops, clipped_count, is_beyond, clipped_into, clipped_up_to, clipped_record, written, uncounted, without_count}
 use Rattle.clip_rules.specs.declared.Clipped.{Clipped}
 use Rattle.clip_laws.specs.Drops.{Drops}
 use Rattle.clip_laws.specs.Demand3.{Clipper, Itself, InRecord}
@@ -33,9 +33,9 @@ shared xs a start = clip_drops xs a start
 
 -- what a clipper of the list that s holds answers, unless it refuses
 abbrev pub Ruled : (Holds : List ℕ → List ℕ → Type 0) → Bool → Clipper (Answer Clipped) → Type 0
-Ruled Holds start f = (s xs d : List ℕ) (a n r : ℕ) → Holds s xs → (f s a d).answer ≡ Ok (record { written = n; lost = r }) → f s a d ≡ written (clipped_ops xs a start) (clipped_count xs a start) d
+Ruled Holds start f = (s xs d : List ℕ) (a n r : ℕ) → Holds s xs → (f s a d).answer ≡ given n r → f s a d ≡ written (clipped_ops xs a start) (clipped_count xs a start) d
 
-pub into_ruled : (start : Bool) (xs d : List ℕ) (a n r : ℕ) → (clipped_into xs a start d).answer ≡ Ok (record { written = n; lost = r }) → clipped_into xs a start d ≡ written (clipped_ops xs a start) (clipped_count xs a start) d
+pub into_ruled : (start : Bool) (xs d : List ℕ) (a n r : ℕ) → (clipped_into xs a start d).answer ≡ given n r → clipped_into xs a start d ≡ written (clipped_ops xs a start) (clipped_count xs a start) d
 unfolding clipped_into
 into_ruled start xs d a n r = go (ltb 268435455 (sum_of len_of xs)) (is_beyond xs a start) (ltb (length d) (length (clipped_ops xs a start)))
   where
@@ -45,7 +45,7 @@ into_ruled start xs d a n r = go (ltb 268435455 (sum_of len_of xs)) (is_beyond x
     by : Bool → Bool → Bool → Outcome (Answer Clipped)
     by t u v = cond t (keeps (Err TooLong) d) (cond u (keeps (Err AmountBeyond) d) (cond v (keeps (Err NoRoom) d) w))
 
-    go : (t u v : Bool) → (by t u v).answer ≡ Ok (record { written = n; lost = r }) → by t u v ≡ w
+    go : (t u v : Bool) → (by t u v).answer ≡ given n r → by t u v ≡ w
     go true u v e = never (cc)
     go false true v e = never (cc)
     go false false true e = never (cc)
@@ -55,7 +55,7 @@ pub list_ruled : (limit : ℕ) (start : Bool) → Ruled Itself start (λ xs a d.
 unfolding clipped_up_to
 list_ruled limit start s xs d a n r H = rw H (go (ltb limit (length xs)))
   where
-    go : (t : Bool) → (cond t (keeps (Err TooManyOps) d) (clipped_into xs a start d)).answer ≡ Ok (record { written = n; lost = r })
+    go : (t : Bool) → (cond t (keeps (Err TooManyOps) d) (clipped_into xs a start d)).answer ≡ given n r
         → cond t (keeps (Err TooManyOps) d) (clipped_into xs a start d) ≡ written (clipped_ops xs a start) (clipped_count xs a start) d
     go true e = never (cc)
     go false e = into_ruled start xs d a n r e
@@ -66,13 +66,13 @@ record_ruled start s xs d a n r H = simp (le-ltb (length s) 32 H.0, H.1) (into_r
 
 -- ---- so the two sentences hold of every call that clips by the rule
 
-module _ {Holds : List ℕ → List ℕ → Type 0} (start : Bool) (f : Clipper (Answer Clipped)) (F : Ruled Holds start f) (s xs d m : List ℕ) (a n r : ℕ) (H : Holds s xs) (S : Settled (f s a d) (Ok (record { written = n; lost = r })) m) where
+module _ {Holds : List ℕ → List ℕ → Type 0} (start : Bool) (f : Clipper (Answer Clipped)) (F : Ruled Holds start f) (s xs d m : List ℕ) (a n r : ℕ) (H : Holds s xs) (S : Settled (f s a d) (given n r) m) where
   -- the list, and the count, that were told and left
   left_is : (take n m ≡ clipped_ops xs a start) × (r ≡ clipped_count xs a start)
   left_is =
       let ys = clipped_ops xs a start in
       let w = F s xs d a n r H (sym S.answer) in
-      let e : (Ok (record { written = n; lost = r })) ≡ Ok (record { written = length ys; lost = clipped_count xs a start }) = S.answer ∙ ap (λ (o : Outcome (Answer Clipped)). o.answer) w in
+      let e : (given n r) ≡ given (length ys) (clipped_count xs a start) = S.answer ∙ ap (λ (o : Outcome (Answer Clipped)). o.answer) w in
       let p : n ≡ length ys = cc in
       let q : r ≡ clipped_count xs a start = cc in
       (ap (take n) (S.memory ∙ ap (λ (o : Outcome (Answer Clipped)). o.left) w) ∙ ap (λ (k : ℕ). take k (splice d 0 ys)) p ∙ take_written d ys, q)
@@ -81,19 +81,19 @@ module _ {Holds : List ℕ → List ℕ → Type 0} (start : Bool) (f : Clipper 
   dropped = let l = left_is in rw (l.0, l.1) (shared xs a start)
 
   -- the list is as long in every buffer
-  pub as_long : (e : List ℕ) (k q : ℕ) → (Ok (record { written = k; lost = q })) ≡ (f s a e).answer → length (take n m) ≡ k
+  pub as_long : (e : List ℕ) (k q : ℕ) → (given k q) ≡ (f s a e).answer → length (take n m) ≡ k
   as_long e k q h =
       let w = F s xs e a k q H (sym h) in
-      let v : (Ok (record { written = k; lost = q })) ≡ Ok (record { written = length (clipped_ops xs a start); lost = clipped_count xs a start }) = h ∙ ap (λ (o : Outcome (Answer Clipped)). o.answer) w in
+      let v : (given k q) ≡ given (length (clipped_ops xs a start)) (clipped_count xs a start) = h ∙ ap (λ (o : Outcome (Answer Clipped)). o.answer) w in
       let p : length (clipped_ops xs a start) ≡ k = cc in
       ap length left_is.0 ∙ p
 
 -- an end call leaves the count out
-pub with_count : (n : ℕ) (c : Answer Clipped) → Ok n ≡ uncounted c → (r : ℕ) × ((Ok (record { written = n; lost = r })) ≡ c)
-with_count n (Ok got) e = let p : n ≡ k = cc in (got.lost, ap (λ (i : ℕ). (Ok (record { written = i; lost = got.lost }))) p)
+pub with_count : (n : ℕ) (c : Answer Clipped) → Ok n ≡ uncounted c → (r : ℕ) × ((given n r) ≡ c)
+with_count n (Ok got) e = let p : n ≡ k = cc in (got.lost, ap (λ (i : ℕ). (given i got.lost)) p)
 with_count n (Err w) e = never (cc)
 
-pub settled_count : (n : ℕ) (o : Outcome (Answer Clipped)) (m : List ℕ) → Settled (without_count o) (Ok n) m → (r : ℕ) × Settled o (Ok (record { written = n; lost = r })) m
+pub settled_count : (n : ℕ) (o : Outcome (Answer Clipped)) (m : List ℕ) → Settled (without_count o) (Ok n) m → (r : ℕ) × Settled o (given n r) m
 settled_count n o m S = let c = with_count n o.answer S.answer in (c.0, record { answer = c.1; memory = S.memory })
 
 pub always : (limit : ℕ) {Holds : List ℕ → List ℕ → Type 0} (f g : Clipper (Answer Clipped)) → Ruled Holds true f → Ruled Holds false g → Always limit Holds f (λ s a d. without_count (g s a d)) (looked_up_to limit)

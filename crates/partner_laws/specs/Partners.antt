@@ -10,6 +10,7 @@ use Rattle.lookup_rules.specs.Meaning.{InBounds}
 use Rattle.lookup_rules.specs.declared.Found.{Found}
 use Rattle.clip_rules.specs.declared.Clipped.{Clipped}
 use Rattle.clip_laws.specs.Demand3.{Clipper}
+use Rattle.clip_rules.specs.Answer.{given}
 
 -- a lookup: of a list, an alignment start, a position, and whether deletions are answered
 abbrev pub Lookup : Type 0
@@ -40,7 +41,7 @@ pub record EndKeeps (look : Lookup) (asked : Bool) (xs ys : List ℕ) (start : �
 -- of every list and every amount, as the calls are answered: s holds the list xs; the clip answered that it wrote n ops, with the count r at the start, and left m, whose first n are the
 -- list that is left; and lookup refuses neither list
 pub record Always (limit : ℕ) (Holds : List ℕ → List ℕ → Type 0) (clipStart : Clipper (Answer Clipped)) (clipEnd : Clipper (Answer ℕ)) (look : Lookup) : Type 0 where
-  pub at_start : (s xs d m : List ℕ) (a n r start : ℕ) → Holds s xs → Settled (clipStart s a d) (Ok (record { written = n; lost = r })) m
+  pub at_start : (s xs d m : List ℕ) (a n r start : ℕ) → Holds s xs → Settled (clipStart s a d) (given n r) m
       → InBounds limit xs start → InBounds limit (take n m) (start + r) → StartKeeps look xs (take n m) start r
   pub at-end : (s xs d m : List ℕ) (a n start : ℕ) (asked : Bool) → Holds s xs → Settled (clipEnd s a d) (Ok n) m
       → InBounds limit xs start → InBounds limit (take n m) start → EndKeeps look asked xs (take n m) start

@@ -16,7 +16,7 @@ use Rattle.oplist.specs.Ops.{most_ops, record_ops}
 use Rattle.answers.specs.Answers.{tell_count}
 use Rattle.answers.specs.Settled.{Outcome}
 use Rattle.answers.specs.declared.Refusal.TheVariants.{ShortRecord, TooManyOps, TooLong, NoRoom, AmountBeyond}
-use Rattle.clip_rules.specs.Answer.{clipped_ops, clipped_count, clippable, is_beyond, clipped_into, clipped_up_to, clipped_record, uncounted, without_count, clipped_start, clipped_end, record_start, record_end, tell_clipped}
+use Rattle.clip_rules.specs.Answer.{given, clipped_ops, clipped_count, clippable, is_beyond, clipped_into, clipped_up_to, clipped_record, uncounted, without_count, clipped_start, clipped_end, record_start, record_end, tell_clipped}
 use Rattle.clip_rules.specs.declared.Clipped.{Clipped}
 use Rattle.promises.specs.Table.{Row, ◌when◌, Gives, GivesFilled}
 use Rattle.promises.specs.Rows.{clip_into, clip_rows, clip_record_rows}
@@ -24,7 +24,7 @@ use Rattle.promises.proofs.RowLaws.{kept_row, last_row}
 
 module _ (amount : ℕ) (start : Bool) (d : List ℕ) where
   abbrev done : List ℕ → Answer Clipped
-  done xs = Ok (record { written = length (clipped_ops xs amount start); lost = clipped_count xs amount start })
+  done xs = given (length (clipped_ops xs amount start)) (clipped_count xs amount start)
 
   -- 8, 19, 6, of an op list wherever it lies
   pub into_rows : (xs : List ℕ) → GivesFilled tell_clipped (clipped_into xs amount start d) d (clip_into xs amount start d) (done xs) (clipped_ops xs amount start)
@@ -57,7 +57,7 @@ uncounted_rows {o} q =
 -- ---- the four calls
 
 module _ (xs : List ℕ) (amount : ℕ) (d : List ℕ) where
-  pub clip_cigar_start_raw : GivesFilled tell_clipped (clipped_start xs amount d) d (clip_rows xs amount true d) (Ok (record { written = length (clipped_ops xs amount true); lost = clipped_count xs amount true })) (clipped_ops xs amount true)
+  pub clip_cigar_start_raw : GivesFilled tell_clipped (clipped_start xs amount d) d (clip_rows xs amount true d) (given (length (clipped_ops xs amount true)) (clipped_count xs amount true)) (clipped_ops xs amount true)
   clip_cigar_start_raw = list_rows amount true d most_ops xs
 
   pub clip_cigar_end_raw : GivesFilled tell_count (clipped_end xs amount d) d (clip_rows xs amount false d) (Ok (length (clipped_ops xs amount false))) (clipped_ops xs amount false)
@@ -65,7 +65,7 @@ module _ (xs : List ℕ) (amount : ℕ) (d : List ℕ) where
 
 module _ (b : List ℕ) (amount : ℕ) (d : List ℕ) where
   pub clip_cigar_start : GivesFilled tell_clipped (record_start b amount d) d (clip_record_rows b amount true d)
-      (Ok (record { written = length (clipped_ops (record_ops b) amount true); lost = clipped_count (record_ops b) amount true })) (clipped_ops (record_ops b) amount true)
+      (given (length (clipped_ops (record_ops b) amount true)) (clipped_count (record_ops b) amount true)) (clipped_ops (record_ops b) amount true)
   clip_cigar_start = record_rows amount true d b
 
   pub clip_cigar_end : GivesFilled tell_count (record_end b amount d) d (clip_record_rows b amount false d) (Ok (length (clipped_ops (record_ops b) amount false))) (clipped_ops (record_ops b) amount false)

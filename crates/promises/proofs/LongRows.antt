@@ -22,7 +22,7 @@ use Rattle.print_rules.specs.Text.{any_bad, text_of, printed_ops}
 use Rattle.length_rules.specs.Lengths.{list_lengths, lengths_with, long_ref_length, long_query_length, tell_lengths}
 use Rattle.lookup_rules.specs.Lookup.{long_looked, tell_found}
 use Rattle.ends_rules.specs.Ends.{unclipped_by, tell_unclipped}
-use Rattle.clip_rules.specs.Answer.{clipped_ops, clipped_count, clipped_into, long_start, long_end, tell_clipped}
+use Rattle.clip_rules.specs.Answer.{given, clipped_ops, clipped_count, clipped_into, long_start, long_end, tell_clipped}
 use Rattle.tag_rules.specs.Long.{own_list, list_in, first_cg, behind_placeholder, true_list, refusal_of, read_from, tell_true_list}
 use Rattle.tag_rules.specs.declared.TrueList.{TrueList}
 use Rattle.true_rules.specs.True.{stop_kept, true_ops, true_printed, true_lengths, true_unclipped, true_clipped, true_start, true_end}
@@ -151,14 +151,14 @@ true_unclipped_5prime_from_raw_bam b =
     (reads tell_unclipped Err (λ xs. unclipped_by xs (record { 0 = pos_of b }) (is_reverse (flags_of b))) _ (λ r. refl) (λ xs. unclipped-by xs (pos_of b) (is_reverse (flags_of b))) b))
 
 true_clip : (b : List ℕ) (amount : ℕ) (start : Bool) (d : List ℕ) → GivesFilled tell_clipped (true_clipped b amount start d) d (true_clip_rows b amount start d)
-    (Ok (record { written = length (clipped_ops (held_ops b) amount start); lost = clipped_count (held_ops b) amount start })) (clipped_ops (held_ops b) amount start)
+    (given (length (clipped_ops (held_ops b) amount start)) (clipped_count (held_ops b) amount start)) (clipped_ops (held_ops b) amount start)
 true_clip b amount start d =
     reads_into tell_clipped Err (λ r. refl) d (λ xs. clipped_into xs amount start d) _
-    (λ xs. (Ok (record { written = length (clipped_ops xs amount start); lost = clipped_count xs amount start }))) (λ xs. clipped_ops xs amount start) (into_rows amount start d) b
+    (λ xs. (given (length (clipped_ops xs amount start)) (clipped_count xs amount start))) (λ xs. clipped_ops xs amount start) (into_rows amount start d) b
 
 module _ (b : List ℕ) (amount : ℕ) (d : List ℕ) where
   pub true_clip_cigar_start : GivesFilled tell_clipped (true_start b amount d) d (true_clip_rows b amount true d)
-      (Ok (record { written = length (clipped_ops (held_ops b) amount true); lost = clipped_count (held_ops b) amount true })) (clipped_ops (held_ops b) amount true)
+      (given (length (clipped_ops (held_ops b) amount true)) (clipped_count (held_ops b) amount true)) (clipped_ops (held_ops b) amount true)
   true_clip_cigar_start = true_clip b amount true d
 
   pub true_clip_cigar_end : GivesFilled tell_count (true_end b amount d) d (true_clip_rows b amount false d) (Ok (length (clipped_ops (held_ops b) amount false))) (clipped_ops (held_ops b) amount false)
@@ -177,7 +177,7 @@ long_read_pos_at_ref_pos_raw = read_pos_up_to most_long_ops
 
 module _ (xs : List ℕ) (amount : ℕ) (d : List ℕ) where
   pub long_clip_cigar_start_raw : GivesFilled tell_clipped (long_start xs amount d) d (long_clip_rows xs amount true d)
-      (Ok (record { written = length (clipped_ops xs amount true); lost = clipped_count xs amount true })) (clipped_ops xs amount true)
+      (given (length (clipped_ops xs amount true)) (clipped_count xs amount true)) (clipped_ops xs amount true)
   long_clip_cigar_start_raw = list_rows amount true d most_long_ops xs
 
   pub long_clip_cigar_end_raw : GivesFilled tell_count (long_end xs amount d) d (long_clip_rows xs amount false d) (Ok (length (clipped_ops xs amount false))) (clipped_ops xs amount false)

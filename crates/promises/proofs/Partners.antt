@@ -12,7 +12,7 @@ use Rattle.answers.specs.Settled.{Outcome, Settled}
 use Rattle.oplist.specs.Ops.{most_ops, most_long_ops}
 use Rattle.lookup_rules.specs.Lookup.{looked_up_to, looked, long_looked}
 use Rattle.lookup_rules.specs.Meaning.{InBounds}
-use Rattle.clip_rules.specs.Answer.{clipped_ops, clipped_count, clipped_up_to, without_count, clipped_start, clipped_end, long_start, long_end, record_start, record_end}
+use Rattle.clip_rules.specs.Answer.{given, clipped_ops, clipped_count, clipped_up_to, without_count, clipped_start, clipped_end, long_start, long_end, record_start, record_end}
 use Rattle.clip_rules.specs.declared.Clipped.{Clipped}
 use Rattle.clip_laws.specs.Drops.{Drops}
 use Rattle.clip_laws.specs.Demand3.{Clipper, Given, Demand3Start, Demand3End, Itself, InRecord}
@@ -54,7 +54,7 @@ in_bounds xs h A = record { few = h; low = A.low; high = A.high }
 
 module _ (limit : ℕ) {Holds : List ℕ → List ℕ → Type 0} (f g : Clipper (Answer Clipped)) (F : Call.Ruled Holds true f) (G : Call.Ruled Holds false g)
     (P : Demand3Start limit Holds f) (Q : Demand3End limit Holds (λ s a d. without_count (g s a d))) where
-  start_few : (s xs d m : List ℕ) (a n r : ℕ) → Given limit Holds true s xs a → Settled (f s a d) (Ok (record { written = n; lost = r })) m → length (take n m) ≤ limit
+  start_few : (s xs d m : List ℕ) (a n r : ℕ) → Given limit Holds true s xs a → Settled (f s a d) (given n r) m → length (take n m) ≤ limit
   start_few s xs d m a n r T S =
       let O = P.once s xs a T in
       let l = O.clips.long in

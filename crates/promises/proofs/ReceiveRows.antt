@@ -16,7 +16,7 @@ use Rattle.answers.specs.Answers.{number_of}
 use Rattle.answers.specs.Settled.{keeps}
 use Rattle.answers.proofs.Numbers.{not-zero}
 use Rattle.answers.specs.declared.Refusal.TheVariants.{NoRoom, ReceivedShort, ReceivedCut}
-use Rattle.clip_rules.specs.Answer.{tell_clipped}
+use Rattle.clip_rules.specs.Answer.{given, tell_clipped}
 use Rattle.record_rules.specs.Written.{Change, new_name, new_ops, new_bases, new_quals, new_tags, new_record}
 use Rattle.record_rules.specs.Clipping.{Fate, Refuses, Becomes, clipped_fate, put_into, written}
 use Rattle.receive_rules.specs.Receiving.{same, same_header, unless, compared, weighed, received_as, checked_start, checked_end, tell_received}
@@ -74,7 +74,7 @@ module _ (b : List ℕ) (amount : ℕ) (start : Bool) where
       ∙ told_with_room d (omega arith)
     where
       fits : (t : Bool) → t ≡ false → 0 ≡ (tell_clipped (cond t (keeps (Err NoRoom) (new_record b c ++ clipped_record b amount start))
-          (record { answer = Ok (record { written = length (new_record b c); lost = c.count }); left = splice (new_record b c ++ clipped_record b amount start) 0 (new_record b c) })).answer).number
+          (record { answer = given (length (new_record b c)) c.count; left = splice (new_record b c ++ clipped_record b amount start) 0 (new_record b c) })).answer).number
       fits t e = rw e
 
 -- ---- the received record

@@ -22,7 +22,7 @@ use Rattle.answers.specs.declared.Refusal.{Refusal}
 use Rattle.answers.specs.declared.Refusal.TheVariants.{ShortRecord, AreaOverrun, Overflow, NoRoom, TooLong, AmountBeyond, QueryDiffers, CountOver}
 use Rattle.length_rules.specs.Lengths.{as_int}
 use Rattle.bin_rules.specs.Bin.{bin_to, reg2bin, span_of, bin_up_to, bin_from}
-use Rattle.clip_rules.specs.Answer.{clippable, is_beyond, tell_clipped}
+use Rattle.clip_rules.specs.Answer.{given, clippable, is_beyond, tell_clipped}
 use Rattle.clip_rules.specs.declared.Clipped.{Clipped}
 use Rattle.record_rules.specs.Clipping.{most_record_ops, differs, new_len, first_kept, start_count, bin_at, Fate, Refuses, Becomes, binned, placed, counted, clipped_fate, put_into, written, clipped_record_start, clipped_record_end}
 use Rattle.record_rules.proofs.ClippedLaws.{clipped_total}
@@ -76,7 +76,7 @@ module _ (b : List ℕ) (amount : ℕ) (start : Bool) (d : List ℕ) where
   new = clipped_record b amount start
 
   abbrev done : Answer Clipped
-  done = Ok (record { written = length new; lost = start_count (record_ops b) amount start })
+  done = given (length new) (start_count (record_ops b) amount start)
 
   -- a fate gives rows, and past them the record
   abbrev FateGives : Fate → List Row → Type 0
@@ -147,7 +147,7 @@ module _ (b : List ℕ) (amount : ℕ) (start : Bool) (d : List ℕ) where
 
 module _ (b : List ℕ) (amount : ℕ) (d : List ℕ) where
   pub clip_record_start : GivesFilled tell_clipped (clipped_record_start b amount d) d (clipped_record_rows b amount true d)
-      (Ok (record { written = length (clipped_record b amount true); lost = start_count (record_ops b) amount true })) (clipped_record b amount true)
+      (given (length (clipped_record b amount true)) (start_count (record_ops b) amount true)) (clipped_record b amount true)
   clip_record_start = fate_rows b amount true d
 
   pub clip_record_end : GivesFilled tell_count (clipped_record_end b amount d) d (clipped_record_rows b amount false d) (Ok (length (clipped_record b amount false))) (clipped_record b amount false)

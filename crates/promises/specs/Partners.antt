@@ -6,6 +6,7 @@ use Rattle.answers.specs.Settled.{Settled}
 use Rattle.clip_rules.specs.declared.Clipped.{Clipped}
 use Rattle.clip_laws.specs.Demand3.{Clipper, Given}
 use Rattle.partner_laws.specs.Partners.{Lookup, StartKeeps, EndKeeps}
+use Rattle.clip_rules.specs.Answer.{given}
 
 -- a start "acceptable to lookup"
 pub record Acceptable (start : ℕ) : Type 0 where
@@ -17,10 +18,10 @@ pub record Acceptable (start : ℕ) : Type 0 where
 pub record KeepPartners (limit : ℕ) (Holds : List ℕ → List ℕ → Type 0) (clipStart : Clipper (Answer Clipped)) (clipEnd : Clipper (Answer ℕ)) (look : Lookup) : Type 0 where
   -- "Under demand 3's premises for one amount": a buffer with a place more than the list has ops is room enough
   pub start_answers : (s xs d m : List ℕ) (a : ℕ) (c : Answer Clipped) → Given limit Holds true s xs a → length xs < length d → Settled (clipStart s a d) c m
-      → (n : ℕ) × (r : ℕ) × (c ≡ Ok (record { written = n; lost = r }))
+      → (n : ℕ) × (r : ℕ) × (c ≡ given n r)
   -- "with both starts acceptable to lookup and deletions not answered: after a start clip with count r, every reference position from start + r on has its old answer less the query length
   -- lost, and none remains none": `StartKeeps`
-  pub at_start : (s xs d m : List ℕ) (a n r start : ℕ) → Given limit Holds true s xs a → Settled (clipStart s a d) (Ok (record { written = n; lost = r })) m
+  pub at_start : (s xs d m : List ℕ) (a n r start : ℕ) → Given limit Holds true s xs a → Settled (clipStart s a d) (given n r) m
       → Acceptable start → Acceptable (start + r) → StartKeeps look xs (take n m) start r
   pub end_answers : (s xs d m : List ℕ) (a : ℕ) (c : Answer ℕ) → Given limit Holds false s xs a → length xs < length d → Settled (clipEnd s a d) c m
       → (n : ℕ) × (c ≡ Ok n)
