@@ -56,23 +56,17 @@ pub fn told_clipped(answer: Answer<Clipped>) -> ToldTwo
 }
 
 // A place or none, and how many ops were examined.
-pub fn told_found(answer: Found) -> ToldLookup
+pub fn told_found(answer: Answer<Found>) -> ToldLookup
     ensures { result ≡ lookup_of (tell_found answer) }
 {
     match answer {
-        Found::At(n, examined) => ToldLookup {
+        Ok(f) => ToldLookup {
             refusal: 0,
-            found: true,
-            examined,
-            value: n,
+            found: f.place.is_some(),
+            examined: f.examined,
+            value: f.place.unwrap_or(0),
         },
-        Found::Nothing(examined) => ToldLookup {
-            refusal: 0,
-            found: false,
-            examined,
-            value: 0,
-        },
-        Found::Refused(why) => ToldLookup {
+        Err(why) => ToldLookup {
             refusal: border::short_number(why),
             found: false,
             examined: 0,

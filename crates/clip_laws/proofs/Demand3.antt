@@ -28,6 +28,7 @@ use Rattle.clip_laws.proofs.CodeLaws.{hard_len, hard_code}
 use Rattle.clip_laws.proofs.ShapeLaws.{Headed, left_headed, left_length, left_total, soft_length, soft_total, shaped_facing, shaped_inner, tail_clips, shaped_runs, shaped_reads}
 use Rattle.clip_laws.proofs.ClipLaws.{once, twice, still_clippable, on_none, on_soft, on_inner}
 use Rattle.clip_laws.proofs.Drops.{clip_drops, drops_length}
+use Rattle.clip_rules.proofs.AnswerLaws.{given_same}
 
 -- ---- what survives, from either end
 
@@ -233,10 +234,8 @@ module _ {A : Type 0} (f : Clipper A) (s : List ℕ) (a : ℕ) {x y : A} (xs ys 
 
 pub same_start : (f : Clipper (Answer Clipped)) (s : List ℕ) (a : ℕ) (xs ys : List ℕ) (m n : ℕ) → StartGives f s a xs m → StartGives f s a ys n → (xs ≡ ys) × (m ≡ n)
 same_start f s a xs ys m n X Y =
-    let e = same_answer f s a xs ys X Y in
-    let p : length xs ≡ length ys = cc in
-    let q : m ≡ n = cc in
-    (same_list f s a xs ys X Y p, q)
+    let same = given_same (same_answer f s a xs ys X Y) in
+    (same_list f s a xs ys X Y same.0, same.1)
 
 pub same_end : (f : Clipper (Answer ℕ)) (s : List ℕ) (a : ℕ) (xs ys : List ℕ) → EndGives f s a xs → EndGives f s a ys → xs ≡ ys
 same_end f s a xs ys X Y =

@@ -92,3 +92,17 @@ uncounted_settled e s = record { answer = e ∙ ap uncounted s.answer; memory = 
 -- with a limit of its own number of ops, no limit is left
 pub own_limit : (xs ys : List ℕ) (a : ℕ) (b : Bool) (d : List ℕ) (n : ℕ) → n ≡ length xs → xs ≡ ys → clipped_into ys a b d ≡ clipped_up_to n xs a b d
 own_limit xs ys a b d n h f = rw (within xs a b d {limit = n} (omega arith)) (rw f refl)
+
+-- ---- what is given tells its ops and its count
+
+ops_of_given : Answer Clipped → ℕ
+ops_of_given (Ok c) = c.written
+ops_of_given (Err r) = 0
+
+count_of_given : Answer Clipped → ℕ
+count_of_given (Ok c) = c.lost
+count_of_given (Err r) = 0
+
+pub given_same : {n k m j : ℕ} → given n m ≡ given k j → (n ≡ k) × (m ≡ j)
+unfolding ops_of_given count_of_given
+given_same e = (ap ops_of_given e, ap count_of_given e)

@@ -7,7 +7,7 @@ ghost use Rattle.lookup_rules.specs.Lookup.{look, looked_up_to, looked, long_loo
 ghost use Rattle.lookup_rules.specs.Examined.{place_of};
 ghost use Rattle.lookup.specs.InnerLookup.{spot_of, over_of};
 
-use answers::Refusal;
+use answers::{Answer, Refusal};
 use lookup_rules::Found;
 use oplist::Ops;
 
@@ -67,64 +67,60 @@ fn look_at(words: &[u32], rec: &[u8], list: Ops, k: u64) -> Spot
     }
 }
 
-fn at_least_one(n: u64) -> u64
-    ensures { result ≡ max n 1 }
-{
-    if n < 1 {
-        return 1;
-    }
-    n
-}
-
-// What lookup answers at a spot, and the count.
-fn read_over(asked: bool, before: u64, over: Over, count: u32) -> Found
+// What lookup answers at a spot.
+fn read_over(asked: bool, before: u64, over: Over) -> Option<u64>
     requires { before ≤ 1152921504606846976 }
-    ensures { result ≡ counted (read_over asked before (over_of over)) count }
+    ensures { Ok result ≡ read_over asked before (over_of over) }
 {
     match over {
-        Over::Base => Found::At(before + 1, count),
+        Over::Base => Some(before + 1),
         Over::Gap => {
             if asked {
-                return Found::At(at_least_one(before), count);
+                return Some(before.max(1));
             }
-            Found::Nothing(count)
+            None
         }
-        Over::Off => Found::Nothing(count),
+        Over::Off => None,
     }
 }
 
 // The query position over the reference position `pos` of an alignment that starts at `start`, all counted from 1; in a deletion none, or if asked
 // the last query base before it. Beside it the ops examined: 0 before the start. Of a list of at most `limit` ops. Refusals 3 and 9.
-fn read_pos_up_to(limit: usize, cigar: &[u32], start: u64, pos: u64, asked: bool) -> Found
+fn read_pos_up_to(limit: usize, cigar: &[u32], start: u64, pos: u64, asked: bool) -> Answer<Found>
     requires { limit ≤ 4294967295 }
     ensures { result ≡ looked_up_to limit cigar.now start pos asked }
 {
     if limit < cigar.len() {
-        return Found::Refused(Refusal::TooManyOps);
+        return Err(Refusal::TooManyOps);
     }
     if start < 1 {
-        return Found::Refused(Refusal::BadStart);
+        return Err(Refusal::BadStart);
     }
     if LAST_START < start {
-        return Found::Refused(Refusal::BadStart);
+        return Err(Refusal::BadStart);
     }
     if pos < start {
-        return Found::Nothing(0);
+        return Ok(Found {
+            place: None,
+            examined: 0,
+        });
     }
     let s = look_at(cigar, &[], oplist::lent(cigar), pos - start);
-    let over = s.over;
-    read_over(asked, s.before, over, s.place as u32)
+    Ok(Found {
+        place: read_over(asked, s.before, s.over),
+        examined: s.place as u32,
+    })
 }
 
 // The same of a lent list. Refusals 3 and 9.
-pub fn read_pos_at_ref_pos_raw(cigar: &[u32], start: u64, pos: u64, asked: bool) -> Found
+pub fn read_pos_at_ref_pos_raw(cigar: &[u32], start: u64, pos: u64, asked: bool) -> Answer<Found>
     ensures { result ≡ looked cigar.now start pos asked }
 {
     read_pos_up_to(oplist::MOST_OPS, cigar, start, pos, asked)
 }
 
 // And of a long list.
-pub fn long_read_pos_at_ref_pos_raw(cigar: &[u32], start: u64, pos: u64, asked: bool) -> Found
+pub fn long_read_pos_at_ref_pos_raw(cigar: &[u32], start: u64, pos: u64, asked: bool) -> Answer<Found>
     ensures { result ≡ long_looked cigar.now start pos asked }
 {
     read_pos_up_to(oplist::MOST_LONG_OPS, cigar, start, pos, asked)

@@ -1,5 +1,6 @@
 -- Lookup's walk sees what the columns show: the columns of one op are all alike.
 use Prim.Native.Nat.{ℕ, ◌-◌, ◌≤◌, ◌<◌}
+use Rattle.std.specs.Prelude.{Ok, None, Option}
 use Rattle.answers.specs.Answer.{Answer}
 use mathlib.Core.Path.{◌≡◌, refl, sym, ap, ◌∙◌}
 use mathlib.Core.Bool.{Bool, true, false, cond}
@@ -10,7 +11,7 @@ use lib.Dec.{ltb}
 use borrow.Author.Tests.{ltb-true, ltb-false, lt-ltb, le-ltb}
 use Rattle.sam.specs.Op.{len_of, code_of, is_ref, is_query, query_len, ref_len}
 use Rattle.sam.specs.Columns.{Spot, Column, spell, columns, Seen, base, gap, off, past}
-use Rattle.lookup_rules.specs.Lookup.{Answer, Nothing, spot_in, look, read_over, lookup_up_to, counted, looked_up_to}
+use Rattle.lookup_rules.specs.Lookup.{spot_in, look, read_over, lookup_up_to, counted, looked_up_to}
 use Rattle.lookup_rules.specs.Examined.{place_of, examined}
 use Rattle.lookup_rules.specs.Meaning.{InBounds, Reads}
 use Rattle.lookup_rules.specs.Meaning as means
@@ -55,7 +56,7 @@ look_only xs k s S = seen-is (columns xs) k s S ∙ sym (look_seen xs k)
 -- ---- the call, where it is accepted
 
 module _ (limit : ℕ) (xs : List ℕ) (start at : ℕ) (asked : Bool) (t : InBounds limit xs start) where
-  not_yet : at < start → lookup_up_to limit xs start at asked ≡ Nothing
+  not_yet : at < start → lookup_up_to limit xs start at asked ≡ Ok None
   unfolding lookup_up_to
   not_yet h = simp (le-ltb _ _ t.few, le-ltb _ _ t.low, le-ltb _ _ t.high, lt-ltb _ _ h)
 
@@ -84,7 +85,7 @@ module _ (limit : ℕ) (xs : List ℕ) (start at : ℕ) (asked : Bool) (t : InBo
       go true e = means.off (inl (ltb-true at start e)) (not_yet (ltb-true at start e))
       go false e = sees (ltb-false at start e) (look_means xs (at - start))
 
-  pub lookup_only : (r : Answer) → Reads (columns xs) start at asked r → r ≡ lookup_up_to limit xs start at asked
+  pub lookup_only : (r : Answer (Option ℕ)) → Reads (columns xs) start at asked r → r ≡ lookup_up_to limit xs start at asked
   lookup_only r (means.base left right e f g) = g ∙ sym (spot-at _ (omega arith) (look_only xs (at - start) _ (base left right e (omega arith) refl)))
   lookup_only r (means.gap left right e f g) = g ∙ sym (spot-at _ (omega arith) (look_only xs (at - start) _ (gap left right e (omega arith) refl)))
   lookup_only r (means.off (inl h) g) = g ∙ sym (not_yet h)

@@ -23,6 +23,7 @@ use Rattle.clip_laws.proofs.Drops.{clip_drops}
 use Rattle.clip_laws.proofs.Demand3.{take_written}
 use Rattle.partner_laws.specs.Partners.{Always}
 use Rattle.partner_laws.proofs.PartnerLaws.{keeps_start, keeps-end}
+use Rattle.clip_rules.proofs.AnswerLaws.{given_same}
 
 -- THE ONE STATEMENT, of every list and amount: what is left are the list's columns less a first part, seen from the chosen end, which has as many reference bases as the count says
 pub shared : (xs : List ℕ) (a : ℕ) (start : Bool) → Drops (facing start xs) (facing start (clipped_ops xs a start)) (clipped_count xs a start)
@@ -72,25 +73,22 @@ module _ {Holds : List ℕ → List ℕ → Type 0} (start : Bool) (f : Clipper 
   left_is =
       let ys = clipped_ops xs a start in
       let w = F s xs d a n r H (sym S.answer) in
-      let e : (given n r) ≡ given (length ys) (clipped_count xs a start) = S.answer ∙ ap (λ (o : Outcome (Answer Clipped)). o.answer) w in
-      let p : n ≡ length ys = cc in
-      let q : r ≡ clipped_count xs a start = cc in
-      (ap (take n) (S.memory ∙ ap (λ (o : Outcome (Answer Clipped)). o.left) w) ∙ ap (λ (k : ℕ). take k (splice d 0 ys)) p ∙ take_written d ys, q)
+      let same = given_same (S.answer ∙ ap (λ (o : Outcome (Answer Clipped)). o.answer) w) in
+      (ap (take n) (S.memory ∙ ap (λ (o : Outcome (Answer Clipped)). o.left) w) ∙ ap (λ (k : ℕ). take k (splice d 0 ys)) same.0 ∙ take_written d ys, same.1)
 
   dropped : Drops (facing start xs) (facing start (take n m)) r
   dropped = let l = left_is in rw (l.0, l.1) (shared xs a start)
 
   -- the list is as long in every buffer
-  pub as_long : (e : List ℕ) (k q : ℕ) → (given k q) ≡ (f s a e).answer → length (take n m) ≡ k
+  pub as_long : (e : List ℕ) (k q : ℕ) → given k q ≡ (f s a e).answer → length (take n m) ≡ k
   as_long e k q h =
       let w = F s xs e a k q H (sym h) in
-      let v : (given k q) ≡ given (length (clipped_ops xs a start)) (clipped_count xs a start) = h ∙ ap (λ (o : Outcome (Answer Clipped)). o.answer) w in
-      let p : length (clipped_ops xs a start) ≡ k = cc in
-      ap length left_is.0 ∙ p
+      let same = given_same (h ∙ ap (λ (o : Outcome (Answer Clipped)). o.answer) w) in
+      ap length left_is.0 ∙ sym same.0
 
 -- an end call leaves the count out
-pub with_count : (n : ℕ) (c : Answer Clipped) → Ok n ≡ uncounted c → (r : ℕ) × ((given n r) ≡ c)
-with_count n (Ok got) e = let p : n ≡ k = cc in (got.lost, ap (λ (i : ℕ). (given i got.lost)) p)
+pub with_count : (n : ℕ) (c : Answer Clipped) → Ok n ≡ uncounted c → (r : ℕ) × (given n r ≡ c)
+with_count n (Ok got) e = let p : n ≡ got.written = cc in (got.lost, ap (λ (i : ℕ). given i got.lost) p)
 with_count n (Err w) e = never (cc)
 
 pub settled_count : (n : ℕ) (o : Outcome (Answer Clipped)) (m : List ℕ) → Settled (without_count o) (Ok n) m → (r : ℕ) × Settled o (given n r) m

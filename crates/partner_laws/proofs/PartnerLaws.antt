@@ -1,5 +1,6 @@
 -- Both ends from the one statement, `Drops` of the list as seen from the chosen end: at the start what is seen moves by the part that is gone, and at the end what is left is seen as before.
 use Prim.Native.Nat.{ℕ, ◌+◌, ◌-◌, ◌≤◌, ◌<◌}
+use Rattle.std.specs.Prelude.{Ok, Err, Some, None, Option}
 use Rattle.answers.specs.Answer.{Answer}
 use mathlib.Core.Path.{◌≡◌, refl, sym, ap, ◌∙◌}
 use mathlib.Core.Bool.{Bool, true, false}
@@ -12,7 +13,7 @@ use Rattle.sam.specs.Op.{query_len, ref_len}
 use Rattle.sam.specs.Columns.{Column, columns, queries, Over, Base, Gap, Off, Spot, past}
 use Rattle.sam.proofs.ColumnLaws.{seen, seen_past, seen_in, seen_off, queries_append}
 use Rattle.sam.proofs.LengthLaws.{query-length, reference_length}
-use Rattle.lookup_rules.specs.Lookup.{Answer, At, Nothing, Refused, look, read_over, lookup_up_to, counted, looked_up_to}
+use Rattle.lookup_rules.specs.Lookup.{look, read_over, lookup_up_to, counted, looked_up_to}
 use Rattle.lookup_rules.specs.Examined.{examined}
 use Rattle.lookup_rules.specs.Meaning.{InBounds}
 use Rattle.lookup_rules.specs.declared.Found.{Found}
@@ -50,12 +51,11 @@ look_off ys k h = let r = reference_length ys in ap (λ (s : Spot). s.over) (loo
 
 -- ---- what lookup tells of it
 
-uncounted : (a : Answer) (n : ℕ) → partner (counted a n) ≡ a
-uncounted (At m) n = refl
-uncounted Nothing n = refl
-uncounted (Refused w) n = refl
+uncounted : (a : Answer (Option ℕ)) (n : ℕ) → partner (counted a n) ≡ a
+uncounted (Ok p) n = refl
+uncounted (Err w) n = refl
 
-tells : (limit : ℕ) (xs : List ℕ) (start at : ℕ) (asked : Bool) {f : Found} → f ≡ looked_up_to limit xs start at asked → partner f ≡ lookup_up_to limit xs start at asked
+tells : (limit : ℕ) (xs : List ℕ) (start at : ℕ) (asked : Bool) {f : Answer Found} → f ≡ looked_up_to limit xs start at asked → partner f ≡ lookup_up_to limit xs start at asked
 unfolding looked_up_to
 tells limit xs start at asked e = ap partner e ∙ uncounted (lookup_up_to limit xs start at asked) (examined xs start at)
 
@@ -63,7 +63,7 @@ less_read : (lost : ℕ) (s : Spot) → Less lost (read_over false (lost + s.bef
 less_read lost s = go s.over
   where
     go : (o : Over) → Less lost (read_over false (lost + s.before) o) (read_over false s.before o)
-    go Base = means.base (s.before + 1) (ap At (omega arith)) refl
+    go Base = means.base (s.before + 1) (ap (λ (n : ℕ). Ok (Some n)) (omega arith)) refl
     go Gap = means.none refl refl
     go Off = means.none refl refl
 
@@ -89,7 +89,7 @@ module _ (limit : ℕ) {xs ys : List ℕ} (start r : ℕ) where
         ∙ ap (λ (s : Spot). read_over asked s.before s.over) (look-kept xs ys (reverse D.gone) (at - start) (mirror xs ys r D) (omega arith))
         ∙ sym (lookup_at limit xs start at asked X l)
 
-    before : {zs : List ℕ} → InBounds limit zs start → (at : ℕ) → at < start → lookup_up_to limit zs start at asked ≡ Nothing
+    before : {zs : List ℕ} → InBounds limit zs start → (at : ℕ) → at < start → lookup_up_to limit zs start at asked ≡ Ok None
     unfolding lookup_up_to
     before Z at h = simp (le-ltb _ _ Z.few, le-ltb _ _ Z.low, le-ltb _ _ Z.high, lt-ltb _ _ h)
 
@@ -100,7 +100,7 @@ module _ (limit : ℕ) {xs ys : List ℕ} (start r : ℕ) where
         go true e = let l = ltb-true at start e in before Y at l ∙ sym (before X at l)
         go false e = seen_end at (ltb-false at start e) h
 
-    none_end : (at : ℕ) → start + sum_of ref_len ys ≤ at → lookup_up_to limit ys start at asked ≡ Nothing
+    none_end : (at : ℕ) → start + sum_of ref_len ys ≤ at → lookup_up_to limit ys start at asked ≡ Ok None
     none_end at h = lookup_at limit ys start at asked Y (omega arith) ∙ rw (look_off ys (at - start) (omega arith)) refl
 
     pub keeps-end : EndKeeps (looked_up_to limit) asked xs ys start

@@ -21,7 +21,7 @@ use Rattle.answers.specs.declared.Refusal.TheVariants.{ShortRecord, TooManyOps, 
 use Rattle.ends_rules.specs.Sums.{both, ◌⊕◌, ◌⊖◌}
 use Rattle.ends_rules.specs.Tails.{greatest_run}
 use Rattle.ends_rules.specs.Ends.{provided, trailing_sum, unclipped_start, unclipped_end, five_prime, to_place0, to_place1, plus_one, has_no_ops, as_unclipped, unclipped_at, unclipped_by, unclipped_of, tell_unclipped, unclipped_from, alignment_start, end_at, alignment_end}
-use Rattle.lookup_rules.specs.Lookup.{Answer, Nothing, Refused, look, read_over, lookup_up_to, counted, looked_up_to, looked, tell_found}
+use Rattle.lookup_rules.specs.Lookup.{look, read_over, lookup_up_to, counted, looked_up_to, looked, tell_found}
 use Rattle.lookup_rules.specs.Examined.{examined}
 use Rattle.promises.specs.Table.{◌when◌, only, Gives}
 use Rattle.promises.specs.Rows.{over, refs_of, end_sums, place_rows, unclipped_rows, unclipped_from_rows, start_rows, end_rows, bad_start, lookup_rows}
@@ -110,14 +110,14 @@ alignment_end_from_raw b =
 pub read_pos_up_to : (limit : ℕ) (xs : List ℕ) (start at : ℕ) (asked : Bool) → Gives (tell_found (looked_up_to limit xs start at asked)) ((3 when ltb limit (length xs)) ∷ bad_start start ∷ [])
 unfolding looked_up_to lookup_up_to
 read_pos_up_to limit xs start at asked =
-    row told (ltb limit (length xs)) (Refused TooManyOps) _ 3 refl
-    (row_either told (ltb start 1) (ltb 2147483648 start) (Refused BadStart) _ 9 refl
+    row told (ltb limit (length xs)) (Err TooManyOps) _ 3 refl
+    (row_either told (ltb start 1) (ltb 2147483648 start) (Err BadStart) _ 9 refl
     (never (ltb at start) (look xs (at - start)).before asked (look xs (at - start)).over))
   where
-    told : Answer → Told
+    told : Answer (Option ℕ) → Told
     told a = tell_found (counted a (examined xs start at))
 
-    never : (t : Bool) (n : ℕ) (asked : Bool) (o : Over) → Gives (told (cond t Nothing (read_over asked n o))) []
+    never : (t : Bool) (n : ℕ) (asked : Bool) (o : Over) → Gives (told (cond t (Ok None) (read_over asked n o))) []
     never true n asked o = answer refl refl
     never false n asked Base = answer refl refl
     never false n true Gap = answer refl refl

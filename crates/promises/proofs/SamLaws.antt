@@ -1,6 +1,7 @@
 -- Demand 2: "Op meanings, text, clip placement and bins are also proved against the SAM specification"; and so are the tags (document 02, item 1). Each line is a theorem of the crate that it is cited from,
 -- over the definitions of crate `sam` and those that the contracts use.
 use Prim.Native.Nat.{ℕ, ◌-◌, ◌<◌, ◌≤◌}
+use Rattle.std.specs.Prelude.{Option}
 use Rattle.std.specs.Prelude.{Ok}
 use Rattle.answers.specs.Answer.{Answer}
 use mathlib.Core.Path.{◌≡◌, refl}
@@ -34,7 +35,7 @@ use Rattle.promises.specs.RoundTrip.{without_zeros}
 use Rattle.promises.proofs.RoundTrip as Round
 use Rattle.mate_rules.specs.Readers.{Agree}
 use Rattle.mate_rules.proofs.Agree as Mate
-use Rattle.lookup_rules.specs.Lookup.{Answer, lookup_up_to}
+use Rattle.lookup_rules.specs.Lookup.{lookup_up_to}
 use Rattle.lookup_rules.specs.Meaning.{InBounds, Reads}
 use Rattle.lookup_rules.proofs.LookupLaws as Looked
 use Rattle.bin_rules.specs.Bin.{bin_of, low16, reg2bin}
@@ -67,7 +68,7 @@ reference_length xs = Length.reference_length xs
 pub lookup_means : (limit : ℕ) (xs : List ℕ) (start at : ℕ) (asked : Bool) → InBounds limit xs start → Reads (columns xs) start at asked (lookup_up_to limit xs start at asked)
 lookup_means limit xs start at asked t = Looked.lookup_means limit xs start at asked t
 
-pub lookup_only : (limit : ℕ) (xs : List ℕ) (start at : ℕ) (asked : Bool) → InBounds limit xs start → (r : Answer) → Reads (columns xs) start at asked r → r ≡ lookup_up_to limit xs start at asked
+pub lookup_only : (limit : ℕ) (xs : List ℕ) (start at : ℕ) (asked : Bool) → InBounds limit xs start → (r : Answer (Option ℕ)) → Reads (columns xs) start at asked r → r ≡ lookup_up_to limit xs start at asked
 lookup_only limit xs start at asked t r s = Looked.lookup_only limit xs start at asked t r s
 
 -- ---- text

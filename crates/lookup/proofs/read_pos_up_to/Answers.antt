@@ -10,6 +10,8 @@ use Rattle.lookup_rules.specs.Examined.{place_of, examined}
 use Rattle.lookup_rules.specs.Meaning.{InBounds}
 use Rattle.lookup_rules.proofs.LookupLaws.{looked_at}
 use Rattle.lookup_rules.proofs.PlaceLaws.{place_most}
+use Rattle.answers.specs.Answer.{Answer}
+use Rattle.std.specs.Prelude.{Option}
 use Rattle.lookup.proofs.read_pos_up_to.Goals as goal
 
 pub returns-then-limit-cigar : goal.returns-then-limit-cigar
@@ -32,8 +34,8 @@ unfolding looked_up_to lookup_up_to examined
 returns-then-pos-start c =
     simp (le-ltb _ _ c.if-limit-cigar.false, le-ltb _ _ c.if-start-lt1.false, le-ltb _ _ c.if-start-gt-LAST_START.false, lt-ltb _ _ c.if-pos-start.true)
 
-pub overflow_cast-s : goal.overflow_cast-s
-overflow_cast-s c =
+pub overflow_cast-result : goal.overflow_cast-result
+overflow_cast-result c =
     let p = c.look_at-s.ensures.place_value ∙ ap (λ (l : List ℕ). place_of l (c.args.pos - c.args.start)) (c.lent.ensures _) in
     let m = place_most c.args.cigar.now (c.args.pos - c.args.start) in
     omega arith
@@ -44,7 +46,7 @@ returns c =
     let l = c.lent.ensures _ in
     let e = c.look_at-s.ensures.result_value.0 ∙ ap (λ (l : List ℕ). look l (c.args.pos - c.args.start)) l in
     let p = c.look_at-s.ensures.place_value ∙ ap (λ (l : List ℕ). place_of l (c.args.pos - c.args.start)) l in
-    c.read_over.ensures
+    ap (λ (q : Answer (Option ℕ)). counted q c.look_at-s.result.place) c.read_over.ensures
     ∙ ap (λ (u : Spot). counted (read_over c.args.asked u.before u.over) c.look_at-s.result.place) e
     ∙ ap (counted (read_over c.args.asked (look c.args.cigar.now (c.args.pos - c.args.start)).before (look c.args.cigar.now (c.args.pos - c.args.start)).over)) p
     ∙ sym (looked_at c.args.limit c.args.cigar.now c.args.start c.args.pos c.args.asked t c.if-pos-start.false)
