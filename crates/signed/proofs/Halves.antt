@@ -1,8 +1,9 @@
 -- A ℤ as two naturals, `up z` less `dn z`, so that `omega` can reason about it: each operation on ℤ is one linear fact of the halves, which goes into
 -- omega's list, and `same`, `leℤ`, `ltℤ`, `sfits32` .. turn a fact of the halves back into one of ℤ. Assumes nothing.
-use Rattle.std.proofs.Common.{◌≡◌, ℕ, zero, suc, ◌+◌, ◌-◌, ◌%◌, ◌^◌, ◌<◌, ◌≤◌, Bool, true, false, cond, not, T, ltb, ◌⊎◌, ℤ, pos, negsuc, ◌+ℤ◌, ◌-ℤ◌, neg_ℤ, nat_abs, sym, refl, ap, subst, inl, inr, arith, ltb→lt, nltb→le, w32, w64, Fits, SFits, ltb-false, ltb-true, le-ltb, lt-ltb, le-leb, leb-false, leb-true}
+use Rattle.std.proofs.Common.{◌≡◌, ℕ, zero, suc, ◌+◌, ◌-◌, ◌<◌, ◌≤◌, Bool, true, false, cond, not, T, ltb, ◌⊎◌, ℤ, pos, negsuc, ◌+ℤ◌, ◌-ℤ◌, neg_ℤ, nat_abs, sym, refl, ap, subst, inl, inr, arith, ltb→lt, nltb→le, w32, w64, Fits, SFits, to_z, ltb-false, ltb-true, le-ltb, lt-ltb, le-leb, leb-false, leb-true}
+use Rattle.std.proofs.lemmas.Bool.{cases_lt}
 use lib.IntN.{sub_ℕ}
-use Rattle.signed.specs.Whole.{raised, natural, twos32, twos64, bits32}
+use Rattle.signed.specs.Whole.{raised, natural, twos32, bits32}
 use lib.Signed.{le_z, lt_z}
 use borrow.Author.Tests.{lt-leb}
 
@@ -159,17 +160,6 @@ unfolding raised
 raise_fact (pos n) f = omega arith
 raise_fact (negsuc n) f = omega (arith, f.sfits)
 
--- `natural` from the raised number
-pub natural_low : (z : ℤ) → SFits w32 z → raised z < 2147483648 → natural z ≡ 0
-unfolding raised
-natural_low (pos n) f h = omega arith
-natural_low (negsuc n) f h = refl
-
-pub natural_high : (z : ℤ) → SFits w32 z → 2147483648 ≤ raised z → raised z - 2147483648 ≡ natural z
-unfolding raised
-natural_high (pos n) f h = omega arith
-natural_high (negsuc n) f h = omega arith
-
 -- `natural` as a half
 pub natural_up : (z : ℤ) → natural z ≡ up z
 natural_up (pos n) = refl
@@ -188,17 +178,10 @@ pub fits_abs : (z : ℤ) → SFits w64 z → lt_z z (pos 0) ≡ false → Fits w
 fits_abs (pos n) f e = record { fits = omega (arith, f.sfits) }
 fits_abs (negsuc n) f e = true_false e
 
--- the 64 bits from the raised number
-pub bits_raised : (z : ℤ) → SFits w32 z → (raised z + 18446744071562067968) % 2 ^ 64 ≡ twos64 z
-unfolding raised
-bits_raised (pos n) f = omega (arith, f.sfits)
-bits_raised (negsuc n) f = omega (arith, f.sfits)
-
--- the 32 bits likewise, and read back
-pub bits32_raised : (z : ℤ) → SFits w32 z → (raised z + 2147483648) % 2 ^ 32 ≡ bits32 z
-unfolding raised
-bits32_raised (pos n) f = omega (arith, f.sfits)
-bits32_raised (negsuc n) f = omega (arith, f.sfits)
+-- the number that 32 bits mean, as the library says it, and read back
+pub twos_is : (n : ℕ) → n < 4294967296 → to_z w32 n ≡ twos32 n
+unfolding twos32
+twos_is n h = elim (cases_lt n 2147483648) [ inl k ↦ simp (lt-ltb n 2147483648 k) | inr k ↦ simp (le-ltb n 2147483648 k) (same (negsuc (4294967296 - suc n)) (sub_ℕ n 4294967296) (omega (arith, less n 4294967296))) ]
 
 pub bits32_back : (z : ℤ) → SFits w32 z → twos32 (bits32 z) ≡ z
 unfolding twos32

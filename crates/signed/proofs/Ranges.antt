@@ -1,11 +1,14 @@
 -- Which case of `side_of`, `checked` and `clamp32` a number is in, from facts of its halves.
-use Rattle.std.proofs.Common.{◌≡◌, ◌+◌, ◌<◌, ◌≤◌, Bool, true, false, cond, ℤ, pos, negsuc, sym, refl, ap, arith, w32, SFits}
+use Rattle.std.proofs.Common.{◌≡◌, ◌+◌, ◌<◌, ◌≤◌, Bool, true, false, cond, ℤ, pos, negsuc, sym, refl, ap, ◌∙◌, inl, inr, arith, w32, SFits, FitsSigned}
+use Rattle.std.proofs.lemmas.Bool.{cases_lt}
 use Rattle.std.specs.Prelude.{None, Option, Some}
+use Rattle.std.specs.Int.{saturate_signed}
+use Rattle.std.specs.Option.{SomeIff}
 use mathlib.Core.Path.{subst⁻¹}
 use lib.Signed.{lt_z}
-use Rattle.signed.specs.declared.Side.TheVariants.{Below, Within, Above}
+use Rattle.signed.specs.Whole.{Below, Within, Above}
 use Rattle.signed.specs.Whole.{side_of, sum_at, nearest, checked, clamp32}
-use Rattle.signed.proofs.Halves.{up, dn, ltℤ, geℤ, is_ge, sfits32}
+use Rattle.signed.proofs.Halves.{up, dn, ltℤ, geℤ, is_ge, sfits32, top32, low32}
 
 module _ (z : ℤ) where
   pub side_in : up z < dn z + 2147483648 → dn z ≤ up z + 2147483648 → side_of z ≡ Within z
@@ -61,3 +64,21 @@ checked_number z y e = go (lt_z z (negsuc 2147483647)) refl (lt_z (pos 214748364
         let h = is_ge z (negsuc 2147483647) f in
         let k = is_ge (pos 2147483647) z g in
         (ap (λ (s : Option ℤ). number_in s z) (sym e), sfits32 z (omega arith) (omega arith))
+
+-- ---- the library's sums: the number where an i32 holds it, and the nearest number
+pub checked_is : (z : ℤ) (r : Option ℤ) → SomeIff r (FitsSigned w32 z) z → r ≡ checked z
+unfolding checked side_of
+checked_is z (Some x) told = ap Some told.1 ∙ sym (checked_in z (omega (arith, top32 z told.0)) (omega (arith, low32 z told.0)))
+checked_is z None out = go (lt_z z (negsuc 2147483647)) refl (lt_z (pos 2147483647) z) refl
+  where
+    go : (p : Bool) → lt_z z (negsuc 2147483647) ≡ p → (q : Bool) → lt_z (pos 2147483647) z ≡ q → None ≡ checked z
+    go true f q g = simp f refl
+    go false f true g = simp (f, g) refl
+    go false f false g =
+        let h = is_ge z (negsuc 2147483647) f in
+        let k = is_ge (pos 2147483647) z g in
+        absurd (out (sfits32 z (omega arith) (omega arith)))
+
+pub clamp_is : (z : ℤ) → saturate_signed w32 z ≡ clamp32 z
+clamp_is (pos n) = elim (cases_lt n 2147483648) [ inl h ↦ ap pos (omega arith) ∙ sym (clamp_in (pos n) (omega arith) (omega arith)) | inr h ↦ ap pos (omega arith) ∙ sym (clamp_above (pos n) (omega arith)) ]
+clamp_is (negsuc n) = elim (cases_lt n 2147483648) [ inl h ↦ ap negsuc (omega arith) ∙ sym (clamp_in (negsuc n) (omega arith) (omega arith)) | inr h ↦ ap negsuc (omega arith) ∙ sym (clamp_below (negsuc n) (omega arith)) ]

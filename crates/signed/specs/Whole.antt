@@ -2,8 +2,6 @@
 use Rattle.std.specs.Prelude.{ℕ, ◌+◌, ◌-◌, cond, ℤ, pos, negsuc, int_lt, nat_lt}
 use Rattle.std.specs.Prelude.{None, Option, Some}
 use Rattle.std.proofs.Math.IntN.{sub_ℕ}
-use Rattle.signed.specs.declared.Side.{Side}
-use Rattle.signed.specs.declared.Side.TheVariants.{Below, Within, Above}
 
 -- the number that 32 bits mean in two's complement: n, or n - 2^32 from 2^31 on
 unfoldable pub twos32 : ℕ → ℤ
@@ -28,6 +26,12 @@ raised (negsuc n) = 2147483647 - n
 abbrev pub natural : ℤ → ℕ
 natural (pos n) = n
 natural (negsuc n) = 0
+
+-- where a number lies: below the range of an i32, within it, or above it
+pub data Side : Type 0 where
+  Below : Side
+  Within : ℤ → Side
+  Above : Side
 
 -- the range of an i32 is -2^31 to 2^31 - 1
 unfoldable pub side_of : ℤ → Side
