@@ -2,19 +2,9 @@
 #![tactic(auto)]
 
 ghost use Rattle.std.specs.Prelude.{◌≡◌};
-ghost use Rattle.ends_rules.specs.Ends.{to_place1, plus_one, one_based, alignment_start, end_at, alignment_end};
+ghost use Rattle.ends_rules.specs.Ends.{plus_one, one_based, alignment_start, end_at, alignment_end};
 
 use answers::{Answer, Pos0, Pos1, Refusal};
-
-// An overflow is refusal 4.
-fn to_place1(s: Option<i32>) -> Answer<Option<Pos1>>
-    ensures { result ≡ to_place1 s }
-{
-    match s {
-        Some(z) => Ok(Some(Pos1(z))),
-        None => Err(Refusal::Overflow),
-    }
-}
 
 // The same position counted from 1, where that is an i32.
 pub fn plus_one(p: Pos0) -> Option<i32>
@@ -27,7 +17,8 @@ pub fn plus_one(p: Pos0) -> Option<i32>
 pub fn one_based(p: Pos0) -> Answer<Option<Pos1>>
     ensures { result ≡ one_based p }
 {
-    to_place1(plus_one(p))
+    let place = plus_one(p).ok_or(Refusal::Overflow)?;
+    Ok(Some(Pos1(place)))
 }
 
 // A record's first place; none where `pos` is negative. Refusals 1 and 4.
@@ -51,7 +42,8 @@ fn end_at(pos: Pos0, n: i32) -> Answer<Option<Pos1>>
     if signed::natural_of(n) == 0 {
         return Ok(None);
     }
-    to_place1(signed::checked_add(pos.0, n))
+    let place = signed::checked_add(pos.0, n).ok_or(Refusal::Overflow)?;
+    Ok(Some(Pos1(place)))
 }
 
 // A record's last place; none where `pos` is negative or no reference is covered. Refusals 1, 2 and 4.
@@ -65,8 +57,6 @@ pub fn alignment_end_from_raw(bam: &[u8]) -> Answer<Option<Pos1>>
     if pos.0 < 0 {
         return Ok(None);
     }
-    match lengths::reference_length_from_raw_bam(bam) {
-        Ok(n) => end_at(pos, n),
-        Err(why) => Err(why),
-    }
+    let n = lengths::reference_length_from_raw_bam(bam)?;
+    end_at(pos, n)
 }

@@ -3,29 +3,20 @@
 
 ghost use Rattle.std.specs.Prelude.{◌≡◌, []};
 ghost use Rattle.oplist.specs.Ops.{ops_of};
-ghost use Rattle.ends_rules.specs.Ends.{to_place0, as_unclipped, unclipped_by, unclipped_of, unclipped_from};
+ghost use Rattle.ends_rules.specs.Ends.{five_prime, unclipped_by, unclipped_of, unclipped_from};
 
 use answers::{Answer, Pos0, Pos1, Refusal};
 use ends_rules::Unclipped;
 use oplist::Ops;
 
-// An overflow is refusal 4.
-fn to_place0(s: Option<i32>) -> Answer<Pos0>
-    ensures { result ≡ to_place0 s }
+// The 5' end of an op list in a record, aligned at `at`; counted as `at` is. None where a sum overflows.
+fn five_prime(at: i32, bam: &[u8], list: Ops, reverse: bool) -> Option<i32>
+    ensures { result ≡ five_prime reverse at (ops_of [] bam.now list) }
 {
-    match s {
-        Some(z) => Ok(Pos0(z)),
-        None => Err(Refusal::Overflow),
+    if reverse {
+        return end_sums::end_from(at, end_sums::tail_of(&[], bam, list));
     }
-}
-
-fn as_unclipped(s: Option<i32>) -> Answer<Unclipped>
-    ensures { result ≡ as_unclipped s }
-{
-    match s {
-        Some(z) => Ok(Unclipped::At(Pos1(z))),
-        None => Err(Refusal::Overflow),
-    }
+    end_sums::start_from(at, clip_runs::leading_clips(&[], bam, list, true))
 }
 
 // A record's unclipped 5' position, or that it is unmapped, or that it has no ops or they overrun it. Refusals 1 and 4.
@@ -50,13 +41,9 @@ pub fn unclipped_by(bam: &[u8], list: Ops, pos: Pos0, reverse: bool) -> Answer<U
     if oplist::count(&[], bam, list) == 0 {
         return Ok(Unclipped::NoOps);
     }
-    let Some(at) = ends::plus_one(pos) else {
-        return Err(Refusal::Overflow);
-    };
-    if reverse {
-        return as_unclipped(end_sums::end_from(at, end_sums::tail_of(&[], bam, list)));
-    }
-    as_unclipped(end_sums::start_from(at, clip_runs::leading_clips(&[], bam, list, true)))
+    let from = ends::plus_one(pos).ok_or(Refusal::Overflow)?;
+    let at = five_prime(from, bam, list, reverse).ok_or(Refusal::Overflow)?;
+    Ok(Unclipped::At(Pos1(at)))
 }
 
 // The position from a given one and strand; the given position where the record has no ops or they overrun it. Refusals 1 and 4.
@@ -70,8 +57,6 @@ pub fn unclipped_5prime_raw(bam: &[u8], pos: Pos0, reverse: bool) -> Answer<Pos0
     if oplist::count(&[], bam, list) == 0 {
         return Ok(pos);
     }
-    if reverse {
-        return to_place0(end_sums::end_from(pos.0, end_sums::tail_of(&[], bam, list)));
-    }
-    to_place0(end_sums::start_from(pos.0, clip_runs::leading_clips(&[], bam, list, true)))
+    let at = five_prime(pos.0, bam, list, reverse).ok_or(Refusal::Overflow)?;
+    Ok(Pos0(at))
 }

@@ -26,8 +26,8 @@ returns-then-pos-lt0 c =
     in
     end_none c.args.bam.now c.if-bam-lt32.false sign
 
-pub returns-in-Ok : goal.returns-in-Ok
-returns-in-Ok c =
+pub returns : goal.returns
+returns c =
     let e : to_z w32 (of_z w32 c.own_place-pos.result.0) ≡ c.own_place-pos.result.0 = search rules in
     let sign : lt_z (pos_of c.args.bam.now) (pos 0) ≡ false =
     ap (λ (z : ℤ). lt_z z (pos 0)) (sym c.own_place-pos.ensures) ∙ simp e at c.if-pos-lt0.false
@@ -35,14 +35,14 @@ returns-in-Ok c =
     let past : end_at (pos_of c.args.bam.now) c.reference_length_from_raw_bam.result ≡ alignment_end c.args.bam.now =
     ap (end_at (pos_of c.args.bam.now)) c.reference_length_from_raw_bam.ensures ∙ end-at c.args.bam.now c.if-bam-lt32.false sign
     in
-    let n : to_z w32 (of_z w32 c.in-Ok.n) ≡ c.in-Ok.n = search rules in
+    let n : to_z w32 (of_z w32 c.in_ok-n.n) ≡ c.in_ok-n.n = search rules in
     (simp n at c.end_at.ensures)
-    ∙ ap (λ (z : ℤ). end_at z (Ok c.in-Ok.n)) c.own_place-pos.ensures
-    ∙ ap (end_at (pos_of c.args.bam.now)) (sym c.in-Ok.is)
+    ∙ ap (λ (z : ℤ). end_at z (Ok c.in_ok-n.n)) c.own_place-pos.ensures
+    ∙ ap (end_at (pos_of c.args.bam.now)) (sym c.in_ok-n.was)
     ∙ past
 
-pub returns-in-Err : goal.returns-in-Err
-returns-in-Err c =
+pub returns-in_err-n : goal.returns-in_err-n
+returns-in_err-n c =
     let e : to_z w32 (of_z w32 c.own_place-pos.result.0) ≡ c.own_place-pos.result.0 = search rules in
     let sign : lt_z (pos_of c.args.bam.now) (pos 0) ≡ false =
     ap (λ (z : ℤ). lt_z z (pos 0)) (sym c.own_place-pos.ensures) ∙ simp e at c.if-pos-lt0.false
@@ -50,4 +50,5 @@ returns-in-Err c =
     let past : end_at (pos_of c.args.bam.now) c.reference_length_from_raw_bam.result ≡ alignment_end c.args.bam.now =
     ap (end_at (pos_of c.args.bam.now)) c.reference_length_from_raw_bam.ensures ∙ end-at c.args.bam.now c.if-bam-lt32.false sign
     in
-    ap (end_at (pos_of c.args.bam.now)) (sym c.in-Err.is) ∙ past
+    let passed : c.from_residual.result ≡ end_at (pos_of c.args.bam.now) c.reference_length_from_raw_bam.result = search rules in
+    passed ∙ past
