@@ -31,7 +31,7 @@ use Rattle.bin_rules.specs.Bin.{record_bin}
 use Rattle.put_text.specs.Puts.{Put, signed_decimal}
 use Rattle.put_text.proofs.PutLaws.{put_then, put_as, put_dropped}
 use Rattle.line_rules.specs.Line.{text_room, text_told, refs_told, five_told, bin_told, refusal_of, shown, or_star, or_dot, length_mark, tabbed, refused_fields, line_of}
-use Rattle.line_rules.specs.Inner.{with_bin, row_of, figures_of, row_fields}
+use Rattle.line_rules.specs.Inner.{row_of, figures_of, row_fields}
 use Rattle.line_rules.specs.declared.LineRow.{LineRow}
 use Rattle.answers.proofs.Numbers.{not-zero}
 use Rattle.line_rules.proofs.OrderLaws.{any_room, text_refused, text_shown, first_given, query_is, refusal_long, refusal_short}
@@ -167,56 +167,36 @@ pub figures_are : (b : List ℕ) (i : Answer ℤ) (q : ℕ) (u : Answer Unclippe
 unfolding figures_of
 figures_are b i q u k l e f g h m = cc
 
--- past the position only the bin can refuse
-module _ (z : ℤ) (q : ℕ) (u : Answer Unclipped) (s : ℕ) where
-  bin_refused : (k : Answer ℕ) (w : Refusal) → with_bin z q u k s ≡ Err w → (tell_nat k).number ≡ number_of w
-  bin_refused (Err r) w e = let g : r ≡ w = cc in ap number_of g
-  bin_refused (Ok m) w e = never (cc)
-
-  bin_given : (k : Answer ℕ) (w : LineRow) → with_bin z q u k s ≡ Ok w → (tell_nat k).number ≡ 0
-  bin_given (Err r) w e = never (cc)
-  bin_given (Ok m) w e = refl
-
-  bin_shown : (k : Answer ℕ) (w : LineRow) → with_bin z q u k s ≡ Ok w → signed_decimal z ∷ decimal q ∷ or_dot u ∷ shown (tell_nat k) ∷ (s ∷ []) ∷ [] ≡ row_fields w
-  unfolding signed_decimal
-  bin_shown (Err r) w e = never (cc)
-  bin_shown (Ok m) w e =
-      let g : ◌≡◌ {A = LineRow} (record { refs = z; query = q; five = u; bin = m; mark = s }) w = cc in ap row_fields g
+-- a position, unmapped and no ops are told with no refusal
+answers : (u : Unclipped) → (tell_unclipped (Ok u)).number ≡ 0
+answers (Unclipped.At p) = refl
+answers Unclipped.Unmapped = refl
+answers Unclipped.NoOps = refl
 
 row_refused : (i : Answer ℤ) (q : ℕ) (u : Answer Unclipped) (k : Answer ℕ) (s : ℕ) (w : Refusal) → row_of i q u k s ≡ Err w
     → first_given 0 (tell_int i).number (tell_unclipped u).number (tell_nat k).number ≡ number_of w
 unfolding row_of
 row_refused (Err r) q u k s w e = let g : r ≡ w = cc in rw (not-zero r) (ap number_of g)
 row_refused (Ok z) q (Err r) k s w e = let g : r ≡ w = cc in rw (not-zero r) (ap number_of g)
-row_refused (Ok z) q (Ok (Unclipped.At p)) k s w e = bin_refused z q (Ok (Unclipped.At p)) s k w e
-row_refused (Ok z) q (Ok Unclipped.Unmapped) k s w e = bin_refused z q (Ok Unclipped.Unmapped) s k w e
-row_refused (Ok z) q (Ok Unclipped.NoOps) k s w e = bin_refused z q (Ok Unclipped.NoOps) s k w e
+row_refused (Ok z) q (Ok u) (Err r) s w e = let g : r ≡ w = cc in rw (answers u) (ap number_of g)
+row_refused (Ok z) q (Ok u) (Ok m) s w e = never (cc)
 
 row_given : (i : Answer ℤ) (q : ℕ) (u : Answer Unclipped) (k : Answer ℕ) (s : ℕ) (w : LineRow) → row_of i q u k s ≡ Ok w
     → first_given 0 (tell_int i).number (tell_unclipped u).number (tell_nat k).number ≡ 0
 unfolding row_of
 row_given (Err r) q u k s w e = never (cc)
 row_given (Ok z) q (Err r) k s w e = never (cc)
-row_given (Ok z) q (Ok (Unclipped.At p)) k s w e = bin_given z q (Ok (Unclipped.At p)) s k w e
-row_given (Ok z) q (Ok Unclipped.Unmapped) k s w e = bin_given z q (Ok Unclipped.Unmapped) s k w e
-row_given (Ok z) q (Ok Unclipped.NoOps) k s w e = bin_given z q (Ok Unclipped.NoOps) s k w e
+row_given (Ok z) q (Ok u) (Err r) s w e = never (cc)
+row_given (Ok z) q (Ok u) (Ok m) s w e = rw (answers u) refl
 
 row_shown : (i : Answer ℤ) (q : ℕ) (u : Answer Unclipped) (k : Answer ℕ) (s : ℕ) (w : LineRow) → row_of i q u k s ≡ Ok w
     → shown (tell_int i) ∷ decimal q ∷ or_dot u ∷ shown (tell_nat k) ∷ (s ∷ []) ∷ [] ≡ row_fields w
-unfolding row_of
+unfolding row_of signed_decimal
 row_shown (Err r) q u k s w e = never (cc)
 row_shown (Ok z) q (Err r) k s w e = never (cc)
-row_shown (Ok z) q (Ok (Unclipped.At p)) k s w e = bin_shown z q (Ok (Unclipped.At p)) s k w e
-row_shown (Ok z) q (Ok Unclipped.Unmapped) k s w e = bin_shown z q (Ok Unclipped.Unmapped) s k w e
-row_shown (Ok z) q (Ok Unclipped.NoOps) k s w e = bin_shown z q (Ok Unclipped.NoOps) s k w e
-
--- past the test for a refusal
-pub row-past : (z : ℤ) (q : ℕ) (u : Answer Unclipped) (k : Answer ℕ) (s : ℕ) → ((r : Refusal) → u ≡ Err r → ⊥) → with_bin z q u k s ≡ row_of (Ok z) q u k s
-unfolding row_of
-row-past z q (Ok (Unclipped.At p)) k s h = refl
-row-past z q (Ok Unclipped.Unmapped) k s h = refl
-row-past z q (Ok Unclipped.NoOps) k s h = refl
-row-past z q (Err r) k s h = absurd (h r refl)
+row_shown (Ok z) q (Ok u) (Err r) s w e = never (cc)
+row_shown (Ok z) q (Ok u) (Ok m) s w e =
+    let g : ◌≡◌ {A = LineRow} (record { refs = z; query = q; five = u; bin = m; mark = s }) w = cc in ap row_fields g
 
 module _ (n : ℕ) (b : List ℕ) (h : 32 ≤ length b) (k : ℕ) (e : (printed b text_room).answer ≡ Ok k) where
   given : refusal_of b ≡ first_given 0 (refs_told b).number (five_told b).number (bin_told b).number

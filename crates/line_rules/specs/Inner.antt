@@ -13,21 +13,15 @@ use Rattle.bin_rules.specs.Bin.{record_bin}
 use Rattle.decimal.specs.Decimal.{decimal}
 use Rattle.print_rules.specs.Text.{text_of, printed}
 use Rattle.put_text.specs.Puts.{Put, signed_decimal}
-use Rattle.line_rules.specs.Line.{text_room, or_star, or_dot, length_mark}
+use Rattle.line_rules.specs.Line.{text_room, or_star, place_or_dot, length_mark}
 use Rattle.line_rules.specs.declared.LineRow.{LineRow}
-
--- the figures with the bin, or why there is none
-abbrev pub with_bin : ℤ → ℕ → Answer Unclipped → Answer ℕ → ℕ → Answer LineRow
-with_bin z q u (Err r) m = Err r
-with_bin z q u (Ok k) m = Ok (record { refs = z; query = q; five = u; bin = k; mark = m })
 
 -- the figures, or the first refusal on the way
 unfoldable pub row_of : Answer ℤ → ℕ → Answer Unclipped → Answer ℕ → ℕ → Answer LineRow
 row_of (Err r) q u n m = Err r
 row_of (Ok z) q (Err r) n m = Err r
-row_of (Ok z) q (Ok (Unclipped.At p)) n m = with_bin z q (Ok (Unclipped.At p)) n m
-row_of (Ok z) q (Ok Unclipped.Unmapped) n m = with_bin z q (Ok Unclipped.Unmapped) n m
-row_of (Ok z) q (Ok Unclipped.NoOps) n m = with_bin z q (Ok Unclipped.NoOps) n m
+row_of (Ok z) q (Ok u) (Err r) m = Err r
+row_of (Ok z) q (Ok u) (Ok k) m = Ok (record { refs = z; query = q; five = u; bin = k; mark = m })
 
 unfoldable pub figures_of : List ℕ → Answer LineRow
 figures_of b =
@@ -35,7 +29,7 @@ figures_of b =
 
 -- the fields behind the text
 abbrev pub row_fields : LineRow → List (List ℕ)
-row_fields w = signed_decimal w.refs ∷ decimal w.query ∷ or_dot w.five ∷ decimal w.bin ∷ (w.mark ∷ []) ∷ []
+row_fields w = signed_decimal w.refs ∷ decimal w.query ∷ place_or_dot w.five ∷ decimal w.bin ∷ (w.mark ∷ []) ∷ []
 
 -- a tab and the text, or `*`; or why not, with nothing changed before the place
 abbrev pub TextPut : List ℕ → List ℕ → ℕ → Answer ℕ → List ℕ → Type 0

@@ -68,10 +68,13 @@ or_star [] = 42 ∷ []
 or_star (x ∷ xs) = x ∷ xs
 
 -- the position, or `.` where there is none
+abbrev pub place_or_dot : Unclipped → List ℕ
+place_or_dot (Unclipped.At p) = signed_decimal p.0
+place_or_dot Unclipped.Unmapped = 46 ∷ []
+place_or_dot Unclipped.NoOps = 46 ∷ []
+
 abbrev pub or_dot : Answer Unclipped → List ℕ
-or_dot (Ok (Unclipped.At p)) = signed_decimal p.0
-or_dot (Ok Unclipped.Unmapped) = 46 ∷ []
-or_dot (Ok Unclipped.NoOps) = 46 ∷ []
+or_dot (Ok u) = place_or_dot u
 or_dot (Err r) = 46 ∷ []
 
 -- `-` where no sequence is stored; else "1 if query length equals l_seq, else 0"

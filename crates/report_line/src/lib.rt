@@ -8,7 +8,6 @@ ghost use Rattle.line_rules.specs.Inner.{TextPut, row_fields, figures_of};
 ghost use Rattle.put_text.specs.Puts.{Put};
 
 use answers::{Answer, Refusal};
-use ends_rules::Unclipped;
 use line_rules::LineRow;
 
 // The most bytes of a record's text.
@@ -27,22 +26,13 @@ fn row_of(rec: &[u8]) -> Answer<LineRow>
     if 2147483647 < total.refs {
         return Err(Refusal::Overflow);
     }
-    let query = total.query;
-    let mark = report_fields::length_mark(query, little_endian::u32_at(rec, 16));
-    let five = unclipped::unclipped_5prime_from_raw_bam(rec);
-    if let Err(why) = five {
-        return Err(why);
-    }
-    match bin::bin_from_raw_bam(rec) {
-        Err(why) => Err(why),
-        Ok(bin) => Ok(LineRow {
-            refs: total.refs as i32,
-            query: query,
-            five: five,
-            bin: bin,
-            mark: mark,
-        }),
-    }
+    Ok(LineRow {
+        refs: total.refs as i32,
+        query: total.query,
+        five: unclipped::unclipped_5prime_from_raw_bam(rec)?,
+        bin: bin::bin_from_raw_bam(rec)?,
+        mark: report_fields::length_mark(total.query, little_endian::u32_at(rec, 16)),
+    })
 }
 
 // A tab and the record's text, or `*`. Refusals 1, 7 and 6.
@@ -52,15 +42,11 @@ fn put_text(rec: &[u8], out: &mut [u8], at: usize) -> Answer<usize>
 {
     let from = put_text::put_byte(b'\t', out, at);
     let end = from + TEXT_ROOM;
-    match print::cigar_to_bytes_into(rec, &mut out[from..end]) {
-        Err(why) => Err(why),
-        Ok(n) => {
-            if n == 0 {
-                return Ok(put_text::put_byte(b'*', out, from));
-            }
-            Ok(from + n as usize)
-        }
+    let n = print::cigar_to_bytes_into(rec, &mut out[from..end])?;
+    if n == 0 {
+        return Ok(put_text::put_byte(b'*', out, from));
     }
+    Ok(from + n as usize)
 }
 
 fn put_row(row: LineRow, out: &mut [u8], at: usize) -> usize
@@ -68,10 +54,9 @@ fn put_row(row: LineRow, out: &mut [u8], at: usize) -> usize
     ensures put { Put out.old at (tabbed (row_fields row)) result out.new }
     ensures upper_bound { result ≤ at + 108 }
 {
-    let place = row.five;
     let query = put_text::put_signed(row.refs, out, at);
     let five = put_text::put_field(row.query, out, query);
-    let bin = report_fields::put_five(place, out, five);
+    let bin = report_fields::put_five(row.five, out, five);
     let mark = put_text::put_field(row.bin as u64, out, bin);
     report_fields::put_last(row.mark, out, mark)
 }
