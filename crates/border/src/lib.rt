@@ -1,11 +1,13 @@
 // What crosses the C border: a struct for each shape of an answer, its number and its values, that a call returns in registers. An inner crate of the static libraries.
+// `ToldInt`, `ToldCount` and `ToldFlag` differ in a type alone: the C interface needs them so. A generic `Told<T>` in an exported function's signature is refused (`unsupported-generic-in-c`).
 #![tactic(auto)]
 
-ghost use Rattle.std.specs.Prelude.{◌≡◌, [], ◌∷◌, pos};
-ghost use Rattle.answers.specs.Answers.{number_of, answered, refused, none, some, tell_int, tell_nat, tell_count, tell_flag};
+ghost use Rattle.std.specs.Prelude.{◌≡◌};
+ghost use Rattle.answers.specs.Answers.{number_of, tell_int, tell_nat, tell_count, tell_flag, tell_place0, tell_place1, answered};
+ghost use Rattle.border.specs.Plain.{tell_option, tell_found, tell_pair};
 ghost use Rattle.border.specs.Border.{int_of, count_of, flag_of, found_of, two_of, flagged};
 
-use answers::{Answer, Refusal};
+use answers::{Answer, Pos0, Pos1, Refusal};
 
 // A signed number.
 #[repr(C)]
@@ -33,7 +35,7 @@ pub struct ToldFlag {
 
 // None, or a number that is never negative.
 #[repr(C)]
-#[derive(Clone, Copy)]
+#[derive(Clone, Copy, Default)]
 pub struct ToldFound {
     pub refusal: u32,
     pub found: bool,
@@ -42,7 +44,7 @@ pub struct ToldFound {
 
 // What lookup found, and the ops that it examined: in 16 bytes, so that registers hold it.
 #[repr(C)]
-#[derive(Clone, Copy)]
+#[derive(Clone, Copy, Default)]
 pub struct ToldLookup {
     pub refusal: u16,
     pub found: bool,
@@ -52,7 +54,7 @@ pub struct ToldLookup {
 
 // A position, or why there is none: which of three answers it is.
 #[repr(C)]
-#[derive(Clone, Copy)]
+#[derive(Clone, Copy, Default)]
 pub struct ToldPosition {
     pub refusal: u32,
     pub which: u32,
@@ -61,7 +63,7 @@ pub struct ToldPosition {
 
 // Two numbers that are never negative.
 #[repr(C)]
-#[derive(Clone, Copy)]
+#[derive(Clone, Copy, Default)]
 pub struct ToldTwo {
     pub refusal: u32,
     pub first: u64,
@@ -70,7 +72,7 @@ pub struct ToldTwo {
 
 // Reference and query length, and the soft and hard clips at both ends.
 #[repr(C)]
-#[derive(Clone, Copy)]
+#[derive(Clone, Copy, Default)]
 pub struct ToldLengths {
     pub refusal: u32,
     pub reference: i32,
@@ -83,7 +85,7 @@ pub struct ToldLengths {
 
 // Where an alignment starts and ends, and how many blocks it has: in 16 bytes, so that registers hold it.
 #[repr(C)]
-#[derive(Clone, Copy)]
+#[derive(Clone, Copy, Default)]
 pub struct ToldBlocks {
     pub refusal: u32,
     pub chrom_start: u32,
@@ -105,106 +107,117 @@ pub fn short_number(why: Refusal) -> u16
     answers::number(why) as u16
 }
 
-pub fn told_int(answer: Answer<i32>) -> ToldInt
-    ensures { result ≡ int_of (tell_int answer) }
-{
-    match answer {
-        Ok(n) => ToldInt {
-            refusal: 0,
-            value: n,
-        },
-        Err(why) => ToldInt {
-            refusal: answers::number(why),
-            value: 0,
-        },
+impl From<Answer<i32>> for ToldInt {
+    ghost from_gives = { λ answer told. told ≡ int_of (tell_int answer) };
+
+    fn from(answer: Answer<i32>) -> ToldInt {
+        match answer {
+            Ok(value) => ToldInt { refusal: 0, value },
+            Err(why) => ToldInt {
+                refusal: answers::number(why),
+                value: 0,
+            },
+        }
     }
 }
 
-pub fn told_count(answer: Answer<u64>) -> ToldCount
-    ensures { result ≡ count_of (tell_count answer) }
-{
-    match answer {
-        Ok(n) => ToldCount {
-            refusal: 0,
-            value: n,
-        },
-        Err(why) => ToldCount {
-            refusal: answers::number(why),
-            value: 0,
-        },
+impl From<Answer<Pos0>> for ToldInt {
+    ghost from_gives = { λ answer told. told ≡ int_of (tell_place0 answer) };
+
+    fn from(answer: Answer<Pos0>) -> ToldInt {
+        answers::bare0(answer).into()
     }
 }
 
-pub fn told_nat(answer: Answer<u32>) -> ToldCount
-    ensures { result ≡ count_of (tell_nat answer) }
-{
-    match answer {
-        Ok(n) => told_count(Ok(n as u64)),
-        Err(why) => told_count(Err(why)),
+impl From<Answer<u64>> for ToldCount {
+    ghost from_gives = { λ answer told. told ≡ count_of (tell_count answer) };
+
+    fn from(answer: Answer<u64>) -> ToldCount {
+        match answer {
+            Ok(value) => ToldCount { refusal: 0, value },
+            Err(why) => ToldCount {
+                refusal: answers::number(why),
+                value: 0,
+            },
+        }
     }
 }
 
-pub fn told_flag(answer: Answer<bool>) -> ToldFlag
-    ensures { result ≡ flag_of (tell_flag answer) }
-{
-    match answer {
-        Ok(yes) => ToldFlag {
-            refusal: 0,
-            value: yes,
-        },
-        Err(why) => ToldFlag {
-            refusal: answers::number(why),
-            value: false,
-        },
+impl From<Answer<u32>> for ToldCount {
+    ghost from_gives = { λ answer told. told ≡ count_of (tell_nat answer) };
+
+    fn from(answer: Answer<u32>) -> ToldCount {
+        answer.map(u64::from).into()
     }
 }
 
-pub fn found(n: u64) -> ToldFound
-    ensures { result ≡ found_of (answered (some (pos n))) }
-{
-    ToldFound {
-        refusal: 0,
-        found: true,
-        value: n,
+impl From<Answer<bool>> for ToldFlag {
+    ghost from_gives = { λ answer told. told ≡ flag_of (tell_flag answer) };
+
+    fn from(answer: Answer<bool>) -> ToldFlag {
+        match answer {
+            Ok(value) => ToldFlag { refusal: 0, value },
+            Err(why) => ToldFlag {
+                refusal: answers::number(why),
+                value: false,
+            },
+        }
     }
 }
 
-pub fn nothing() -> ToldFound
-    ensures { result ≡ found_of (answered none) }
-{
-    ToldFound {
-        refusal: 0,
-        found: false,
-        value: 0,
+impl From<Option<u64>> for ToldFound {
+    ghost from_gives = { λ place told. told ≡ found_of (answered (tell_option place)) };
+
+    fn from(place: Option<u64>) -> ToldFound {
+        match place {
+            Some(value) => ToldFound {
+                refusal: 0,
+                found: true,
+                value,
+            },
+            None => ToldFound::default(),
+        }
     }
 }
 
-pub fn refused_found(why: Refusal) -> ToldFound
-    ensures { result ≡ found_of (refused why) }
-{
-    ToldFound {
-        refusal: answers::number(why),
-        found: false,
-        value: 0,
+impl From<Answer<Option<u64>>> for ToldFound {
+    ghost from_gives = { λ answer told. told ≡ found_of (tell_found answer) };
+
+    fn from(answer: Answer<Option<u64>>) -> ToldFound {
+        match answer {
+            Ok(place) => place.into(),
+            Err(why) => ToldFound {
+                refusal: answers::number(why),
+                ..Default::default()
+            },
+        }
     }
 }
 
-pub fn two(first: u64, second: u64) -> ToldTwo
-    ensures { result ≡ two_of (answered (pos first ∷ (pos second ∷ []))) }
-{
-    ToldTwo {
-        refusal: 0,
-        first,
-        second,
+impl From<Answer<Option<Pos1>>> for ToldFound {
+    ghost from_gives = { λ answer told. told ≡ found_of (tell_place1 answer) };
+
+    fn from(answer: Answer<Option<Pos1>>) -> ToldFound {
+        answer
+            .map(|place| place.map(|p| signed::natural_of(p.0)))
+            .into()
     }
 }
 
-pub fn refused_two(why: Refusal) -> ToldTwo
-    ensures { result ≡ two_of (refused why) }
-{
-    ToldTwo {
-        refusal: answers::number(why),
-        first: 0,
-        second: 0,
+impl From<Answer<(u64, u64)>> for ToldTwo {
+    ghost from_gives = { λ answer told. told ≡ two_of (tell_pair answer) };
+
+    fn from(answer: Answer<(u64, u64)>) -> ToldTwo {
+        match answer {
+            Ok((first, second)) => ToldTwo {
+                refusal: 0,
+                first,
+                second,
+            },
+            Err(why) => ToldTwo {
+                refusal: answers::number(why),
+                ..Default::default()
+            },
+        }
     }
 }
