@@ -1,8 +1,8 @@
 -- Which case of the answer a call's tests lead to, and what the measuring pass tells of a list.
 use Prim.Native.Nat.{ℕ, ◌+◌, ◌≤◌, ◌<◌}
-use Rattle.std.specs.Prelude.{Ok, Err, Some, None}
+use Rattle.std.specs.Prelude.{Ok, Err, Option, Some, None}
 use Rattle.answers.specs.Answer.{Answer}
-use mathlib.Core.Path.{◌≡◌, refl}
+use mathlib.Core.Path.{◌≡◌, refl, ap, sym}
 use mathlib.Core.Bool.{Bool, true, false, cond, ◌||◌}
 use mathlib.Core.List.{List}
 use native.Mathlib.Omega.{arith}
@@ -62,6 +62,11 @@ module _ (at : ℕ) (xs d e : List ℕ) where
       unfolding bed_from
       done g = simp (le-ltb 2147483647 (chrom_end at xs) h, le-ltb (length d) (length (blocks xs)) f, le-ltb (length e) (length (blocks xs)) g)
 
+-- what an answer holds, zeros for a refusal
+abbrev bed_in : Answer Bed → Bed
+bed_in (Ok b) = b
+bed_in (Err r) = record { chrom_start = 0; chrom_end = 0; block_count = 0 }
+
 -- an answer was not refused
 pub answered : (start : ℤ) (xs d e : List ℕ) (at end n : ℕ) → (bed_blocks start xs d e).answer ≡ Ok (record { chrom_start = at; chrom_end = end; block_count = n }) → (unfit xs ≡ false) × (end ≡ chrom_end at xs)
 unfolding bed_blocks bed_from
@@ -80,19 +85,24 @@ answered start xs d e at end n =
     go false false true v w a = never (cc)
     go false false false true w a = never (cc)
     go false false false false true a = never (cc)
-    go false false false false false a = let p : natural start ≡ at = cc in let q : chrom_end (natural start) xs ≡ end = cc in (refl, omega arith)
+    go false false false false false a = let p : natural start ≡ at = ap (λ r. (bed_in r).chrom_start) a in let q : chrom_end (natural start) xs ≡ end = ap (λ r. (bed_in r).chrom_end) a in (refl, omega arith)
 
 -- an answer by the numbers that the call has
-pub same_answer : (xs : List ℕ) {n refs : ℕ} (at : ℕ) → refs ≡ sum_of ref_len xs → n ≡ length (blocks xs) → (Ok (record { chrom_start = at; chrom_end = at + refs; block_count = n })) ≡ Ok (record { chrom_start = at; chrom_end = chrom_end at xs; block_count = length (blocks xs) })
+pub same_answer : (xs : List ℕ) {n refs : ℕ} (at : ℕ) → refs ≡ sum_of ref_len xs → n ≡ length (blocks xs) → ◌≡◌ {A = Answer Bed} (Ok (record { chrom_start = at; chrom_end = at + refs; block_count = n })) (Ok (record { chrom_start = at; chrom_end = chrom_end at xs; block_count = length (blocks xs) }))
 same_answer xs at e f = rw (e, f) refl
 
 -- ---- the measuring pass
+
+-- what the measuring pass gives, zeros for nothing
+abbrev measured_in : Option Measured → Measured
+measured_in (Some m) = m
+measured_in None = record { blocks = 0; refs = 0 }
 
 pub measured_not : (xs : List ℕ) → unfit xs ≡ true → measured xs ≡ None
 unfolding measured
 measured_not xs u = rw u refl
 
-pub measured_are : (xs : List ℕ) → unfit xs ≡ false → (n refs : ℕ) → n ≡ length (blocks xs) → refs ≡ sum_of ref_len xs → (Some (record { blocks = n; refs = refs })) ≡ measured xs
+pub measured_are : (xs : List ℕ) → unfit xs ≡ false → (n refs : ℕ) → n ≡ length (blocks xs) → refs ≡ sum_of ref_len xs → ◌≡◌ {A = Option Measured} (Some (record { blocks = n; refs = refs })) (measured xs)
 unfolding measured
 measured_are xs u n refs e f = rw (u, e, f) refl
 
@@ -100,7 +110,7 @@ pub told_nothing : (xs : List ℕ) → measured xs ≡ None → unfit xs ≡ tru
 unfolding measured
 told_nothing xs = go (unfit xs)
   where
-    go : (t : Bool) → cond t None (Some (record { blocks = length (blocks xs); refs = sum_of ref_len xs })) ≡ None → t ≡ true
+    go : (t : Bool) → cond {A = Option Measured} t None (Some (record { blocks = length (blocks xs); refs = sum_of ref_len xs })) ≡ None → t ≡ true
     go true e = refl
     go false e = never (cc)
 
@@ -108,6 +118,6 @@ pub told_blocks : (xs : List ℕ) (n refs : ℕ) → measured xs ≡ Some (recor
 unfolding measured
 told_blocks xs n refs = go (unfit xs)
   where
-    go : (t : Bool) → cond t None (Some (record { blocks = length (blocks xs); refs = sum_of ref_len xs })) ≡ Some (record { blocks = n; refs = refs }) → (t ≡ false) × (n ≡ length (blocks xs)) × (refs ≡ sum_of ref_len xs)
+    go : (t : Bool) → cond {A = Option Measured} t None (Some (record { blocks = length (blocks xs); refs = sum_of ref_len xs })) ≡ Some (record { blocks = n; refs = refs }) → (t ≡ false) × (n ≡ length (blocks xs)) × (refs ≡ sum_of ref_len xs)
     go true e = never (cc)
-    go false e = (refl, cc, cc)
+    go false e = (refl, ap (λ r. (measured_in r).blocks) (sym e), ap (λ r. (measured_in r).refs) (sym e))
