@@ -64,7 +64,7 @@ module _ (b new : List ℕ) (count : ℕ) where
   unfolding put_into
   put_given c d l e = go (ltb (length d) (length (new_record b c))) e
     where
-      go : (t : Bool) → cond t (keeps (Err NoRoom) d) (record { answer = Ok (record { written = length (new_record b c); lost = c.count }); left = splice d 0 (new_record b c) })
+      go : (t : Bool) → cond t (keeps {A = Answer Clipped} (Err NoRoom) d) (record { answer = Ok (record { written = length (new_record b c); lost = c.count }); left = splice d 0 (new_record b c) })
           ≡ record { answer = Ok (record { written = length new; lost = count }); left = splice d 0 new } → (new_record b c ≡ new) × (c.count ≡ count)
       go true e = absurd (subst⁻¹ Answers (ap (λ (o : Outcome (Answer Clipped)). o.answer) e) tt)
       go false e =
@@ -94,6 +94,9 @@ module _ (b new : List ℕ) where
   number_in (Ok n) = n
   number_in (Err r) = 0
 
+  abbrev told : ℕ → ℕ → Answer Clipped
+  told n count = Ok (record { written = n; lost = count })
+
   counted_again : (o : Outcome (Answer Clipped)) → without_count o ≡ record { answer = Ok (length new); left = splice new 0 new }
       → o ≡ record { answer = Ok (record { written = length new; lost = count_in o.answer }); left = splice new 0 new }
   counted_again o e = go o.answer refl
@@ -101,9 +104,9 @@ module _ (b new : List ℕ) where
       go : (c : Answer Clipped) → o.answer ≡ c → o ≡ record { answer = Ok (record { written = length new; lost = count_in o.answer }); left = splice new 0 new }
       go (Ok got) p =
           let q : uncounted o.answer ≡ Ok (length new) = ap (λ (x : Outcome (Answer ℕ)). x.answer) e in
-          let got.written : got.written ≡ length new = ap number_in (sym (ap uncounted p) ∙ q) in
+          let n : got.written ≡ length new = ap number_in (sym (ap uncounted p) ∙ q) in
           let l : o.left ≡ splice new 0 new = ap (λ (x : Outcome (Answer ℕ)). x.left) e in
-          ap (λ (c : Answer Clipped). record { answer = c; left = o.left }) (p ∙ ap (λ (k : ℕ). (Ok (record { written = k; lost = got.lost }))) got.written ∙ ap (λ (k : ℕ). (Ok (record { written = length new; lost = k }))) (sym (ap count_in p)))
+          ap (λ (c : Answer Clipped). record { answer = c; left = o.left }) (p ∙ ap (λ (k : ℕ). told k got.lost) n ∙ ap (told (length new)) (sym (ap count_in p)))
           ∙ ap (λ (m : List ℕ). record { answer = Ok (record { written = length new; lost = count_in o.answer }); left = m }) l
       go (Err r) p = absurd (subst⁻¹ Counts (sym (ap uncounted p) ∙ ap (λ (x : Outcome (Answer ℕ)). x.answer) e) tt)
 

@@ -193,7 +193,7 @@ module _ (b : List ℕ) (amount : ℕ) (start : Bool) where
         within-is e = simp (le-ltb (length b) 32 l, le-ltb (length b) (tags_start b) t, le-ltb 268435455 (sum_of len_of (record_ops b)) s, e)
 
       -- a refusal of the ops' plan
-      pub refused-is : (r : Refusal) → PlannedIs (length (record_ops b)) (record_ops b) amount start (Ops.Refused r) → clipped_fate b amount start ≡ Refuses r
+      pub refused-is : (r : Refusal) → PlannedIs (length (record_ops b)) (record_ops b) amount start (Err r) → clipped_fate b amount start ≡ Refuses r
       refused-is r (inl h) = absurd (omega (arith, h.0))
       refused-is r (inr (inl h)) = long-is h.1 ∙ ap Refuses (sym h.2)
       refused-is r (inr (inr h)) = beyond_is h.1 h.2.0 ∙ ap Refuses (sym h.2.1)

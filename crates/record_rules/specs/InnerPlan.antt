@@ -1,5 +1,5 @@
 -- What planning a record hands on, as it stands to the definitions of `Clipping` and `Written`: places and numbers for lists.
-use Rattle.std.specs.Prelude.{ℕ, ◌+◌, ◌≤◌, ◌≡◌, Bool, List, [], ◌∷◌, ◌++◌, length, take, drop}
+use Rattle.std.specs.Prelude.{ℕ, ◌+◌, ◌≤◌, ◌≡◌, Bool, List, [], ◌∷◌, ◌++◌, length, take, drop, Ok, Err}
 use Rattle.answers.specs.Answer.{Answer}
 use Rattle.lists.specs.Lists.{facing}
 use Rattle.sam.specs.Record.{seq_len_of, op_count_of, tags_start}
@@ -28,5 +28,5 @@ pub record Fits (b : List ℕ) (p : RecordPlan) : Type 0 where
 
 -- what planning answers, of a fate
 abbrev pub FateIs : List ℕ → Bool → Fate → Answer RecordPlan → Type 0
-FateIs b start f (Planned.Made p) = (f ≡ Becomes (change_by b start p)) × Fits b p
-FateIs b start f (Planned.Refused r) = f ≡ Refuses r
+FateIs b start f (Ok p) = (f ≡ Becomes (change_by b start p)) × Fits b p
+FateIs b start f (Err r) = f ≡ Refuses r

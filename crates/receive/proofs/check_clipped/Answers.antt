@@ -9,7 +9,7 @@ use Rattle.receive.proofs.check_clipped.Goals as goal
 
 pub weigh-requires-clause-n_bound : goal.weigh-requires-clause-n_bound
 weigh-requires-clause-n_bound c =
-    let made : let a = c.args in FateIs a.sent.now a.start (clipped_fate a.sent.now a.amount a.start) (Planned.Made c.in-Ok.p) =
+    let made : let a = c.args in FateIs a.sent.now a.start (clipped_fate a.sent.now a.amount a.start) (Ok c.in-Ok.p) =
     let a = c.args in
     subst (FateIs a.sent.now a.start (clipped_fate a.sent.now a.amount a.start)) c.in-Ok.is c.plan_record.ensures
     in
@@ -21,7 +21,7 @@ weigh-requires-clause-n_bound c =
 
 pub returns-in-Ok : goal.returns-in-Ok
 returns-in-Ok c =
-    let made : let a = c.args in FateIs a.sent.now a.start (clipped_fate a.sent.now a.amount a.start) (Planned.Made c.in-Ok.p) =
+    let made : let a = c.args in FateIs a.sent.now a.start (clipped_fate a.sent.now a.amount a.start) (Ok c.in-Ok.p) =
     let a = c.args in
     subst (FateIs a.sent.now a.start (clipped_fate a.sent.now a.amount a.start)) c.in-Ok.is c.plan_record.ensures
     in

@@ -10,7 +10,7 @@ use Rattle.record_write.proofs.clip_record_end.Goals as goal
 
 pub returns-in-Ok : goal.returns-in-Ok
 returns-in-Ok c =
-    let made : FateIs c.args.bam.now false (clipped_fate c.args.bam.now c.args.amount false) (Planned.Made c.in-Ok.p) =
+    let made : FateIs c.args.bam.now false (clipped_fate c.args.bam.now c.args.amount false) (Ok c.in-Ok.p) =
     subst (FateIs c.args.bam.now false (clipped_fate c.args.bam.now c.args.amount false)) c.in-Ok.is c.plan_record.ensures
     in
     resettled (ap without_count (becomes_is c.args.bam.now c.args.out.now (made).0)) c.put_end.ensures

@@ -9,7 +9,7 @@ use Rattle.record_write.proofs.clip_record_start.Goals as goal
 
 pub returns-in-Ok : goal.returns-in-Ok
 returns-in-Ok c =
-    let made : FateIs c.args.bam.now true (clipped_fate c.args.bam.now c.args.amount true) (Planned.Made c.in-Ok.p) =
+    let made : FateIs c.args.bam.now true (clipped_fate c.args.bam.now c.args.amount true) (Ok c.in-Ok.p) =
     subst (FateIs c.args.bam.now true (clipped_fate c.args.bam.now c.args.amount true)) c.in-Ok.is c.plan_record.ensures
     in
     resettled (becomes_is c.args.bam.now c.args.out.now (made).0) c.put_start.ensures
