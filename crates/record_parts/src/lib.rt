@@ -1,139 +1,59 @@
 // The parts of a record: where they begin, bytes copied as they stand, and numbers stored. An inner crate.
 #![tactic(auto)]
 
-ghost use Rattle.std.specs.Prelude.{◌≡◌, ◌+◌, ◌≤◌, ◌<◌, length, take, drop};
+ghost use Rattle.std.specs.Prelude.{◌≡◌, ◌+◌, ◌*◌, ◌≤◌, ◌<◌, length, take, drop};
 ghost use Rattle.lists.specs.Lists.{splice};
 ghost use Rattle.sam.specs.Parts.{uint16};
 ghost use Rattle.sam.specs.Record.{bases_start, quals_start, tags_start, seq_len_of, uint32};
 
-// Copies n bytes, from place `from` on, to the places of out from `at` on, one by one.
-fn copy_each(rec: &[u8], from: usize, n: usize, out: &mut [u8], at: usize)
-    requires n_in_bounds { from + n ≤ length rec.now }
-    requires n_in_bounds_2 { at + n ≤ length out.old }
-    ensures { out.new ≡ splice out.old at (take n (drop from rec.now)) }
+// Copies the N bytes from place `at` on. The compiler knows N, so that they go in loads and stores, and C's memmove is not called.
+fn copy_block<const N: usize>(from: &[u8], to: &mut [u8], at: usize)
+    requires from_in_bounds { at + N ≤ length from.now }
+    requires to_in_bounds { at + N ≤ length to.old }
+    ensures { to.new ≡ splice to.old at (take N (drop at from.now)) }
 {
-    let mut j: usize = 0;
-    while j < n {
-        out[at + j] = rec[from + j];
-        j += 1;
-    }
+    to[at..at + N].copy_from_slice(&from[at..at + N]);
 }
 
-// Copies sixteen bytes. All are read before one is stored, so that they go in one load and one store, whatever the compiler knows of the two slices.
-fn copy_sixteen(rec: &[u8], from: usize, out: &mut [u8], at: usize)
-    requires from_in_bounds { from + 16 ≤ length rec.now }
-    requires at_in_bounds { at + 16 ≤ length out.old }
-    ensures { out.new ≡ splice out.old at (take 16 (drop from rec.now)) }
+// Copies N to 2 * N bytes: the first N and the last N, which meet or overlap.
+fn copy_ends<const N: usize>(from: &[u8], to: &mut [u8])
+    requires same_length { length from.now ≡ length to.old }
+    requires n_le_length { N ≤ length from.now }
+    requires length_bound { length from.now ≤ 2 * N }
+    ensures { to.new ≡ from.now }
 {
-    let mut held: [u8; 16] = [0; 16];
-    let mut i: usize = 0;
-    while i < 16 {
-        held[i] = rec[from + i];
-        i += 1;
-    }
-    let mut j: usize = 0;
-    while j < 16 {
-        out[at + j] = held[j];
-        j += 1;
-    }
+    let last = from.len() - N;
+    copy_block::<N>(from, to, 0);
+    copy_block::<N>(from, to, last);
 }
 
-// Copies four bytes, as a number.
-fn copy_four(rec: &[u8], from: usize, out: &mut [u8], at: usize)
-    requires from_in_bounds { from + 4 ≤ length rec.now }
-    requires at_in_bounds { at + 4 ≤ length out.old }
-    ensures { out.new ≡ splice out.old at (take 4 (drop from rec.now)) }
+// Copies more than 64 bytes, block by block; the last block may be copied twice in part.
+fn copy_blocks(from: &[u8], to: &mut [u8])
+    requires same_length { length from.now ≡ length to.old }
+    requires length_bound { 64 < length from.now }
+    ensures { to.new ≡ from.now }
 {
-    put_u32(little_endian::u32_at(rec, from), out, at);
+    for i in 0..(from.len() - 1) / 64 {
+        copy_block::<64>(from, to, 64 * i);
+    }
+    copy_block::<64>(from, to, from.len() - 64);
 }
 
-// Copies eight bytes.
-fn copy_eight(rec: &[u8], from: usize, out: &mut [u8], at: usize)
-    requires from_in_bounds { from + 8 ≤ length rec.now }
-    requires at_in_bounds { at + 8 ≤ length out.old }
-    ensures { out.new ≡ splice out.old at (take 8 (drop from rec.now)) }
+// Copies bytes. `copy_from_slice` alone would call C's memmove, and the archives ask for nothing of C.
+pub fn copy_bytes(from: &[u8], to: &mut [u8])
+    requires { length from.now ≡ length to.old }
+    ensures { to.new ≡ from.now }
 {
-    copy_four(rec, from, out, at);
-    copy_four(rec, from + 4, out, at + 4);
-}
-
-// Copies 32 bytes.
-fn copy_half_block(rec: &[u8], from: usize, out: &mut [u8], at: usize)
-    requires from_in_bounds { from + 32 ≤ length rec.now }
-    requires at_in_bounds { at + 32 ≤ length out.old }
-    ensures { out.new ≡ splice out.old at (take 32 (drop from rec.now)) }
-{
-    copy_sixteen(rec, from, out, at);
-    copy_sixteen(rec, from + 16, out, at + 16);
-}
-
-// Copies a block, which is 64 bytes.
-fn copy_block(rec: &[u8], from: usize, out: &mut [u8], at: usize)
-    requires from_in_bounds { from + 64 ≤ length rec.now }
-    requires at_in_bounds { at + 64 ≤ length out.old }
-    ensures { out.new ≡ splice out.old at (take 64 (drop from rec.now)) }
-{
-    copy_half_block(rec, from, out, at);
-    copy_half_block(rec, from + 32, out, at + 32);
-}
-
-// Copies fewer than sixteen bytes: the first eight or four and the last, which may be copied twice in part.
-fn copy_few(rec: &[u8], from: usize, n: usize, out: &mut [u8], at: usize)
-    requires n_bound { n < 16 }
-    requires n_in_bounds { from + n ≤ length rec.now }
-    requires n_in_bounds_2 { at + n ≤ length out.old }
-    ensures { out.new ≡ splice out.old at (take n (drop from rec.now)) }
-{
-    if n < 4 {
-        copy_each(rec, from, n, out, at);
-        return;
+    match from.len() {
+        0 => {}
+        1 => copy_ends::<1>(from, to),
+        2..=3 => copy_ends::<2>(from, to),
+        4..=7 => copy_ends::<4>(from, to),
+        8..=15 => copy_ends::<8>(from, to),
+        16..=32 => copy_ends::<16>(from, to),
+        33..=64 => copy_ends::<32>(from, to),
+        _ => copy_blocks(from, to),
     }
-    if n < 8 {
-        copy_four(rec, from, out, at);
-        copy_four(rec, from + (n - 4), out, at + (n - 4));
-        return;
-    }
-    copy_eight(rec, from, out, at);
-    copy_eight(rec, from + (n - 8), out, at + (n - 8));
-}
-
-// Copies at most 64 bytes: the same with the first and the last sixteen or half a block.
-fn copy_some(rec: &[u8], from: usize, n: usize, out: &mut [u8], at: usize)
-    requires n_bound { n ≤ 64 }
-    requires n_in_bounds { from + n ≤ length rec.now }
-    requires n_in_bounds_2 { at + n ≤ length out.old }
-    ensures { out.new ≡ splice out.old at (take n (drop from rec.now)) }
-{
-    if n < 16 {
-        copy_few(rec, from, n, out, at);
-        return;
-    }
-    if n <= 32 {
-        copy_sixteen(rec, from, out, at);
-        copy_sixteen(rec, from + (n - 16), out, at + (n - 16));
-        return;
-    }
-    copy_half_block(rec, from, out, at);
-    copy_half_block(rec, from + (n - 32), out, at + (n - 32));
-}
-
-// Copies n bytes, block by block; the last block may be copied twice in part.
-pub fn copy_bytes(rec: &[u8], from: usize, n: usize, out: &mut [u8], at: usize)
-    requires n_in_bounds { from + n ≤ length rec.now }
-    requires n_in_bounds_2 { at + n ≤ length out.old }
-    ensures { out.new ≡ splice out.old at (take n (drop from rec.now)) }
-{
-    if n <= 64 {
-        copy_some(rec, from, n, out, at);
-        return;
-    }
-    let last = n - 64;
-    let mut j: usize = 0;
-    while j < last {
-        copy_block(rec, from + j, out, at + j);
-        j += 64;
-    }
-    copy_block(rec, from + last, out, at + last);
 }
 
 // Stores a number of 16 bits.
@@ -141,8 +61,7 @@ pub fn put_u16(n: u32, out: &mut [u8], at: usize)
     requires { at + 2 ≤ length out.old }
     ensures { out.new ≡ splice out.old at (uint16 n) }
 {
-    out[at] = (n % 256) as u8;
-    out[at + 1] = (n / 256 % 256) as u8;
+    out[at..at + 2].copy_from_slice(&((n % 65536) as u16).to_le_bytes());
 }
 
 // Stores a number of 32 bits.
@@ -150,10 +69,7 @@ pub fn put_u32(n: u32, out: &mut [u8], at: usize)
     requires { at + 4 ≤ length out.old }
     ensures { out.new ≡ splice out.old at (uint32 n) }
 {
-    out[at] = (n % 256) as u8;
-    out[at + 1] = (n / 256 % 256) as u8;
-    out[at + 2] = (n / 256 / 256 % 256) as u8;
-    out[at + 3] = (n / 256 / 256 / 256 % 256) as u8;
+    out[at..at + 4].copy_from_slice(&n.to_le_bytes());
 }
 
 // Where a record's bases begin.

@@ -1,7 +1,8 @@
--- Four stores.
-use Rattle.lists.proofs.Splices.{splice_four}
+-- The number's bytes, the lowest first.
+use mathlib.Core.Path.{◌∙◌}
+use native.Mathlib.Omega.{arith}
+use Rattle.record_parts.proofs.PutLaws.{part_written, bytes_of}
 use Rattle.record_parts.proofs.put_u32.Goals as goal
 
 pub returns : goal.returns
-returns c =
-    splice_four c.args.out.now c.args.at _ _ _ _ c.requires
+returns c = part_written c.args.out.now _ _ c.args.at _ (omega arith) (c.copy_from_slice.ensures.after ∙ c.to_le_bytes.ensures ∙ bytes_of c.args.n)
