@@ -29,14 +29,16 @@ unfolding last_digits
 length_digits zero n = refl
 length_digits (suc k) n = length-append (last_digits k (n / 10)) _ ∙ omega (arith, length_digits k (n / 10))
 
--- a turn of the loop that puts digits from the right
-pub digits_turn : (j n at : ℕ) (l : List ℕ) → sets (set l (at + j) (48 + n % 10)) at (last_digits j (n / 10)) ≡ sets l at (last_digits (suc j) n)
+-- a turn of the loop that puts digits from the right, of which the next goes before place i
+pub digits_turn : (i at n : ℕ) (l : List ℕ) → at < i → sets (set l (i - 1) (48 + n % 10)) at (last_digits (i - 1 - at) (n / 10)) ≡ sets l at (last_digits (i - at) n)
 unfolding last_digits
-digits_turn j n at l =
+digits_turn i at n l h =
+    let j : ℕ = i - 1 - at in
     let e : length (last_digits j (n / 10)) ≡ j = length_digits j (n / 10) in
-    sym (set_sets (last_digits j (n / 10)) l at (at + j) (48 + n % 10) (omega arith))
-    ∙ ap (λ (k : ℕ). set (sets l at (last_digits j (n / 10))) (at + k) (48 + n % 10)) (sym e)
+    sym (set_sets (last_digits j (n / 10)) l at (i - 1) (48 + n % 10) (omega arith))
+    ∙ ap (λ (k : ℕ). set (sets l at (last_digits j (n / 10))) k (48 + n % 10)) {x = i - 1} {y = at + length (last_digits j (n / 10))} (omega arith)
     ∙ sym (sets_append (last_digits j (n / 10)) ((48 + n % 10) ∷ []) l at)
+    ∙ ap (λ (k : ℕ). sets l at (last_digits k n)) {x = suc j} {y = i - at} (omega arith)
 
 dec_digits : (k f n : ℕ) → k ≤ f → n < 10 ^ suc k → (0 < k → 10 ^ k ≤ n) → dec (suc f) n ≡ last_digits (suc k) n
 unfolding dec last_digits

@@ -1,15 +1,11 @@
 -- What is put behind what was put is put with it; a run of stores is put; decimal is as many digits as there are.
-use Prim.Native.Nat.{ℕ, suc, ◌+◌, ◌-◌, ◌≤◌, ◌<◌}
+use Prim.Native.Nat.{ℕ, suc, ◌+◌, ◌≤◌}
 use mathlib.Core.Path.{◌≡◌, refl, sym, ap, ◌∙◌, subst}
 use mathlib.Core.List.{List, [], ◌∷◌, ◌++◌, append_assoc, append-nil}
 use native.Mathlib.Omega.{arith}
 use lib.IntN.{ℤ, pos, negsuc, nat_abs}
 use lib.ListN.{length, take, drop, length-append}
 use lib.Seq.{sets, sets-eq, length-sets, take_at, take-take, length-take-le}
-use mir.Syntax.{w32}
-use mir.Val.{SFits}
-use Rattle.lists.proofs.Walks.{done}
-use Rattle.signed.specs.Whole.{raised}
 use Rattle.decimal.specs.Decimal.{decimal}
 use Rattle.decimal.specs.Inner.{Width, last_digits}
 use Rattle.decimal.proofs.DigitLaws.{decimal-digits, length_digits}
@@ -65,18 +61,3 @@ pub signed_is : (z : ℤ) → sign_of z ++ decimal (nat_abs z) ≡ signed_decima
 unfolding signed_decimal
 signed_is (pos n) = refl
 signed_is (negsuc n) = ap (λ (k : ℕ). 45 ∷ decimal k) {x = suc n} {y = n + 1} (omega arith)
-
-pub abs_low : (z : ℤ) → SFits w32 z → raised z < 2147483648 → 2147483648 - raised z ≡ nat_abs z
-unfolding raised
-abs_low (pos n) f h = absurd (omega arith)
-abs_low (negsuc n) f h = omega (arith, f.sfits)
-
-pub abs_high : (z : ℤ) → 2147483648 ≤ raised z → raised z - 2147483648 ≡ nat_abs z
-unfolding raised
-abs_high (pos n) h = omega arith
-abs_high (negsuc n) h = absurd (omega arith)
-
--- the end of the loop that puts a word
-module _ (word d : List ℕ) (at i : ℕ) where
-  pub word_done : length word ≤ i → sets d (at + i) (drop i word) ≡ d
-  word_done h = ap (sets d (at + i)) (done word i h)

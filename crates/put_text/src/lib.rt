@@ -1,7 +1,7 @@
 // Numbers and words, put into lent memory from a place on; each call answers the place behind what it put. An inner crate.
 #![tactic(auto)]
 
-ghost use Rattle.std.specs.Prelude.{◌≡◌, ◌+◌, ◌≤◌, length, nat_abs, [], ◌∷◌};
+ghost use Rattle.std.specs.Prelude.{◌≡◌, ◌+◌, ◌≤◌, length, [], ◌∷◌};
 ghost use Rattle.decimal.specs.Decimal.{decimal};
 ghost use Rattle.put_text.specs.Puts.{Put, sign_of, signed_decimal};
 
@@ -48,17 +48,6 @@ fn put_sign(z: i32, out: &mut [u8], at: usize) -> usize
     at
 }
 
-// z without its sign.
-fn magnitude(z: i32) -> u64
-    ensures { result ≡ nat_abs z }
-{
-    let up = signed::raise(z);
-    if up < 2147483648 {
-        return 2147483648 - up;
-    }
-    up - 2147483648
-}
-
 // A tab, and z in decimal.
 pub fn put_signed(z: i32, out: &mut [u8], at: usize) -> usize
     requires { at + 22 ≤ length out.old }
@@ -67,7 +56,7 @@ pub fn put_signed(z: i32, out: &mut [u8], at: usize) -> usize
 {
     let from = put_byte(b'\t', out, at);
     let digits = put_sign(z, out, from);
-    put_number(magnitude(z), out, digits)
+    put_number(u64::from(z.unsigned_abs()), out, digits)
 }
 
 // The bytes of a word.
@@ -75,10 +64,7 @@ pub fn put_bytes(word: &[u8], out: &mut [u8], at: usize) -> usize
     requires { at + length word.now ≤ length out.old }
     ensures { Put out.old at word.now result out.new }
 {
-    let mut i: usize = 0;
-    while i < word.len() {
-        out[at + i] = word[i];
-        i += 1;
-    }
-    at + word.len()
+    let end = at + word.len();
+    out[at..end].copy_from_slice(word);
+    end
 }
