@@ -1,18 +1,19 @@
--- Bytes that are moved to the front, one by one; and what a read did.
+-- Bytes that are moved to the front, and what a read did.
 use Prim.Native.Nat.{ℕ, zero, suc, ◌+◌, ◌-◌, ◌≤◌, ◌<◌}
 use mathlib.Core.Path.{◌≡◌, refl, sym, ap, subst, ◌∙◌}
-use mathlib.Core.Bool.{Bool, true, false}
-use mathlib.Core.Logic.{◌⊎◌, inl, inr}
+use mathlib.Core.Bool.{true, false}
+use mathlib.Core.Logic.{◌⊎◌, inl, inr, ◌≢◌}
 use mathlib.Core.List.{List, [], ◌∷◌, ◌++◌}
 use native.Mathlib.Omega.{arith}
-use lib.Dec.{eqb}
 use lib.IntN.{ℤ, pos, negsuc}
-use lib.Signed.{lt_z}
-use lib.ListN.{length, take, drop, get_or, set, length-drop, length-set, take-append-drop}
-use lib.Seq.{take-take, take-append-le, drop-drop, drop_at, get_or-drop, length-take-le, take-suc, take-suc-set, drop-set-lt, take-nil}
-use borrow.Author.Tests.{le-ltb}
-use Rattle.blocks.specs.Fill.{clamp_len, Filled, given, Gathers, Gathers.starts, Gathers.reads}
+use lib.ListN.{length, take, drop, length-drop, take-append-drop}
+use lib.Seq.{take-take, take-append-le, take_at, drop_at, length-take-le, take-nil}
+use borrow.Author.Tests.{ne_eqb}
+use Rattle.lists.proofs.Absurd.{never}
+use Rattle.blocks.specs.Fill.{is_over, source_of, clamp_len, Filled, given, Gathers, Gathers.starts, Gathers.reads}
 use Rattle.blocks.specs.declared.Read.{Read}
+use Rattle.blocks.specs.declared.Source.{Source}
+use Rattle.blocks.specs.declared.Source.TheVariants.{Open}
 
 -- ---- bytes that are moved to the front
 
@@ -23,63 +24,36 @@ drop-take (suc u) zero b = sym (ap (λ (k : ℕ). take k (drop (suc u) b)) {x = 
 drop-take (suc u) (suc h) [] = sym (take-nil (suc h - suc u))
 drop-take (suc u) (suc h) (x ∷ b) = drop-take u h b ∙ ap (λ (k : ℕ). take k (drop u b)) {x = h - u} {y = suc h - suc u} (omega arith)
 
--- up to i so far
-pub record Moved (b₀ : List ℕ) (used : ℕ) (b : List ℕ) (i : ℕ) : Type 0 where
-  pub same : length b ≡ length b₀
-  pub front : take (i - used) b ≡ take (i - used) (drop used b₀)
-  pub rest : drop i b ≡ drop i b₀
-
-pub moved_one : (b₀ b : List ℕ) (used i : ℕ) → Moved b₀ used b i → used ≤ i → i < length b → Moved b₀ used (set b (i - used) (get_or b i 0)) (i + 1)
-moved_one b₀ b used i m h k =
-    let j : ℕ = i - used in
-    let n : i + 1 - used ≡ suc j = omega arith in
-    let l = length-drop used b₀ in
-    let v : get_or b i 0 ≡ get_or (drop used b₀) j 0 =
-    ap (λ (a : ℕ). get_or b a 0) {x = i} {y = i + 0} (omega arith)
-    ∙ sym (get_or-drop i b 0 0)
-    ∙ ap (λ (l : List ℕ). get_or l 0 0) m.rest
-    ∙ get_or-drop i b₀ 0 0
-    ∙ ap (λ (a : ℕ). get_or b₀ a 0) {x = i + 0} {y = used + j} (omega arith)
-    ∙ sym (get_or-drop used b₀ j 0) in record {
-      same = length-set b j (get_or b i 0) ∙ m.same;
-      front =
-          ap (λ (a : ℕ). take a (set b j (get_or b i 0))) n
-          ∙ take-suc-set b j (get_or b i 0) (omega arith)
-          ∙ ap (λ (l : List ℕ). l ++ (get_or b i 0 ∷ [])) m.front
-          ∙ ap (λ (a : ℕ). take j (drop used b₀) ++ (a ∷ [])) v
-          ∙ sym (take-suc (drop used b₀) j 0 (omega (arith, m.same)))
-          ∙ ap (λ (a : ℕ). take a (drop used b₀)) (sym n);
-      rest =
-          drop-set-lt (i + 1) b j (get_or b i 0) (omega arith)
-          ∙ sym (drop-drop 1 i b)
-          ∙ ap (drop 1) m.rest
-          ∙ drop-drop 1 i b₀;
-    }
+-- n bytes of block from u on, copied to its front
+pub moved : (block : List ℕ) (u n : ℕ) → u + n ≤ length block → take n (take 0 block ++ take n (drop u block) ++ drop (0 + n) block) ≡ take n (drop u block)
+moved block u n h =
+    let l : length (take n (drop u block)) ≡ n = length-take-le n (drop u block) (omega (arith, length-drop u block)) in
+    take_at (take n (drop u block)) (drop (0 + n) block) n l
 
 -- ---- a read
 
-pub filled : (block block' : List ℕ) (have : ℕ) (got : ℤ) (n room : ℕ) (bad : Bool) → n ≡ clamp_len got room → room ≡ length block - have → bad ≡ lt_z got (pos 0) → length block' ≡ length block
-    → take have block' ≡ take have block → Filled block have (record { have = have + n; none = eqb n 0; failed = bad }) block'
-filled block block' have got n room bad e q f l k = record {
+filled : (block block' : List ℕ) (have : ℕ) (got : ℤ) (n room : ℕ) → n ≡ clamp_len got room → room ≡ length block - have → length block' ≡ length block → take have block' ≡ take have block
+    → Filled block have (record { have = have + n; source = source_of got n }) block'
+filled block block' have got n room e q l k = record {
   got = got;
-  is =
-      ap (λ (m : ℕ). record { have = have + m; none = eqb m 0; failed = bad }) (e ∙ ap (clamp_len got) q)
-      ∙ ap (λ (b : Bool). record { have = have + clamp_len got (length block - have); none = eqb (clamp_len got (length block - have)) 0; failed = b }) f;
+  is = ap (λ (m : ℕ). record { have = have + m; source = source_of got m }) (e ∙ ap (clamp_len got) q);
   same = l;
   kept = k;
 }
 
 -- it gave n bytes
 pub filled_some : (block new block' : List ℕ) (have n : ℕ) → n ≤ length new → length new ≡ length block - have → length block' ≡ length block
-    → take have block' ≡ take have block → Filled block have (record { have = have + n; none = eqb n 0; failed = false }) block'
-filled_some block new block' have n h q l k = filled block block' have (pos n) n (length new) false (omega (arith, h)) q (sym (le-ltb n 0 (omega arith))) l k
+    → take have block' ≡ take have block → n ≢ 0 → Filled block have (record { have = have + n; source = Open }) block'
+filled_some block new block' have n h q l k some =
+    subst (λ (x : Source). Filled block have (record { have = have + n; source = x }) block') (simp (ne_eqb n 0 some))
+    (filled block block' have (pos n) n (length new) (omega (arith, h)) q l k)
 
--- it failed
-pub filled_none : (block block' : List ℕ) (have room : ℕ) → room ≡ length block - have → length block' ≡ length block → take have block' ≡ take have block
-    → Filled block have (record { have = have; none = true; failed = true }) block'
-filled_none block block' have room q l k =
-    subst (λ (m : ℕ). Filled block have (record { have = m; none = true; failed = true }) block') {x = have + 0} {y = have} (omega arith)
-    (filled block block' have (negsuc 0) 0 room true refl q refl l k)
+-- it gave none
+pub filled_none : (block block' : List ℕ) (have : ℕ) (got : ℤ) → 0 ≡ clamp_len got (length block - have) → length block' ≡ length block → take have block' ≡ take have block
+    → Filled block have (record { have = have; source = source_of got 0 }) block'
+filled_none block block' have got e l k =
+    subst (λ (m : ℕ). Filled block have (record { have = m; source = source_of got 0 }) block') {x = have + 0} {y = have} (omega arith)
+    (filled block block' have got 0 (length block - have) e refl l k)
 
 -- the bytes that it gave stand behind those at hand
 pub given_read : (block new block' : List ℕ) (have n : ℕ) → n ≤ length new → have ≤ length block → (rest : List ℕ) → block' ≡ take have block ++ (new ++ rest)
@@ -96,18 +70,19 @@ module _ {block block' : List ℕ} {have : ℕ} {r : Read} (f : Filled block hav
   fill_more = omega (arith, ap (λ (q : Read). q.have) f.is)
 
   -- it gave none, or the bytes at hand are more
-  pub fill_some : (r.none ≡ true) ⊎ (have < r.have)
-  fill_some = go (clamp_len f.got (length block - have)) f.is
+  pub fill_some : (is_over r.source ≡ true) ⊎ (have < r.have)
+  fill_some = go f.got (clamp_len f.got (length block - have)) f.is
     where
-      go : (n : ℕ) → r ≡ record { have = have + n; none = eqb n 0; failed = lt_z f.got (pos 0) } → (r.none ≡ true) ⊎ (have < r.have)
-      go zero e = inl (ap (λ (q : Read). q.none) e)
-      go (suc n) e = inr (omega (arith, ap (λ (q : Read). q.have) e))
+      go : (got : ℤ) (n : ℕ) → r ≡ record { have = have + n; source = source_of got n } → (is_over r.source ≡ true) ⊎ (have < r.have)
+      go (pos k) zero e = inl (ap (λ (q : Read). is_over q.source) e)
+      go (negsuc k) zero e = inl (ap (λ (q : Read). is_over q.source) e)
+      go got (suc n) e = inr (omega (arith, ap (λ (q : Read). q.have) e))
 
-  pub fill_grows : r.none ≡ false → have < r.have
+  pub fill_grows : is_over r.source ≡ false → have < r.have
   fill_grows e = go fill_some
     where
-      go : (r.none ≡ true) ⊎ (have < r.have) → have < r.have
-      go (inl f) = let z : ◌≡◌ {A = ℕ} 0 1 = cc in absurd (omega arith)
+      go : (is_over r.source ≡ true) ⊎ (have < r.have) → have < r.have
+      go (inl f) = never (cc)
       go (inr h) = h
 
   -- what it gave stands behind the bytes at hand

@@ -17,13 +17,13 @@ gone g c = let f = c.fill-r.ensures.filled in record { read = _; gathers = reads
 bytes : (g : given.Over) (c : After-fill-r g) → Consumes (g.R.Read.remaining c.args.input.now) (g.R.Read.remaining c.fill-r.new.input) (take c.fill-r.result.have c.fill-r.new.block)
 bytes g c = subst (Consumes _ _) (sym (fill_behind c.fill-r.ensures.filled)) (Consumes-trans _ _ _ _ _ c.loop-r.invariant.bytes c.fill-r.ensures.bytes)
 
-pub returns-then-r-clause-first : goal.returns-then-r-clause-first
-returns-then-r-clause-first g c =
-    let f = gone g (goal.at.returns-then-r-clause-first g c).After-fill-r in
-    record { read = f.read; gathers = f.gathers; within = f.within; enough = λ e. let z : true ≡ false = sym c.if-r.true ∙ e in absurd (true≢false z) }
+pub returns-then-is_over-clause-first : goal.returns-then-is_over-clause-first
+returns-then-is_over-clause-first g c =
+    let f = gone g (goal.at.returns-then-is_over-clause-first g c).After-fill-r in
+    record { read = f.read; gathers = f.gathers; within = f.within; enough = λ e. let z : true ≡ false = sym c.if-is_over.true ∙ c.is_over.ensures ∙ e in absurd (true≢false z) }
 
-pub returns-then-r-clause-bytes : goal.returns-then-r-clause-bytes
-returns-then-r-clause-bytes g c = bytes g (goal.at.returns-then-r-clause-bytes g c).After-fill-r
+pub returns-then-is_over-clause-bytes : goal.returns-then-is_over-clause-bytes
+returns-then-is_over-clause-bytes g c = bytes g (goal.at.returns-then-is_over-clause-bytes g c).After-fill-r
 
 pub loop-r-preserved : goal.loop-r-preserved
-loop-r-preserved g c = let f = (goal.at.loop-r-preserved g c).After-fill-r in record { some = c.if-r.false; first = gone g f; bytes = bytes g f }
+loop-r-preserved g c = let f = (goal.at.loop-r-preserved g c).After-fill-r in record { some = sym c.is_over.ensures ∙ c.if-is_over.false; first = gone g f; bytes = bytes g f }

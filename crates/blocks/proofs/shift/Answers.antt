@@ -1,8 +1,6 @@
-use Rattle.std.proofs.Common.{arith}
-use Rattle.blocks.proofs.BlockLaws.{moved_one}
+use Rattle.std.proofs.Common.{◌-◌, take, ap, ◌∙◌, arith}
+use Rattle.blocks.proofs.BlockLaws.{moved}
 use Rattle.blocks.proofs.shift.Goals as goal
 
-pub loop-i-preserved : goal.loop-i-preserved
-loop-i-preserved c =
-    let m = c.loop-i.invariant in
-    (omega arith, omega arith, moved_one c.args.block.now c.loop-i.block c.args.used c.loop-i.i m.2 (omega arith) (omega (arith, m.2.same)))
+pub returns : goal.returns
+returns c = ap (take (c.args.have - c.args.used)) c.copy_within.ensures.after ∙ moved c.args.block.now c.args.used (c.args.have - c.args.used) (omega arith)
