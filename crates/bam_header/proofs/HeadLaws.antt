@@ -2,14 +2,16 @@
 use Prim.Native.Nat.{ℕ, zero, suc, ◌+◌, ◌-◌, ◌≤◌, ◌<◌}
 use mathlib.Core.Path.{◌≡◌, refl, sym, ap, ◌∙◌}
 use mathlib.Core.Bool.{Bool, true, false, cond}
-use mathlib.Core.List.{List, [], ◌++◌, append-nil}
+use mathlib.Core.List.{List, [], ◌∷◌, ◌++◌, append-nil}
+use Rattle.std.specs.List.{starts_with}
+use Rattle.std.proofs.Common.{rules}
 use native.Mathlib.Omega.{arith}
 use lib.Dec.{ltb, eqb}
 use lib.ListN.{length, drop, length-append, length-drop}
 use lib.Seq.{drop-append-le, drop-drop}
-use borrow.Author.Tests.{lt-ltb, le-ltb, ltb-true, ltb-false, eq-eqb, eqb-true}
+use borrow.Author.Tests.{lt-ltb, le-ltb, ltb-true, ltb-false, eqb-true}
 use Rattle.lists.proofs.Absurd.{never}
-use Rattle.sam.specs.Record.{byte_at, le32}
+use Rattle.sam.specs.Record.{le32}
 use Rattle.little_endian.proofs.FrontLaws.{front_number}
 use Rattle.bam_header.specs.Header.{Head, Head.Records, Head.CutShort, is_bam, past_bytes, past_number, references, counted, texted}
 use Rattle.bam_header.specs.Inner.{from_part, from_place, is_records, is_begun, is_ready, behind_number, HeadGone, HeadWent}
@@ -20,9 +22,17 @@ use Rattle.bam_header.specs.declared.Step.{Step}
 
 -- ---- the magic
 
-pub magic_last : (s : List ℕ) → 4 ≤ length s → byte_at s 0 ≡ 66 → byte_at s 1 ≡ 65 → byte_at s 2 ≡ 77 → eqb (byte_at s 3) 1 ≡ is_bam s
+eqb_comm : (a b : ℕ) → eqb a b ≡ eqb b a
+eqb_comm a b = search rules
+
+-- its bytes stand in front
+pub starts_bam : (s : List ℕ) → starts_with eqb s (66 ∷ 65 ∷ 77 ∷ 1 ∷ []) ≡ is_bam s
 unfolding is_bam
-magic_last s h a b c = simp (le-ltb (length s) 4 h, eq-eqb (byte_at s 0) 66 a, eq-eqb (byte_at s 1) 65 b, eq-eqb (byte_at s 2) 77 c)
+starts_bam [] = refl
+starts_bam (a ∷ []) = search rules
+starts_bam (a ∷ b ∷ []) = search rules
+starts_bam (a ∷ b ∷ c ∷ []) = search rules
+starts_bam (a ∷ b ∷ c ∷ d ∷ s) = simp (eqb_comm 66 a, eqb_comm 65 b, eqb_comm 77 c, eqb_comm 1 d, le-ltb (suc (suc (suc (suc (length s))))) 4 (omega arith)) (search rules)
 
 -- ---- bytes that are skipped
 

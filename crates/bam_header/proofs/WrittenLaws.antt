@@ -9,7 +9,7 @@ use lib.Seq.{drop_at}
 use Rattle.sam.specs.Record.{le32, uint32}
 use Rattle.bam_header.specs.Header.{Head, Head.Records, Head.NotBam, past_bytes, past_number, references, counted, texted, head_of}
 use Rattle.bam_header.specs.Written.{Reference, reference, all_of, head_bytes, SmallNames}
-use Rattle.bam_header.proofs.HeadLaws.{magic_last, past_long, number_in}
+use Rattle.bam_header.proofs.HeadLaws.{starts_bam, past_long, number_in}
 
 number_of : (n : ℕ) (f : ℕ → List ℕ → Head) (s : List ℕ) → n < 4294967296 → past_number f (uint32 n ++ s) ≡ f n s
 number_of n f s h = number_in f (uint32 n) s (omega arith) ∙ ap (λ (k : ℕ). f k s) {x = le32 (uint32 n) 0} {y = n} (omega arith)
@@ -31,7 +31,7 @@ references_of (r ∷ rs) s h =
 
 magic_of : (s : List ℕ) → head_of (66 ∷ 65 ∷ 77 ∷ 1 ∷ s) ≡ texted s
 unfolding head_of
-magic_of s = ap (λ (b : Bool). cond b (texted s) NotBam) (sym (magic_last (66 ∷ 65 ∷ 77 ∷ 1 ∷ s) (omega arith) refl refl refl))
+magic_of s = ap (λ (b : Bool). cond b (texted s) NotBam) (sym (starts_bam (66 ∷ 65 ∷ 77 ∷ 1 ∷ s)))
 
 pub read_back : (text : List ℕ) (refs : List Reference) (s : List ℕ) → length text < 4294967296 → length refs < 4294967296 → SmallNames refs → head_of (head_bytes text refs ++ s) ≡ Records s
 unfolding texted counted head_bytes

@@ -1,7 +1,7 @@
 // The SAM specification's section 4.2: where the records of a BAM stream begin, found block by block wherever the stream is cut. An inner crate of the program `bam_to_cgr`.
 #![tactic(auto)]
 
-ghost use Rattle.std.specs.Prelude.{◌≡◌, true, false, List, ℕ, ◌<◌, min, length};
+ghost use Rattle.std.specs.Prelude.{◌≡◌, true, false, List, ℕ, ◌<◌, length};
 ghost use Rattle.bam_header.specs.Header.{is_bam, texted};
 ghost use Rattle.bam_header.specs.Inner.{is_records, from_place, behind_number, is_ready, is_begun, HeadGone, HeadWent};
 
@@ -31,19 +31,7 @@ pub struct Step {
 pub fn magic(s: &[u8]) -> bool
     ensures { result ≡ is_bam s.now }
 {
-    if s.len() < 4 {
-        return false;
-    }
-    if s[0] != b'B' {
-        return false;
-    }
-    if s[1] != b'A' {
-        return false;
-    }
-    if s[2] != b'M' {
-        return false;
-    }
-    s[3] == 1
+    s.starts_with(b"BAM\x01")
 }
 
 // The place behind the magic.
@@ -60,22 +48,14 @@ pub fn start() -> HeadPlace
 fn is_records(part: HeadPart) -> bool
     ensures { result ≡ is_records part }
 {
-    match part {
-        HeadPart::TextSize => false,
-        HeadPart::Count => false,
-        HeadPart::Names(left) => left == 0,
-    }
+    matches!(part, HeadPart::Names(0))
 }
 
 // Whether the records begin here.
 pub fn begun(p: HeadPlace) -> bool
     ensures { result ≡ is_begun p }
 {
-    if 0 < p.skip {
-        return false;
-    }
-    let part = p.part;
-    is_records(part)
+    p.skip == 0 && is_records(p.part)
 }
 
 // Whether n bytes at hand are enough to go on.
@@ -85,17 +65,7 @@ fn ready(p: HeadPlace, n: usize) -> bool
     if 0 < p.skip {
         return 0 < n;
     }
-    let part = p.part;
-    if is_records(part) {
-        return false;
-    }
-    3 < n
-}
-
-fn wide(x: u32) -> u64
-    ensures { (result ≡ x) × (result < 4294967296) }
-{
-    x as u64
+    !is_records(p.part) && 4 <= n
 }
 
 // The place behind a number: a text is skipped, and a name with the length behind it.
@@ -105,7 +75,7 @@ fn behind_number(part: HeadPart, number: u32) -> HeadPlace
 {
     match part {
         HeadPart::TextSize => HeadPlace {
-            skip: wide(number),
+            skip: u64::from(number),
             part: HeadPart::Count,
         },
         HeadPart::Count => HeadPlace {
@@ -113,20 +83,10 @@ fn behind_number(part: HeadPart, number: u32) -> HeadPlace
             part: HeadPart::Names(number),
         },
         HeadPart::Names(left) => HeadPlace {
-            skip: wide(number) + 4,
+            skip: u64::from(number) + 4,
             part: HeadPart::Names(left - 1),
         },
     }
-}
-
-// How many of n bytes are skipped.
-fn skipped(skip: u64, n: usize) -> usize
-    ensures { result ≡ min skip n }
-{
-    if skip < n as u64 {
-        return skip as usize;
-    }
-    n
 }
 
 // One turn: bytes are skipped, or a number is read.
@@ -135,21 +95,20 @@ fn turn(s: &[u8], p: HeadPlace) -> Step
     ensures head_gone { HeadGone s.now p result }
     ensures used_nonzero { 0 < result.used }
 {
-    let part = p.part;
     if 0 < p.skip {
-        let n = skipped(p.skip, s.len());
+        let n = p.skip.min(s.len() as u64);
         return Step {
-            used: n,
+            used: n as usize,
             place: HeadPlace {
-                skip: p.skip - n as u64,
-                part: part,
+                skip: p.skip - n,
+                ..p
             },
         };
     }
     let number = little_endian::u32_at(s, 0);
     Step {
         used: 4,
-        place: behind_number(part, number),
+        place: behind_number(p.part, number),
     }
 }
 
@@ -159,15 +118,10 @@ pub fn read_on(s: &[u8], from: HeadPlace) -> Step
 {
     let mut used: usize = 0;
     let mut place = from;
-    loop {
-        if !ready(place, s.len() - used) {
-            return Step {
-                used: used,
-                place: place,
-            };
-        }
+    while ready(place, s.len() - used) {
         let step = turn(&s[used..], place);
         used += step.used;
         place = step.place;
     }
+    Step { used, place }
 }

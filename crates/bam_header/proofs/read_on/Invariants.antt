@@ -3,8 +3,8 @@ use Rattle.bam_header.specs.Inner.{HeadGone}
 use Rattle.bam_header.proofs.read_on.Given as goal
 
 -- Each turn goes on from the place reached.
-abbrev pub invariant-loop-place : goal.invariant-loop-place
-invariant-loop-place l = HeadGone l.s l.fn.from (record { used = l.used; place = l.place })
+abbrev pub invariant-loop-step : goal.invariant-loop-step
+invariant-loop-step l = HeadGone l.s l.fn.from (record { used = l.used; place = l.place })
 
-abbrev pub decreases-loop-place : goal.decreases-loop-place
-decreases-loop-place l = length l.s - l.used
+abbrev pub decreases-loop-step : goal.decreases-loop-step
+decreases-loop-step l = length l.s - l.used

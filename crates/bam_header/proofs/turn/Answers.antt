@@ -10,8 +10,8 @@ use Rattle.bam_header.proofs.turn.Goals as goal
 pub returns-then-p-gt0-clause-head_gone : goal.returns-then-p-gt0-clause-head_gone
 returns-then-p-gt0-clause-head_gone c =
     let p = c.args.p in
-    let n = c.skipped-n.result in
-    let e = c.skipped-n.ensures in
+    let n = c.min-n.result in
+    let e = c.min-n.ensures in
     let some = ready_skip p (length c.args.s.now) c.requires c.if-p-gt0.true in
     record { within = omega arith; same = λ ys. past_some p.skip n (from_part p.part) c.args.s.now ys (omega arith) (omega arith) }
 
