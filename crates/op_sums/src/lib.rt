@@ -5,11 +5,10 @@ ghost use Rattle.std.specs.Prelude.{◌≡◌, cond, ◌+◌, ◌*◌, ◌≤◌
 ghost use Rattle.lists.specs.Lists.{sum_of};
 ghost use Rattle.signed.specs.Whole.{clamp32};
 ghost use Rattle.sam.specs.Op.{len_of, is_ref, is_query, ref_len, query_len};
-ghost use Rattle.oplist.specs.Ops.{ops_of};
 ghost use Rattle.length_rules.specs.Lengths.{as_int};
 
 use answers::{Answer, Refusal};
-use oplist::Ops;
+use oplist::OpList;
 
 // The reference and query bases of an op list.
 #[derive(Clone, Copy)]
@@ -19,32 +18,27 @@ pub struct Totals {
 }
 
 // The walk, over the ops from place `from` on that stand before place `end`.
-pub fn sums_between(words: &[u32], rec: &[u8], list: Ops, from: usize, end: usize) -> Totals
-    requires { (from ≤ end) × (end ≤ length (ops_of words.now rec.now list)) × (end ≤ 4294967295) }
-    ensures list_value { (result.refs + sum_of ref_len (drop end (ops_of words.now rec.now list)) ≡ sum_of ref_len (drop from (ops_of words.now rec.now list))) × (result.query + sum_of query_len (drop end (ops_of words.now rec.now list)) ≡ sum_of query_len (drop from (ops_of words.now rec.now list))) }
+pub fn sums_between<L: OpList>(list: L, from: usize, end: usize) -> Totals
+    requires { (from ≤ end) × (end ≤ length (L.ops list)) }
+    ensures list_value { (result.refs + sum_of ref_len (drop end (L.ops list)) ≡ sum_of ref_len (drop from (L.ops list))) × (result.query + sum_of query_len (drop end (L.ops list)) ≡ sum_of query_len (drop from (L.ops list))) }
     ensures refs_bound { (result.refs ≤ 1152921504606846976) × (result.query ≤ 1152921504606846976) }
 {
     let mut refs: u64 = 0;
     let mut query: u64 = 0;
-    let mut i = from;
-    while i < end {
-        let op = oplist::op_at(words, rec, list, i);
+    for i in from..end {
+        let op = list.op(i);
         refs += ops::ref_len(op);
         query += ops::query_len(op);
-        i += 1;
     }
-    Totals {
-        refs: refs,
-        query: query,
-    }
+    Totals { refs, query }
 }
 
 // The walk over all ops.
-pub fn sums(words: &[u32], rec: &[u8], list: Ops) -> Totals
-    ensures refs_value { (result.refs ≡ sum_of ref_len (ops_of words.now rec.now list)) × (result.query ≡ sum_of query_len (ops_of words.now rec.now list)) }
+pub fn sums<L: OpList>(list: L) -> Totals
+    ensures refs_value { (result.refs ≡ sum_of ref_len (L.ops list)) × (result.query ≡ sum_of query_len (L.ops list)) }
     ensures refs_bound { (result.refs ≤ 1152921504606846976) × (result.query ≤ 1152921504606846976) }
 {
-    sums_between(words, rec, list, 0, oplist::count(words, rec, list))
+    sums_between(list, 0, list.count())
 }
 
 // What each base of an op with this code counts in a sum of both: 1 for the reference, 2^32 for the query. Every code has an arm, so that the compiler makes one load of it.
@@ -80,16 +74,13 @@ fn both_lens(op: u32) -> u64
 }
 
 // Both sums of all ops in one number, for lists that are not too long to be clipped: the query's in the high half.
-pub fn short_sums(words: &[u32], rec: &[u8], list: Ops) -> Totals
-    requires { sum_of len_of (ops_of words.now rec.now list) < 268435456 }
-    ensures { (result.refs ≡ sum_of ref_len (ops_of words.now rec.now list)) × (result.query ≡ sum_of query_len (ops_of words.now rec.now list)) }
+pub fn short_sums<L: OpList>(list: L) -> Totals
+    requires { sum_of len_of (L.ops list) < 268435456 }
+    ensures { (result.refs ≡ sum_of ref_len (L.ops list)) × (result.query ≡ sum_of query_len (L.ops list)) }
 {
-    let n = oplist::count(words, rec, list);
     let mut both: u64 = 0;
-    let mut i: usize = 0;
-    while i < n {
-        both += both_lens(oplist::op_at(words, rec, list, i));
-        i += 1;
+    for i in 0..list.count() {
+        both += both_lens(list.op(i));
     }
     Totals {
         refs: both % 0x1_0000_0000,

@@ -1,13 +1,14 @@
 -- Document 01: "lent op lists hold at most 65,535 ops"; an op list lies in a lent list or in a record, and is empty where it overruns the record.
--- The ops that an `Ops` stands for: in the bytes of a record, none where they overrun it, or the first of a list.
-use Rattle.std.specs.Prelude.{ℕ, ◌+◌, ◌*◌, cond, List, [], length, take, leb}
+use Rattle.std.specs.Prelude.{ℕ, ◌+◌, ◌*◌, ◌/◌, cond, List, [], length, leb}
 use Rattle.sam.specs.Record.{ops_in, ops_start, ops_end, op_count_of}
-use Rattle.oplist.specs.declared.Ops.{Ops}
 
-unfoldable pub ops_of : List ℕ → List ℕ → Ops → List ℕ
-ops_of words rec ops =
-    cond ops.inside (cond (leb (ops.at + 4 * ops.n) (length rec)) (ops_in rec ops.at ops.n) [])
-    (take ops.n words)
+-- the ops in bytes that hold nothing else
+unfoldable pub ops_in_bytes : List ℕ → List ℕ
+ops_in_bytes b = ops_in b 0 (length b / 4)
+
+-- the n ops from place `at` of a record on; none where they end past it
+unfoldable pub area_ops : List ℕ → ℕ → ℕ → List ℕ
+area_ops b at n = cond (leb (at + 4 * n) (length b)) (ops_in b at n) []
 
 -- the most ops of a list, given or parsed: refusal 3
 abbrev pub most_ops : ℕ

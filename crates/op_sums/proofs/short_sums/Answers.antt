@@ -2,29 +2,28 @@
 use native.Mathlib.Omega.{arith}
 use Rattle.lists.proofs.Walks.{sum_step, sum_done}
 use Rattle.sam.specs.Op.{ref_len, query_len}
-use Rattle.oplist.specs.Ops.{ops_of}
 use Rattle.op_sums.proofs.Weights.{refs_short, queries_short}
 use Rattle.op_sums.proofs.short_sums.Goals as goal
 
 pub overflow_add-both : goal.overflow_add-both
-overflow_add-both c =
-    let xs = ops_of c.args.words.now c.args.rec.now c.args.list in
-    let r = sum_step ref_len xs c.loop-i.i _ c.op_at.ensures (omega arith) in
-    let q = sum_step query_len xs c.loop-i.i _ c.op_at.ensures (omega arith) in
+overflow_add-both g c =
+    let xs = g.L.OpList.ops c.args.list in
+    let r = sum_step ref_len xs c.loop-i.i _ c.op.ensures (omega arith) in
+    let q = sum_step query_len xs c.loop-i.i _ c.op.ensures (omega arith) in
     let s = refs_short xs in
     let t = queries_short xs in
     omega arith
 
 pub loop-i-preserved : goal.loop-i-preserved
-loop-i-preserved c =
-    let xs = ops_of c.args.words.now c.args.rec.now c.args.list in
-    let r = sum_step ref_len xs c.loop-i.i _ c.op_at.ensures (omega arith) in
-    let q = sum_step query_len xs c.loop-i.i _ c.op_at.ensures (omega arith) in
-    (omega arith, omega arith)
+loop-i-preserved g c =
+    let xs = g.L.OpList.ops c.args.list in
+    let r = sum_step ref_len xs c.loop-i.i _ c.op.ensures (omega arith) in
+    let q = sum_step query_len xs c.loop-i.i _ c.op.ensures (omega arith) in
+    omega arith
 
 pub returns : goal.returns
-returns c =
-    let xs = ops_of c.args.words.now c.args.rec.now c.args.list in
+returns g c =
+    let xs = g.L.OpList.ops c.args.list in
     let r = sum_done ref_len xs c.loop-i.i (omega arith) in
     let q = sum_done query_len xs c.loop-i.i (omega arith) in
     let s = refs_short xs in

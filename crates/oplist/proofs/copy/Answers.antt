@@ -1,33 +1,18 @@
-use Rattle.std.proofs.Common.{ℕ, List, ◌+◌, sym, ap, ◌∙◌, refl, arith, take, drop, set, length-set, rules}
-use Rattle.lists.specs.Lists.{splice}
+use Rattle.std.proofs.Common.{◌≡◌, sym, refl, arith, length-set}
 use Rattle.lists.proofs.ListLaws.{splice_nil, splice_turn}
-use Rattle.oplist.specs.Ops.{ops_of}
-use Rattle.oplist.proofs.OpsLaws.{few}
 use Rattle.oplist.proofs.copy.Goals as goal
 
 pub loop-j-init : goal.loop-j-init
-loop-j-init c = (search rules, sym (splice_nil _ _), refl)
+loop-j-init g c = (sym (splice_nil _ _), refl)
 
 pub overflow_add-from : goal.overflow_add-from
-overflow_add-from c =
-    let f = few c.args.words.now c.args.rec.now c.args.ops in
-    omega arith
+overflow_add-from g c = omega (arith, g.met.L.OpList.few c.args.list)
 
 pub loop-j-preserved : goal.loop-j-preserved
-loop-j-preserved c =
+loop-j-preserved g c =
     let a = c.args in
     let k = c.loop-j in
-    let xs = ops_of a.words.now a.rec.now a.ops in (
-      omega arith,
-      ap (λ (l : List ℕ). set l (a.at + k.j) c.op_at.result) k.invariant.1
-          ∙ ap (set (splice a.out.now a.at (take k.j (drop a.from xs))) (a.at + k.j)) c.op_at.ensures
-          ∙ splice_turn a.out.now a.at xs a.from k.j (omega arith) (omega arith),
-      simp length-set k.invariant.2,
-    )
+    (rw (k.invariant.0, c.op.ensures) (splice_turn a.out.now a.at (g.L.OpList.ops a.list) a.from k.j (omega arith) (omega arith)), simp length-set k.invariant.1)
 
 pub returns : goal.returns
-returns c =
-    let a = c.args in
-    let k = c.loop-j in
-    let xs = ops_of a.words.now a.rec.now a.ops in
-    k.invariant.1 ∙ ap (λ (n : ℕ). splice a.out.now a.at (take n (drop a.from xs))) (omega arith)
+returns g c = let e : c.loop-j.j ≡ c.args.n = omega arith in rw (c.loop-j.invariant.0, e)
