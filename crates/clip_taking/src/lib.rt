@@ -2,13 +2,11 @@
 #![tactic(auto)]
 
 ghost use Rattle.std.specs.Prelude.{◌≡◌, false, List, ◌∷◌, ℕ, ◌+◌, ◌<◌, ◌≤◌, ◌^◌, length, drop};
-ghost use Rattle.lists.specs.Lists.{facing};
 ghost use Rattle.sam.specs.Op.{op_of};
-ghost use Rattle.oplist.specs.Ops.{ops_of};
 ghost use Rattle.clip_rules.specs.Clipping.{goes, more, ends};
 ghost use Rattle.clip_rules.specs.InnerPlan.{TakingIs, taken_of};
 
-use oplist::Ops;
+use oplist::OpList;
 
 // Read bases taken: `next` is the place of the first op that is left whole, and where `cut` is 1,
 // `rest` is what is left of the op before it.
@@ -81,17 +79,15 @@ fn stop(i: usize, n: u64, op: u32, bases: u64, lost: u64) -> Taking
 }
 
 // Takes n read bases from place `from` on.
-pub fn take_bases(words: &[u32], rec: &[u8], list: Ops, start: bool, from: usize, n: u64) -> Taking
-    requires { from ≤ length (ops_of words.now rec.now list) }
-    ensures { TakingIs (facing start (ops_of words.now rec.now list)) from n result.next result.bases result.lost result.cut result.rest }
+pub fn take_bases<L: OpList>(list: L, from: usize, n: u64) -> Taking
+    requires { from ≤ length (L.ops list) }
+    ensures { TakingIs (L.ops list) from n result.next result.bases result.lost result.cut result.rest }
 {
-    let count = oplist::count(words, rec, list);
     let mut left = n;
     let mut bases: u64 = 0;
     let mut lost: u64 = 0;
-    let mut i = from;
-    while i < count {
-        let op = oplist::op_from(words, rec, list, count, start, i);
+    for i in from..list.count() {
+        let op = list.op(i);
         if !goes_on(left, op) {
             return stop(i, left, op, bases, lost);
         }
@@ -99,12 +95,11 @@ pub fn take_bases(words: &[u32], rec: &[u8], list: Ops, start: bool, from: usize
         left -= k;
         bases += k;
         lost += ops::ref_len(op);
-        i += 1;
     }
     Taking {
-        next: i,
-        bases: bases,
-        lost: lost,
+        next: list.count(),
+        bases,
+        lost,
         cut: 0,
         rest: 0,
     }

@@ -4,7 +4,6 @@
 ghost use Rattle.std.specs.Prelude.{◌≡◌, ℕ, ◌+◌, ◌≤◌, ◌<◌, List, ◌∷◌, pos};
 ghost use Rattle.lists.specs.Lists.{sum_of};
 ghost use Rattle.sam.specs.Op.{ref_len};
-ghost use Rattle.oplist.specs.Ops.{ops_of};
 ghost use Rattle.clip_run_rules.specs.Clips.{clips_after_reference};
 ghost use Rattle.ends_rules.specs.Sums.{◌⊕◌, ◌⊖◌, summed};
 ghost use Rattle.ends_rules.specs.Ends.{provided};
@@ -12,7 +11,7 @@ ghost use Rattle.ends_rules.specs.Tails.{greatest_run};
 ghost use Rattle.ends_rules.specs.InnerTails.{met};
 
 use ends_rules::Tail;
-use oplist::Ops;
+use oplist::OpList;
 
 // One op more: whatever ops are left, the walk comes to the same.
 fn meet(w: Tail, op: u32) -> Tail
@@ -52,21 +51,17 @@ fn meet(w: Tail, op: u32) -> Tail
 }
 
 // The walk to the end.
-pub fn tail_of(words: &[u32], rec: &[u8], list: Ops) -> Tail
-    ensures { (result.refs ≡ sum_of ref_len (ops_of words.now rec.now list)) × (result.clips ≡ clips_after_reference (ops_of words.now rec.now list)) × (result.most ≡ greatest_run (ops_of words.now rec.now list)) × (result.clips ≤ result.most) }
+pub fn tail_of<L: OpList>(list: L) -> Tail
+    ensures { (result.refs ≡ sum_of ref_len (L.ops list)) × (result.clips ≡ clips_after_reference (L.ops list)) × (result.most ≡ greatest_run (L.ops list)) × (result.clips ≤ result.most) }
 {
-    let n = oplist::count(words, rec, list);
     let mut w = Tail {
         refs: 0,
         clips: 0,
         most: 0,
         saw: false,
     };
-    let mut i: usize = 0;
-    while i < n {
-        let op = oplist::op_at(words, rec, list, i);
-        w = meet(w, op);
-        i += 1;
+    for i in 0..list.count() {
+        w = meet(w, list.op(i));
     }
     w
 }

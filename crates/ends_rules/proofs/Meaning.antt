@@ -17,7 +17,7 @@ use Rattle.sam.specs.Columns.{columns, refs}
 use Rattle.sam.specs.Record.{is_short, pos_of, flags_of, is_unmapped, is_reverse, op_count_of, ops_start, ops_end, ops_in}
 use Rattle.sam.proofs.LengthLaws.{reference_length}
 use Rattle.oplist.specs.Ops.{record_ops}
-use Rattle.oplist.proofs.OpsLaws.{length_ops_in}
+use Rattle.oplist.specs.Few.{length_ops_in}
 use Rattle.answers.specs.declared.Pos0.{Pos0}
 use Rattle.answers.specs.declared.Pos1.{Pos1}
 use Rattle.answers.specs.declared.Refusal.TheVariants.{ShortRecord}

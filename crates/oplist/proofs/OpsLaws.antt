@@ -3,6 +3,7 @@ use Rattle.std.proofs.Common.{◌≡◌, refl, sym, ap, ◌∙◌, Bool, true, f
 use Rattle.std.proofs.lemmas.Bool.{lt-leb}
 use lib.Seq.{get_or-take, get_or-drop}
 use Rattle.sam.specs.Record.{le32, ops_in, ops_start, op_count_of, ops_end}
+use Rattle.oplist.specs.declared.Area.{Area}
 use Rattle.oplist.specs.Ops.{ops_in_bytes, area_ops, record_ops}
 use Rattle.oplist.specs.Few.{count_is}
 
@@ -57,9 +58,9 @@ unfolding area_ops record_ops
 record_is b at n p q = simp (p, q)
 
 -- whether a record's ops end within it
-module _ (b : List ℕ) (at n : ℕ) (p : (at ≡ ops_start b) × (n ≡ op_count_of b)) (t : Bool) (e : t ≡ leb (at + 4 * n) (length b)) where
+module _ (b : List ℕ) (o : Area) (p : (o.at ≡ ops_start b) × (o.n ≡ op_count_of b)) (t : Bool) (e : t ≡ leb (o.at + 4 * o.n) (length b)) where
   pub lies : t ≡ true → ops_end b ≤ length b
-  lies q = let h = leb-true (at + 4 * n) (length b) (sym e ∙ q) in omega (arith, p.0, p.1)
+  lies q = let h = leb-true (o.at + 4 * o.n) (length b) (sym e ∙ q) in omega (arith, p.0, p.1)
 
   pub overruns : t ≡ false → length b < ops_end b
-  overruns q = let h = leb-false (at + 4 * n) (length b) (sym e ∙ q) in omega (arith, p.0, p.1)
+  overruns q = let h = leb-false (o.at + 4 * o.n) (length b) (sym e ∙ q) in omega (arith, p.0, p.1)

@@ -10,7 +10,7 @@ use lib.ListN.{length, get_or, take, drop}
 use Rattle.lists.proofs.ListLaws.{reverse_drop}
 use Rattle.sam.specs.Record.{le32, uint32, ops_in, op_bytes}
 use Rattle.sam.proofs.PartLaws.{length_op_bytes, ops_append, ops_stand, drop_ops, take_ops}
-use Rattle.oplist.proofs.OpsLaws.{length_ops_in}
+use Rattle.oplist.specs.Few.{length_ops_in}
 use Rattle.receive_rules.specs.Receiving.{same}
 use Rattle.receive_rules.proofs.SameLaws.{same_parts, same_number}
 

@@ -8,7 +8,7 @@ use Rattle.lists.specs.Lists.{splice}
 use Rattle.lists.proofs.ListLaws.{two_parts, reverse_drop}
 use Rattle.sam.specs.Record.{ops_in, op_bytes}
 use Rattle.sam.proofs.PartLaws.{length_op_bytes, ops_append, ops_stand, drop_ops, take_ops}
-use Rattle.oplist.proofs.OpsLaws.{length_ops_in}
+use Rattle.oplist.specs.Few.{length_ops_in}
 
 module _ (b d d₁ d₂ : List ℕ) (area n skip at : ℕ) (vs : List ℕ) (w : (i : ℕ) → get_or b i 0 < 256) (s : skip ≤ n) (f : area + 4 * n ≤ length b) where
   -- heads, then the ops from place skip on

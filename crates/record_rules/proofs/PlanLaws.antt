@@ -18,7 +18,7 @@ use Rattle.signed.specs.Whole.{checked}
 use Rattle.sam.specs.Op.{len_of, code_of, is_ref, ref_len, query_len}
 use Rattle.sam.specs.Record.{seq_len_of, pos_of, ops_start, ops_end, op_count_of, ops_in, tags_start}
 use Rattle.oplist.specs.Ops.{record_ops}
-use Rattle.oplist.proofs.OpsLaws.{length_ops_in}
+use Rattle.oplist.specs.Few.{length_ops_in}
 use Rattle.answers.specs.Settled.{Settled, keeps}
 use Rattle.answers.proofs.Unique.{settled, outcome}
 use Rattle.answers.specs.declared.Refusal.{Refusal}

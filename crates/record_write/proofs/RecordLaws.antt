@@ -10,7 +10,7 @@ use Rattle.lists.proofs.ListLaws.{length_splice, two_parts}
 use Rattle.sam.specs.Record.{name_len_of, ops_in, ops_start, op_count_of, tags_start, op_bytes}
 use Rattle.sam.proofs.PartLaws.{length_op_bytes}
 use Rattle.oplist.specs.Ops.{record_ops}
-use Rattle.oplist.proofs.OpsLaws.{length_ops_in}
+use Rattle.oplist.specs.Few.{length_ops_in}
 use Rattle.record_rules.specs.Written.{new_header, new_name, new_ops, new_bases, new_quals, new_tags, new_record}
 use Rattle.record_rules.specs.InnerPlan.{change_by, planned_ops, Fits}
 use Rattle.record_rules.specs.declared.RecordPlan.{RecordPlan}

@@ -12,7 +12,7 @@ use Rattle.sam.specs.Op.{len_of, code_of}
 use Rattle.sam.specs.Record.{le32, seq_len_of, ops_start, op_count_of, ops_end, ops_in, tags_start}
 use Rattle.sam.specs.Tags.{tags_of, is_placeholder}
 use Rattle.oplist.specs.Ops.{record_ops}
-use Rattle.oplist.proofs.OpsLaws.{length_ops_in}
+use Rattle.oplist.specs.Few.{length_ops_in}
 use Rattle.answers.specs.declared.Refusal.TheVariants.{ShortRecord, AreaOverrun, BadTags}
 use Rattle.tag_rules.specs.Long.{own_list, first_cg, behind_placeholder, true_list}
 

@@ -3,5 +3,5 @@ use Rattle.clip_run_rules.proofs.RunLaws.{clips_found}
 use Rattle.clip_runs.proofs.leading_clips.Goals as goal
 
 pub returns : goal.returns
-returns c =
+returns g c =
     clips_found c.clip_run-e.ensures
