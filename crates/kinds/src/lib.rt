@@ -8,7 +8,8 @@ ghost use Rattle.kinds.specs.Kinds.{code_of_kind, letter_of_kind, from_op_type, 
 
 use answers::{Answer, Refusal};
 
-#[derive(Clone, Copy)]
+// The kinds of ops, in the order of their codes, 0 to 8.
+#[derive(Clone, Copy, PartialEq, Eq, Debug)]
 pub enum CigarKind {
     Match,
     Insertion,
@@ -22,54 +23,31 @@ pub enum CigarKind {
 }
 
 // An op as a record holds it: its length times 16 plus its code.
-#[derive(Clone, Copy)]
+#[derive(Clone, Copy, PartialEq, Eq, Debug)]
 pub struct CigarOp(u32);
 
 impl CigarKind {
     // The op's letter.
+    #[tactic(auto, unfolding(ops::specs::Ops::letter_of))]
     pub fn as_char(self) -> u8
         ensures { result ≡ letter_of_kind self }
     {
-        match self {
-            CigarKind::Match => b'M',
-            CigarKind::Insertion => b'I',
-            CigarKind::Deletion => b'D',
-            CigarKind::Skip => b'N',
-            CigarKind::SoftClip => b'S',
-            CigarKind::HardClip => b'H',
-            CigarKind::Pad => b'P',
-            CigarKind::SequenceMatch => b'=',
-            CigarKind::SequenceMismatch => b'X',
-        }
+        named(self.code()).letter
     }
 
     // The op's code.
     pub fn code(self) -> u32
         ensures { (result ≡ code_of_kind self) × (result < 9) }
     {
-        match self {
-            CigarKind::Match => 0,
-            CigarKind::Insertion => 1,
-            CigarKind::Deletion => 2,
-            CigarKind::Skip => 3,
-            CigarKind::SoftClip => 4,
-            CigarKind::HardClip => 5,
-            CigarKind::Pad => 6,
-            CigarKind::SequenceMatch => 7,
-            CigarKind::SequenceMismatch => 8,
-        }
+        self as u32
     }
 
     // The kind of a code, taken whole: none above 8.
+    #[tactic(auto, unfolding(crate::specs::Kinds::from_op_type))]
     pub fn from_op_type(v: u32) -> Option<CigarKind>
         ensures { result ≡ from_op_type v }
     {
-        if 8 < v {
-            return None;
-        }
-        let n = named(v);
-        let kind = n.kind;
-        Some(kind)
+        if v <= 8 { Some(named(v).kind) } else { None }
     }
 }
 
@@ -84,13 +62,11 @@ impl CigarOp {
     }
 
     // Refusal 10 for length 0 or above the largest.
+    #[tactic(auto, unfolding(crate::specs::Kinds::new_op))]
     pub fn new(kind: CigarKind, len: u32) -> Answer<CigarOp>
         ensures { result ≡ new_op kind len }
     {
-        if len == 0 {
-            return Err(Refusal::BadLength);
-        }
-        if CigarOp::MAX_LEN < len {
+        if len == 0 || CigarOp::MAX_LEN < len {
             return Err(Refusal::BadLength);
         }
         Ok(CigarOp(len * 16 + kind.code()))
@@ -135,27 +111,23 @@ pub struct Lettered {
     pub letter: u8,
 }
 
-fn name(kind: CigarKind, letter: u8) -> Lettered
-    ensures { (result.kind ≡ kind) × (result.letter ≡ letter) }
-{
-    Lettered { kind, letter }
-}
-
-// The kind and letter of a code; from 9 on `Pad`, and 0, which is no letter.
+// The kind and letter of a code, by the one match on it (docs/RULES.md, "What form each place needs"); from 9 on `Pad`, and 0, which is no letter.
+#[tactic(auto, unfolding(crate::specs::Kinds::kind_of, ops::specs::Ops::letter_of))]
 pub fn named(code: u32) -> Lettered
     ensures { (result.kind ≡ kind_of code) × (result.letter ≡ letter_of code) }
 {
-    match code {
-        0 => name(CigarKind::Match, b'M'),
-        1 => name(CigarKind::Insertion, b'I'),
-        2 => name(CigarKind::Deletion, b'D'),
-        3 => name(CigarKind::Skip, b'N'),
-        4 => name(CigarKind::SoftClip, b'S'),
-        5 => name(CigarKind::HardClip, b'H'),
-        6 => name(CigarKind::Pad, b'P'),
-        7 => name(CigarKind::SequenceMatch, b'='),
-        8 => name(CigarKind::SequenceMismatch, b'X'),
-        9..=15 => name(CigarKind::Pad, 0),
-        _ => name(CigarKind::Pad, 0),
-    }
+    let (kind, letter) = match code {
+        0 => (CigarKind::Match, b'M'),
+        1 => (CigarKind::Insertion, b'I'),
+        2 => (CigarKind::Deletion, b'D'),
+        3 => (CigarKind::Skip, b'N'),
+        4 => (CigarKind::SoftClip, b'S'),
+        5 => (CigarKind::HardClip, b'H'),
+        6 => (CigarKind::Pad, b'P'),
+        7 => (CigarKind::SequenceMatch, b'='),
+        8 => (CigarKind::SequenceMismatch, b'X'),
+        9..=15 => (CigarKind::Pad, 0),
+        _ => (CigarKind::Pad, 0),
+    };
+    Lettered { kind, letter }
 }
