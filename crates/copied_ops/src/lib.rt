@@ -3,21 +3,20 @@
 
 ghost use Rattle.std.specs.Prelude.{[]};
 ghost use Rattle.answers.specs.Settled.{Settled};
-ghost use Rattle.oplist.specs.Ops.{ops_of};
 ghost use Rattle.copied_ops.specs.Copied.{copied_ops, get_ops};
 
 use answers::{Answer, Refusal};
-use oplist::Ops;
+use oplist::OpList;
 
-// The ops of a list that lies in a record, in the first places of out. Refusal 6.
-pub fn copy_ops(bam: &[u8], list: Ops, out: &mut [u32]) -> Answer<u64>
-    ensures { Settled (copied_ops (ops_of [] bam.now list) out.old) result out.new }
+// The ops of a list, in the first places of out. Refusal 6.
+pub fn copy_ops<L: OpList>(list: L, out: &mut [u32]) -> Answer<u64>
+    ensures { Settled (copied_ops (L.ops list) out.old) result out.new }
 {
-    let n = oplist::count(&[], bam, list);
+    let n = list.count();
     if out.len() < n {
         return Err(Refusal::NoRoom);
     }
-    oplist::copy(&[], bam, list, 0, n, out, 0);
+    oplist::copy(list, 0, n, out, 0);
     Ok(n as u64)
 }
 
@@ -28,5 +27,5 @@ pub fn get_cigar_ops(bam: &[u8], out: &mut [u32]) -> Answer<u64>
     if bam.len() < 32 {
         return Err(Refusal::ShortRecord);
     }
-    copy_ops(bam, oplist::of_record(bam), out)
+    copy_ops(oplist::of_record(bam), out)
 }

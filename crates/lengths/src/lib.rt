@@ -6,17 +6,17 @@ ghost use Rattle.length_rules.specs.Lengths.{ref_length_up_to, query_length_up_t
 
 use answers::{Answer, Refusal};
 use length_rules::RecordLengths;
+use oplist::Lent;
 
 // The reference length of a lent list of at most `limit` ops. Refusals 3 and 4.
 fn reference_length_up_to(limit: usize, cigar: &[u32]) -> Answer<i32>
     requires { limit ≤ 4294967295 }
     ensures { result ≡ ref_length_up_to limit cigar.now }
 {
-    if limit < cigar.len() {
+    let Some(list) = Lent::new(cigar, limit) else {
         return Err(Refusal::TooManyOps);
-    }
-    let total = op_sums::sums(cigar, &[], oplist::lent(cigar));
-    op_sums::as_int(total.refs)
+    };
+    op_sums::as_int(op_sums::sums(list).refs)
 }
 
 // The query length of a lent list of at most `limit` ops. Refusal 3.
@@ -24,11 +24,10 @@ fn query_length_up_to(limit: usize, cigar: &[u32]) -> Answer<u64>
     requires { limit ≤ 4294967295 }
     ensures { result ≡ query_length_up_to limit cigar.now }
 {
-    if limit < cigar.len() {
+    let Some(list) = Lent::new(cigar, limit) else {
         return Err(Refusal::TooManyOps);
-    }
-    let total = op_sums::sums(cigar, &[], oplist::lent(cigar));
-    Ok(total.query)
+    };
+    Ok(op_sums::sums(list).query)
 }
 
 // The reference length of a lent list. Refusals 3 and 4.
@@ -63,11 +62,10 @@ pub fn long_query_length_from_cigar(cigar: &[u32]) -> Answer<u64>
 pub fn saturating_reference_length(cigar: &[u32]) -> Answer<i32>
     ensures { result ≡ saturated_length cigar.now }
 {
-    if oplist::MOST_OPS < cigar.len() {
+    let Some(list) = Lent::new(cigar, oplist::MOST_OPS) else {
         return Err(Refusal::TooManyOps);
-    }
-    let total = op_sums::sums(cigar, &[], oplist::lent(cigar));
-    Ok(op_sums::saturated(total.refs))
+    };
+    Ok(op_sums::saturated(op_sums::sums(list).refs))
 }
 
 // A record's reference length. Refusals 1, 2 and 4.
@@ -77,12 +75,10 @@ pub fn reference_length_from_raw_bam_checked(bam: &[u8]) -> Answer<i32>
     if bam.len() < 32 {
         return Err(Refusal::ShortRecord);
     }
-    let list = oplist::of_record(bam);
-    if !oplist::inside(bam, list) {
+    if !oplist::inside(bam, oplist::area_of(bam)) {
         return Err(Refusal::AreaOverrun);
     }
-    let total = op_sums::sums(&[], bam, list);
-    op_sums::as_int(total.refs)
+    op_sums::as_int(op_sums::sums(oplist::of_record(bam)).refs)
 }
 
 // The same. Ends, bins and pair tests ask this one, as in the Rust, and pass a refusal on.
@@ -99,8 +95,7 @@ pub fn query_length(bam: &[u8]) -> Answer<u64>
     if bam.len() < 32 {
         return Err(Refusal::ShortRecord);
     }
-    let total = op_sums::sums(&[], bam, oplist::of_record(bam));
-    Ok(total.query)
+    Ok(op_sums::sums(oplist::of_record(bam)).query)
 }
 
 // A record's lengths and the clips at its ends. Refusals 1 and 4.
@@ -110,5 +105,5 @@ pub fn cigar_lengths(bam: &[u8]) -> Answer<RecordLengths>
     if bam.len() < 32 {
         return Err(Refusal::ShortRecord);
     }
-    list_lengths::list_lengths(bam, oplist::of_record(bam))
+    list_lengths::list_lengths(oplist::of_record(bam))
 }

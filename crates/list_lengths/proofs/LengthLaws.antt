@@ -26,13 +26,13 @@ abbrev six : ℤ → ℕ → ℕ → ℕ → ℕ → ℕ → Answer RecordLength
 six z q a b c d = Ok (record { reference = z; query = q; leading = record { soft = a; hard = b }; trailing = record { soft = c; hard = d } })
 
 -- of no op
-pub no_ops : (xs : List ℕ) → length xs ≡ 0 → of_clips 0 0 ≡ list_lengths xs
+pub no_ops : (xs : List ℕ) → length xs ≡ 0 → Ok (of_clips 0 0) ≡ list_lengths xs
 unfolding as_int sum_of leading leading_soft leading_hard holds has_inner trailing_soft trailing_hard
 no_ops [] e = refl
 no_ops (o ∷ xs) e = absurd (omega arith)
 
 module _ {xs : List ℕ} {soft hard next : ℕ} (L : RunIs xs 0 is_clip soft hard next) where
-  pub only_clips : next ≡ length xs → of_clips soft hard ≡ list_lengths xs
+  pub only_clips : next ≡ length xs → Ok (of_clips soft hard) ≡ list_lengths xs
   unfolding as_int
   only_clips e =
       let i = clips_only L e in
@@ -40,11 +40,8 @@ module _ {xs : List ℕ} {soft hard next : ℕ} (L : RunIs xs 0 is_clip soft har
 
   module _ {s h k : ℕ} (T : RunIs (facing false xs) 0 is_clip s h k) where
     module _ (n m : ℕ) (e : n ≡ length xs) (g : m + sum_of ref_len (drop (n - k) xs) ≡ sum_of ref_len (drop next xs)) where
-      refs_are : m ≡ sum_of ref_len xs
+      pub refs_are : m ≡ sum_of ref_len xs
       refs_are = omega (arith, parted L T ref_len n m e g, run_refs xs, run_refs (facing false xs))
-
-      pub none-are : (r : Refusal) → as_int m ≡ Err r → Err r ≡ list_lengths xs
-      none-are r w = rw (sym (ap as_int refs_are) ∙ w) refl
 
       pub six-are : (z : ℤ) → as_int m ≡ Ok z → next < length xs
           → (q : ℕ) → q + sum_of query_len (drop (n - k) xs) ≡ sum_of query_len (drop next xs)

@@ -12,5 +12,5 @@ pub returns : goal.returns
 unfolding get_ops
 returns c =
     resettled
-    (simp (le-ltb _ _ c.if-bam-lt32.false) (ap (λ (l : List ℕ). copied_ops l c.args.out.now) (sym (c.of_record.ensures.by_index _))))
+    (simp (le-ltb _ _ c.if-bam-lt32.false) (ap (λ (l : List ℕ). copied_ops l c.args.out.now) (sym (c.of_record.ensures))))
     c.copy_ops.ensures

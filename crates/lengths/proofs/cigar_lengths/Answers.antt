@@ -12,4 +12,4 @@ returns-then-bam-lt32 c =
 pub returns : goal.returns
 unfolding record_lengths
 returns c =
-    simp (le-ltb _ _ c.if-bam-lt32.false) (c.list_lengths.ensures ∙ ap list_lengths (c.of_record.ensures.by_index _))
+    simp (le-ltb _ _ c.if-bam-lt32.false) (c.list_lengths.ensures ∙ ap list_lengths (c.of_record.ensures))

@@ -16,4 +16,4 @@ pub returns : goal.returns
 unfolding record_query_length
 returns c =
     simp (le-ltb _ _ c.if-bam-lt32.false)
-    (ap Ok (c.sums-total.ensures.refs_value.1 ∙ ap (sum_of query_len) (c.of_record.ensures.by_index _)))
+    (ap Ok (c.sums.ensures.refs_value.1 ∙ ap (sum_of query_len) (c.of_record.ensures)))

@@ -13,10 +13,10 @@ returns-then-bam-lt32 c =
 
 pub returns-then-not-inside : goal.returns-then-not-inside
 returns-then-not-inside c =
-    let h = overruns c.args.bam.now c.of_record-list.result c.of_record-list.ensures.at_value _ c.inside.ensures (c.if-not-inside.true) in
+    let h = overruns c.args.bam.now c.area_of.result c.area_of.ensures _ c.inside.ensures (c.if-not-inside.true) in
     overrun c.args.bam.now c.if-bam-lt32.false h
 
 pub returns : goal.returns
 returns c =
-    let h = lies c.args.bam.now c.of_record-list.result c.of_record-list.ensures.at_value _ c.inside.ensures (c.if-not-inside.false) in
-    inside c.args.bam.now c.if-bam-lt32.false h _ (c.as_int.ensures ∙ ap as_int (c.sums-total.ensures.refs_value.0 ∙ ap (sum_of ref_len) (c.of_record-list.ensures.by_index _)))
+    let h = lies c.args.bam.now c.area_of.result c.area_of.ensures _ c.inside.ensures (c.if-not-inside.false) in
+    inside c.args.bam.now c.if-bam-lt32.false h _ (c.as_int.ensures ∙ ap as_int (c.sums.ensures.refs_value.0 ∙ ap (sum_of ref_len) (c.of_record.ensures)))

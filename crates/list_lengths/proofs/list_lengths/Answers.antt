@@ -1,31 +1,39 @@
 -- The runs of clips at both ends, and the sums between them.
-use mathlib.Core.Path.{◌≡◌, sym, ◌∙◌}
-use native.Mathlib.Omega.{arith}
 use mir.Syntax.{w32}
-use mir.Facts.{to_z-of_z}
 use mir.Val.{to_z, of_z}
+use Rattle.std.proofs.Common.{◌≡◌, sym, ap, ◌∙◌, arith, rules}
+use Rattle.std.specs.Prelude.{Ok, ℤ}
+use Rattle.answers.specs.Answer.{Answer}
+use Rattle.length_rules.specs.Lengths.{as_int, lengths_with}
 use Rattle.clip_run_rules.proofs.EndLaws.{apart}
-use Rattle.list_lengths.proofs.LengthLaws.{no_ops, only_clips, none-are, six-are}
+use Rattle.list_lengths.proofs.LengthLaws.{no_ops, only_clips, refs_are, six-are}
 use Rattle.list_lengths.proofs.list_lengths.Goals as goal
 
 pub returns-then-n-eq0 : goal.returns-then-n-eq0
-returns-then-n-eq0 c =
-    c.of_clips.ensures ∙ no_ops _ (sym c.count-n.ensures.0 ∙ c.if-n-eq0.true)
+returns-then-n-eq0 g c =
+    ap Ok c.of_clips.ensures ∙ no_ops _ (sym c.count-n.ensures.value ∙ c.if-n-eq0.true)
 
 pub returns-then-first-n : goal.returns-then-first-n
-returns-then-first-n c =
-    c.of_clips-then-first-n.ensures ∙ only_clips c.clip_run-first.ensures (omega arith)
+returns-then-first-n g c =
+    ap Ok c.of_clips-then-first-n.ensures ∙ only_clips c.clip_run-first.ensures (omega arith)
 
 pub sums_between-inner-requires : goal.sums_between-inner-requires
-sums_between-inner-requires c =
-    let a = apart c.clip_run-first.ensures c.clip_run-last.ensures (omega arith) in
-    (omega arith, omega arith, omega arith)
+sums_between-inner-requires g c =
+    let last = rw c.new.ensures at c.clip_run-last.ensures in
+    let a = apart c.clip_run-first.ensures last (omega arith) in
+    (omega arith, omega arith)
 
-pub returns-in-Ok : goal.returns-in-Ok
-returns-in-Ok c =
-    let z : to_z w32 (of_z w32 c.in-Ok.reference) ≡ c.in-Ok.reference = to_z-of_z {w = w32} {z = c.in-Ok.reference} (record { sfits = c.in-Ok.known_told-1-own.given.0.1 }) in
-    simp z (six-are c.clip_run-first.ensures c.clip_run-last.ensures _ _ c.count-n.ensures.0 c.sums_between-inner.ensures.list_value.0 _ (sym c.as_int.ensures ∙ c.in-Ok.is) (omega arith) _ c.sums_between-inner.ensures.list_value.1)
+pub returns-in_err-reference : goal.returns-in_err-reference
+returns-in_err-reference g c =
+    let last = rw c.new.ensures at c.clip_run-last.ensures in
+    let xs = g.L.OpList.ops c.args.list in
+    let passed : c.from_residual.result ≡ lengths_with c.as_int.result xs = search rules in
+    passed
+    ∙ ap (λ (a : Answer ℤ). lengths_with a xs)
+      (c.as_int.ensures ∙ ap as_int (refs_are c.clip_run-first.ensures last _ _ c.count-n.ensures.value c.sums_between-inner.ensures.list_value.0))
 
-pub returns-in-Err : goal.returns-in-Err
-returns-in-Err c =
-    none-are c.clip_run-first.ensures c.clip_run-last.ensures _ _ c.count-n.ensures.0 c.sums_between-inner.ensures.list_value.0 _ (sym c.as_int.ensures ∙ c.in-Err.is)
+pub returns : goal.returns
+returns g c =
+    let last = rw c.new.ensures at c.clip_run-last.ensures in
+    let z : to_z w32 (of_z w32 c.in_ok-reference.reference) ≡ c.in_ok-reference.reference = search rules in
+    simp z (six-are c.clip_run-first.ensures last _ _ c.count-n.ensures.value c.sums_between-inner.ensures.list_value.0 _ (sym c.in_ok-reference.ensures) (omega arith) _ c.sums_between-inner.ensures.list_value.1)
