@@ -1,85 +1,92 @@
 -- An odd last base is written behind the pairs; and bases that are shifted are written in blocks of sixteen bytes.
-use Prim.Native.Nat.{ℕ, ◌+◌, ◌-◌, ◌*◌, ◌/◌, ◌%◌, ◌≤◌, ◌<◌}
+use Prim.Native.Nat.{ℕ, zero, suc, ◌+◌, ◌-◌, ◌*◌, ◌/◌, ◌%◌, ◌≤◌, ◌<◌}
 use mathlib.Core.Path.{◌≡◌, refl, sym, ap, ◌∙◌}
 use mathlib.Core.List.{List, [], ◌∷◌, ◌++◌}
+use native.Mathlib.Numerals.{add-one}
 use native.Mathlib.Omega.{arith}
 use lib.ListN.{length, get_or, take, drop, set, length-drop}
-use lib.Seq.{get_or-drop, get_or-take, length-take-le, take_all, ext_get_or}
+use lib.Seq.{get_or-drop, take-suc, take-suc-set, drop-drop, drop-nil, take_all}
+use Rattle.record_parts.proofs.PutLaws.{whole_written, blocks}
+use Rattle.lists.proofs.Splices.{splice_start}
 use Rattle.lists.specs.Lists.{splice}
 use Rattle.lists.proofs.ListLaws.{splice_snoc}
 use Rattle.sam.specs.Bases.{bases_of, packed}
-use Rattle.sam.proofs.BaseLaws.{packed_size, packed_last, length_behind, shifted_byte}
-use Rattle.record_parts.proofs.PutLaws.{held_all, two_blocks}
+use Rattle.sam.proofs.BaseLaws.{length_bases, packed_size, packed_last, shifted_byte}
 
-pub put_last : (bs d d₁ : List ℕ) (from n at x : ℕ) → n % 2 ≡ 1 → from + n ≤ length bs → at + (n + 1) / 2 ≤ length d
-    → d₁ ≡ splice d at (packed (take (2 * (n / 2)) (drop from bs))) → x ≡ get_or bs (from + n - 1) 0 * 16 + 0
-    → set d₁ (at + n / 2) x ≡ splice d at (packed (take n (drop from bs)))
-put_last bs d d₁ from n at x o h r e p =
-    let k : ℕ = n / 2 in
-    let l : length (drop from bs) ≡ length bs - from = length-drop from bs in
+-- k pairs are written, and behind them the base that is left
+pub put_last : (bs d p : List ℕ) (from n k x : ℕ) → n ≡ 2 * k + 1 → from + n ≤ length bs → length d ≡ (n + 1) / 2
+    → p ≡ packed (take (2 * k) (drop from bs)) → x ≡ get_or bs (from + n - 1) 0 * 16 + 0 → set (p ++ drop k d) k x ≡ packed (take n (drop from bs))
+put_last bs d p from n k x h r l e q =
+    let P : List ℕ = packed (take (2 * k) (drop from bs)) in
+    let j : length (drop from bs) ≡ length bs - from = length-drop from bs in
     let s = packed_size bs from (2 * k) (omega arith) in
+    let t = packed_size bs from n (omega arith) in
     let g = get_or-drop from bs (2 * k) 0 in
     let z : get_or bs (from + n - 1) 0 ≡ get_or bs (from + 2 * k) 0 = ap (λ (i : ℕ). get_or bs i 0) (omega arith) in
     let v : x ≡ get_or (drop from bs) (2 * k) 0 * 16 = omega arith in
-    ap (λ (m : List ℕ). set m (at + k) x) e
-    ∙ splice_snoc d at (packed (take (2 * k) (drop from bs))) k x (omega arith) (omega arith)
-    ∙ ap (λ (b : ℕ). splice d at (packed (take (2 * k) (drop from bs)) ++ (b ∷ []))) v
-    ∙ ap (splice d at) (sym (packed_last k (drop from bs) (omega arith)))
-    ∙ ap (λ (m : ℕ). splice d at (packed (take m (drop from bs)))) {x = 2 * k + 1} {y = n} (omega arith)
+    let w : length P ≡ k = omega arith in
+    ap (λ (m : List ℕ). set m k x) (ap (λ (m : List ℕ). m ++ drop k d) e ∙ ap (λ (i : ℕ). P ++ drop i d) (sym w) ∙ sym (splice_start d P))
+    ∙ ap (λ (i : ℕ). set (splice d 0 P) i x) {x = k} {y = 0 + k} (omega arith)
+    ∙ splice_snoc d 0 P k x (omega arith) (omega arith)
+    ∙ ap (λ (b : ℕ). splice d 0 (P ++ (b ∷ []))) v
+    ∙ ap (splice d 0) (sym (packed_last k (drop from bs) (omega arith)))
+    ∙ ap (λ (m : ℕ). splice d 0 (packed (take m (drop from bs)))) {x = 2 * k + 1} {y = n} (omega arith)
+    ∙ whole_written d (packed (take n (drop from bs))) (omega arith)
 
--- ---- from an odd base on
+-- ---- from the second base on
 
--- k bytes of bases from base `from` on
-abbrev pub shifted : List ℕ → ℕ → ℕ → ℕ → List ℕ
-shifted s area from k = packed (take (2 * k) (drop from (bases_of (drop area s))))
+-- k bytes of bases from the second base on
+abbrev pub shifted : List ℕ → ℕ → List ℕ
+shifted s k = packed (take (2 * k) (drop 1 (bases_of s)))
 
-pub shifted_size : (s : List ℕ) (area from k : ℕ) → area + (from + 2 * k + 1) / 2 ≤ length s → length (shifted s area from k) ≡ k
-shifted_size s area from k h =
-    let l = length_behind s area in
-    let m = packed_size (bases_of (drop area s)) from (2 * k) (omega arith) in
+pub shifted_size : (s : List ℕ) (k : ℕ) → k < length s → length (shifted s k) ≡ k
+shifted_size s k h =
+    let l = length_bases s in
+    let m = packed_size (bases_of s) 1 (2 * k) (omega arith) in
     omega arith
 
--- byte i of sixteen from the second base of byte `first` on
-pub shifted_at : (s : List ℕ) (first i x : ℕ) → i < 16 → x ≡ get_or s (first + i) 0 % 16 * 16 + get_or s (first + i + 1) 0 / 16 % 16 → x ≡ get_or (shifted s first 1 16) (0 + i) 0
-shifted_at s first i x h e =
+-- byte i
+pub shifted_at : (s : List ℕ) (k i x : ℕ) → i < k → x ≡ get_or s i 0 % 16 * 16 + get_or s (i + 1) 0 / 16 % 16 → x ≡ get_or (shifted s k) i 0
+shifted_at s k i x h e =
     e
-    ∙ ap (λ (k : ℕ). get_or s k 0 % 16 * 16 + get_or s (k + 1) 0 / 16 % 16) {x = first + i} {y = first + 1 / 2 + i} (omega arith)
-    ∙ shifted_byte s first 1 32 i refl (omega arith)
-    ∙ ap (λ (k : ℕ). get_or (shifted s first 1 16) k 0) {x = i} {y = 0 + i} (omega arith)
+    ∙ ap (λ (j : ℕ). get_or s j 0 % 16 * 16 + get_or s (j + 1) 0 / 16 % 16) {x = i} {y = 0 + 1 / 2 + i} (omega arith)
+    ∙ shifted_byte s 0 1 (2 * k) i refl (omega arith)
 
--- sixteen bytes that are held and then stored
-pub shifted_held : (d d' l s : List ℕ) (first at i j : ℕ) → first + 17 ≤ length s → i ≡ 16 → j ≡ 16 → length l ≡ 16
-    → take i l ≡ take i (shifted s first 1 16) → d' ≡ splice d at (take j l) → d' ≡ splice d at (shifted s first 1 16)
-shifted_held d d' l s first at i j h p q n e f =
-    let m = shifted_size s first 1 16 (omega arith) in
-    held_all d d' l (shifted s first 1 16) at 0 i j p q n e f ∙ ap (splice d at) (take_all 16 (shifted s first 1 16) (omega arith))
+-- one turn of holding the elements of s from place `from` on
+pub hold_turn : (l s : List ℕ) (from i x : ℕ) → i < length l → from + i < length s → x ≡ get_or s (from + i) 0 → take i l ≡ take i (drop from s)
+    → take (i + 1) (set l i x) ≡ take (i + 1) (drop from s)
+hold_turn l s from i x h k v e =
+    let d = length-drop from s in
+    ap (λ (n : ℕ). take n (set l i x)) (add-one i)
+    ∙ take-suc-set l i x h
+    ∙ ap (λ (p : List ℕ). p ++ (x ∷ [])) e
+    ∙ ap (λ (y : ℕ). take i (drop from s) ++ (y ∷ [])) (v ∙ sym (get_or-drop from s i 0))
+    ∙ sym (take-suc (drop from s) i 0 (omega arith))
+    ∙ ap (λ (n : ℕ). take n (drop from s)) (sym (add-one i))
 
--- they are part of more
-shifted_part : (s : List ℕ) (area from k m : ℕ) → from % 2 ≡ 1 → area + (from + 2 * k + 1) / 2 ≤ length s → m + 16 ≤ k
-    → shifted s (area + from / 2 + m) 1 16 ≡ take 16 (drop m (shifted s area from k))
-shifted_part s area from k m o h g =
-    let P : List ℕ = shifted s area from k in
-    let l = shifted_size s area from k h in
-    let a = shifted_size s (area + from / 2 + m) 1 16 (omega arith) in
-    let n = length-drop m P in
-    let b : length (take 16 (drop m P)) ≡ 16 = length-take-le 16 (drop m P) (omega arith) in
-    ext_get_or 0 (shifted s (area + from / 2 + m) 1 16) (take 16 (drop m P)) (omega arith) (λ i c. each i (omega arith))
-  where
-    each : (i : ℕ) → i < 16 → get_or (shifted s (area + from / 2 + m) 1 16) i 0 ≡ get_or (take 16 (drop m (shifted s area from k))) i 0
-    each i c =
-        sym (shifted_byte s (area + from / 2 + m) 1 32 i refl (omega arith))
-        ∙ ap (λ (n : ℕ). get_or s n 0 % 16 * 16 + get_or s (n + 1) 0 / 16 % 16) {x = area + from / 2 + m + 1 / 2 + i} {y = area + from / 2 + (m + i)} (omega arith)
-        ∙ shifted_byte s area from (2 * k) (m + i) o (omega arith)
-        ∙ sym (get_or-take 16 (drop m (shifted s area from k)) i 0 c ∙ get_or-drop m (shifted s area from k) i 0)
+-- sixteen bytes from byte m on, where the first j bytes are written
+pub shifted_block : (s d d₁ d₂ : List ℕ) (j m n : ℕ) → m + 16 ≡ n → m ≤ j → j ≤ n → n ≤ length d → length d < length s → length d₁ ≡ length d
+    → d₁ ≡ splice d 0 (take j (shifted s (length d))) → d₂ ≡ splice d₁ m (take 16 (drop m (shifted s (length d₁)))) → d₂ ≡ splice d 0 (take n (shifted s (length d)))
+shifted_block s d d₁ d₂ j m n h g₁ g₂ g₃ f e p q =
+    let l = shifted_size s (length d) f in
+    blocks d d₁ d₂ (shifted s (length d)) j m 16 n h g₁ g₂ (omega arith) g₃ p (q ∙ ap (λ (k : ℕ). splice d₁ m (take 16 (drop m (shifted s k)))) e)
 
--- a block from byte m on, where the first j bytes are written
-pub shifted_block : (s d d₁ d₂ : List ℕ) (area from k at j m n : ℕ) → from % 2 ≡ 1 → area + (from + 2 * k + 1) / 2 ≤ length s → at + k ≤ length d
-    → m + 16 ≡ n → m ≤ j → j ≤ n → n ≤ k → d₁ ≡ splice d at (take j (shifted s area from k)) → d₂ ≡ splice d₁ (at + m) (shifted s (area + from / 2 + m) 1 16)
-    → d₂ ≡ splice d at (take n (shifted s area from k))
-shifted_block s d d₁ d₂ area from k at j m n o h f e g₁ g₂ g₃ p q =
-    let P : List ℕ = shifted s area from k in
-    let l = shifted_size s area from k h in
-    two_blocks d d₁ d₂ P at 0 j m 16 n e g₁ g₂ (omega arith) (omega arith) p
-    (q
-    ∙ ap (splice d₁ (at + m)) (shifted_part s area from k m o h (omega arith))
-    ∙ ap (λ (i : ℕ). splice d₁ (at + m) (take 16 (drop i P))) {x = m} {y = 0 + m} (omega arith))
+-- all of them
+pub shifted_whole : (s d : List ℕ) → length d < length s → splice d 0 (take (length d) (shifted s (length d))) ≡ shifted s (length d)
+shifted_whole s d h =
+    let l = shifted_size s (length d) h in
+    ap (splice d 0) (take_all (length d) (shifted s (length d)) (omega arith)) ∙ whole_written d (shifted s (length d)) (omega arith)
+
+-- the bases but for those of the first k bytes
+bases_drop : (k : ℕ) (s : List ℕ) → bases_of (drop k s) ≡ drop (2 * k) (bases_of s)
+unfolding bases_of
+bases_drop zero s = refl
+bases_drop (suc k) [] = sym (drop-nil (2 * suc k))
+bases_drop (suc k) (x ∷ s) = bases_drop k s ∙ ap (λ (n : ℕ). drop n (bases_of (x ∷ s))) {x = suc (suc (2 * k))} {y = 2 * suc k} (omega arith)
+
+-- from an odd base on: from the second base of the byte that holds it
+pub odd_from : (s : List ℕ) (from k : ℕ) → from % 2 ≡ 1 → shifted (drop (from / 2) s) k ≡ packed (take (2 * k) (drop from (bases_of s)))
+odd_from s from k o =
+    let e : 2 * (from / 2) + 1 ≡ from = omega arith in
+    ap (λ (l : List ℕ). packed (take (2 * k) (drop 1 l))) (bases_drop (from / 2) s)
+    ∙ ap (λ (l : List ℕ). packed (take (2 * k) l)) (drop-drop 1 (2 * (from / 2)) (bases_of s) ∙ ap (λ (n : ℕ). drop n (bases_of s)) e)

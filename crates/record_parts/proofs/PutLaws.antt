@@ -12,6 +12,7 @@ use Rattle.std.specs.Int.{to_le_bytes}
 use Rattle.sam.specs.Record.{uint32}
 use Rattle.sam.specs.Parts.{uint16}
 use Rattle.lists.specs.Lists.{splice}
+use Rattle.lists.proofs.Splices.{splice_start}
 use Rattle.lists.proofs.ListLaws.{splice_append, length_splice}
 
 -- what a write to a part of a list leaves
@@ -29,9 +30,8 @@ pub bytes_of : (n : ℕ) → to_le_bytes w32 n ≡ uint32 n
 bytes_of n = search rules
 
 -- all of a list is written over
-pub all_written : (d s : List ℕ) → length d ≡ length s → splice d 0 (take (length s) s) ≡ s
-unfolding splice
-all_written d s e = ap (λ (l : List ℕ). l ++ drop (0 + length l) d) (take_all (length s) s (omega arith)) ∙ ap (λ (l : List ℕ). s ++ l) (drop_all (0 + length s) d (omega arith)) ∙ append-nil s
+pub whole_written : (d vs : List ℕ) → length d ≡ length vs → splice d 0 vs ≡ vs
+whole_written d vs e = splice_start d vs ∙ ap (λ (l : List ℕ). vs ++ l) (drop_all (length vs) d (omega arith)) ∙ append-nil vs
 
 -- what is written over another, from the same place on and no shorter
 over_written : (d : List ℕ) (at : ℕ) (us ws : List ℕ) → length us ≤ length ws → at + length ws ≤ length d → splice (splice d at us) at ws ≡ splice d at ws
@@ -84,4 +84,4 @@ blocks d d₁ d₂ s j m k n e h₁ h₂ f g p q =
 -- the first j elements are written, and then those from m on, where m ≤ j: all are, where these end the list
 pub two_blocks : (d d₁ d₂ s : List ℕ) (j m k : ℕ) → m + k ≡ length s → m ≤ j → j ≤ length s → length d ≡ length s
     → d₁ ≡ splice d 0 (take j s) → d₂ ≡ splice d₁ m (take k (drop m s)) → d₂ ≡ s
-two_blocks d d₁ d₂ s j m k e h₁ h₂ f p q = blocks d d₁ d₂ s j m k (length s) e h₁ h₂ (omega arith) (omega arith) p q ∙ all_written d s f
+two_blocks d d₁ d₂ s j m k e h₁ h₂ f p q = blocks d d₁ d₂ s j m k (length s) e h₁ h₂ (omega arith) (omega arith) p q ∙ ap (splice d 0) (take_all (length s) s (omega arith)) ∙ whole_written d s f

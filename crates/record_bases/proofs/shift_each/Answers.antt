@@ -1,36 +1,20 @@
--- After j turns the first j bytes of the packed bases stand in out.
-use Prim.Native.Nat.{ℕ, ◌+◌, ◌*◌}
-use mathlib.Core.Path.{refl, sym, ap, ◌∙◌}
-use mathlib.Core.List.{List}
+-- The first bytes are written.
+use Rattle.std.proofs.Common.{ℕ, ◌+◌, length, get_or}
+use mathlib.Core.Path.{sym, ap, ◌∙◌}
 use native.Mathlib.Omega.{arith}
-use lib.ListN.{take, drop, set, length-set}
 use lib.Seq.{take_all}
-use Rattle.lists.specs.Lists.{splice}
-use Rattle.lists.proofs.ListLaws.{splice_nil}
-use Rattle.sam.specs.Bases.{bases_of, packed}
-use Rattle.lists.proofs.Splices.{put_turn}
-use Rattle.sam.proofs.BaseLaws.{length_behind, packed_size, shifted_byte}
+use Rattle.record_bases.proofs.PackLaws.{shifted, shifted_size, shifted_at, hold_turn}
 use Rattle.record_bases.proofs.shift_each.Goals as goal
 
-pub loop-j-init : goal.loop-j-init
-loop-j-init c =
-    (omega arith, sym (splice_nil _ _), refl)
-
-pub loop-j-preserved : goal.loop-j-preserved
-loop-j-preserved c =
-    let bs = bases_of (drop c.args.area c.args.rec.now) in
-    let l = length_behind c.args.rec.now c.args.area in
-    let m = packed_size bs c.args.from (2 * c.args.k) (omega arith) in
-    let x = c.straddled.ensures ∙ shifted_byte c.args.rec.now c.args.area c.args.from (2 * c.args.k) c.loop-j.j c.requires.from_value (omega arith) in (
-      omega arith,
-      ap (λ (l : List ℕ). set l (c.args.at + c.loop-j.j) c.straddled.result) c.loop-j.invariant.1
-          ∙ put_turn c.args.out.now (packed (take (2 * c.args.k) (drop c.args.from bs))) c.args.at c.loop-j.j c.straddled.result x (omega arith) (omega arith),
-      simp length-set c.loop-j.invariant.2,
-    )
+pub loop-i-preserved : goal.loop-i-preserved
+loop-i-preserved c =
+    let P = shifted c.args.bases.now (length c.args.out.now) in
+    let l = shifted_size c.args.bases.now (length c.args.out.now) (omega arith) in
+    let x = shifted_at c.args.bases.now (length c.args.out.now) c.loop-i.i _ (omega arith) c.straddled.ensures in
+    hold_turn c.loop-i.out P 0 c.loop-i.i _ (omega arith) (omega arith) (x ∙ ap (λ (k : ℕ). get_or P k 0) {x = c.loop-i.i} {y = 0 + c.loop-i.i} (omega arith)) c.loop-i.invariant
 
 pub returns : goal.returns
 returns c =
-    let bs = bases_of (drop c.args.area c.args.rec.now) in
-    let l = length_behind c.args.rec.now c.args.area in
-    let m = packed_size bs c.args.from (2 * c.args.k) (omega arith) in
-    c.loop-j.invariant.1 ∙ ap (splice c.args.out.now c.args.at) (take_all c.loop-j.j (packed (take (2 * c.args.k) (drop c.args.from bs))) (omega arith))
+    let P = shifted c.args.bases.now (length c.args.out.now) in
+    let l = shifted_size c.args.bases.now (length c.args.out.now) (omega arith) in
+    sym (take_all c.loop-i.i c.loop-i.out (omega arith)) ∙ c.loop-i.invariant ∙ take_all c.loop-i.i P (omega arith)
