@@ -26,12 +26,15 @@ fn row_of(rec: &[u8]) -> Answer<LineRow>
     if 2147483647 < total.refs {
         return Err(Refusal::Overflow);
     }
+    let five = unclipped::unclipped_5prime_from_raw_bam(rec)?;
+    let bin = bin::bin_from_raw_bam(rec)?;
+    let mark = report_fields::length_mark(total.query, little_endian::u32_at(rec, 16));
     Ok(LineRow {
         refs: total.refs as i32,
         query: total.query,
-        five: unclipped::unclipped_5prime_from_raw_bam(rec)?,
-        bin: bin::bin_from_raw_bam(rec)?,
-        mark: report_fields::length_mark(total.query, little_endian::u32_at(rec, 16)),
+        five,
+        bin,
+        mark,
     })
 }
 

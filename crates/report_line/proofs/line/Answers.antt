@@ -40,15 +40,15 @@ returns-in-Err-row_of-clause-put c =
     put_as (decimal a.number ++ v) (sym (line_no_row a.number a.rec.now e.0 _ e.1 why (sym c.row_of.ensures ∙ c.in-Err-row_of.is))) refl refl
     (put_then (decimal a.number) v p.ensures.put (put_then [] v k c.put_refusal-in-Err-row_of.ensures.put))
 
-pub returns-in-Ok-clause-put : goal.returns-in-Ok-clause-put
-returns-in-Ok-clause-put c =
+pub returns-in-Ok-row_of-clause-put : goal.returns-in-Ok-row_of-clause-put
+returns-in-Ok-row_of-clause-put c =
     let a = c.args in
     let p = c.put_number-from in
     let t = c.put_text in
-    let row = c.in-Ok.row in
+    let row = c.in-Ok-row_of.row in
     let e : TextPut a.rec.now p.new.out p.result (Ok c.in-Ok.behind) t.new.out =
     subst (λ (x : Answer ℕ). TextPut a.rec.now p.new.out p.result x t.new.out) c.in-Ok.is t.ensures in
     let x : List ℕ = 9 ∷ or_star (text_of (record_ops a.rec.now)) in
     let v = tabbed (row_fields row) in
-    put_as (decimal a.number ++ (x ++ v)) (sym (line_row a.number a.rec.now e.0 _ e.1 row (sym c.row_of.ensures ∙ c.in-Ok.is))) refl refl
+    put_as (decimal a.number ++ (x ++ v)) (sym (line_row a.number a.rec.now e.0 _ e.1 row (sym c.row_of.ensures ∙ c.in-Ok-row_of.is))) refl refl
     (put_then (decimal a.number) (x ++ v) p.ensures.put (put_then x v e.2 c.put_row.ensures.put))
