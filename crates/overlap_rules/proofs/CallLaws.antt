@@ -3,20 +3,21 @@ use Prim.Native.Nat.{ℕ, ◌≤◌, ◌<◌}
 use Rattle.std.specs.Prelude.{Some, None}
 use Rattle.std.specs.Prelude.{Err, Ok, Option}
 use Rattle.answers.specs.Answer.{Answer}
-use mathlib.Core.Path.{◌≡◌, refl, ap}
+use mathlib.Core.Path.{◌≡◌, refl}
 use mathlib.Core.Bool.{Bool, true, false, cond}
 use mathlib.Core.List.{List}
 use native.Mathlib.Omega.{arith}
 use lib.IntN.{ℤ, pos}
+use lib.Dec.{ltb}
 use lib.ListN.{length, take}
 use lib.Seq.{take_at}
 use borrow.Author.Tests.{lt-ltb, le-ltb}
 use Rattle.lists.specs.Lists.{sum_of, splice}
-use Rattle.lists.proofs.Absurd.{never}
 use Rattle.signed.specs.Whole.{clamp32}
 use Rattle.sam.specs.Op.{ref_len}
 use Rattle.sam.specs.Record.{pos_of, mate_pos_of}
 use Rattle.answers.specs.Settled.{keeps}
+use Rattle.answers.specs.declared.Refusal.{Refusal}
 use Rattle.answers.specs.declared.Refusal.TheVariants.{ShortRecord, TooManyOps, Overflow, NoRoom}
 use Rattle.oplist.specs.Ops.{most_ops, record_ops}
 use Rattle.ends_rules.specs.Ends.{plus_one}
@@ -24,33 +25,33 @@ use Rattle.text_rules.specs.Text.{text_ops}
 use Rattle.text_rules.specs.Valid.{valid_mapped}
 use Rattle.text_rules.specs.Strict.{strict}
 use Rattle.parsed_rules.specs.Parsed.{measured_text}
-use Rattle.parsed_rules.specs.declared.Measured.{Measured}
 use Rattle.parsed_rules.proofs.ParsedLaws.{ops_bad, ops_some}
 use Rattle.pairs_rules.specs.Pairs.{is_fr_with_mate, is_primary_fr}
 use Rattle.overlap_rules.specs.declared.PairPlaces.{PairPlaces}
-use Rattle.overlap_rules.specs.declared.Overhang.{Overhang}
 use Rattle.overlap_rules.specs.Overlap.{both_places, placed_pair, is_over, bases_at, overhang_at, pair_overhang, is_fr_by, past_mate_cigar, past_mate_record, list_left, pair_list_left, past_mate_text}
-use Rattle.overlap_rules.specs.InnerOverlap.{is_no}
 
 -- ---- where the two lie
 
 module _ (fr : Bool) (b : List ℕ) (m : ℤ) where
-  pub apart : fr ≡ false → PairPlaces.Apart ≡ placed_pair fr b m
+  pub apart : fr ≡ false → Ok None ≡ placed_pair fr b m
   unfolding placed_pair
   apart e = simp e
 
-  pub together : {r : PairPlaces} {x y : Option ℤ} → fr ≡ true → x ≡ plus_one (record { 0 = pos_of b }) → y ≡ plus_one (record { 0 = m }) → r ≡ both_places x y → r ≡ placed_pair fr b m
+  pub together : {r : Answer (Option PairPlaces)} {x y : Option ℤ} → fr ≡ true → x ≡ plus_one (record { 0 = pos_of b }) → y ≡ plus_one (record { 0 = m }) → r ≡ both_places x y → r ≡ placed_pair fr b m
   unfolding placed_pair
   together e p q h = simp e (rw (← p, ← q) h)
 
-module _ (p : PairPlaces) (b ys : List ℕ) where
-  pub over : is_over p ≡ true → Err Overflow ≡ overhang_at p b ys
-  unfolding overhang_at
-  over e = simp e
+-- the one refusal of the places is 4
+sums : (x y : Option ℤ) (b ys : List ℕ) → overhang_at (both_places x y) b ys ≡ cond (is_over (both_places x y)) (Err Overflow) (Ok (bases_at (both_places x y) b ys))
+unfolding overhang_at
+sums (Some p) (Some m) b ys = refl
+sums (Some p) None b ys = refl
+sums None y b ys = refl
 
-  pub counted : (n : ℕ) → is_over p ≡ false → n ≡ bases_at p b ys → Ok n ≡ overhang_at p b ys
-  unfolding overhang_at
-  counted n e h = simp e (ap Ok h)
+pub overhang_is : (fr : Bool) (b : List ℕ) (m : ℤ) (ys : List ℕ) → overhang_at (placed_pair fr b m) b ys ≡ cond (is_over (placed_pair fr b m)) (Err Overflow) (Ok (bases_at (placed_pair fr b m) b ys))
+unfolding placed_pair overhang_at
+overhang_is true b m ys = sums (plus_one (record { 0 = pos_of b })) (plus_one (record { 0 = m })) b ys
+overhang_is false b m ys = refl
 
 -- ---- the mate's record
 
@@ -86,15 +87,13 @@ module _ (b ys : List ℕ) where
       cigar-bad e = simp (le-ltb (length b) 32 h, le-ltb most_ops (length ys) k, e)
 
       -- a pair that is not FR, whether or not the list is valid
-      pub cigar-apart : is_no (is_fr_by b ys) ≡ true → Ok 0 ≡ past_mate_cigar b ys
+      pub cigar-apart : is_fr_by b ys ≡ Ok false → Ok 0 ≡ past_mate_cigar b ys
       unfolding past_mate_cigar placed_pair overhang_at
-      cigar-apart e = simp (le-ltb (length b) 32 h, le-ltb most_ops (length ys) k) (go (is_fr_by b ys) (valid_mapped ys) _ e)
+      cigar-apart e = simp (le-ltb (length b) 32 h, le-ltb most_ops (length ys) k, e) (go (valid_mapped ys))
         where
-          go : (fr : Answer Bool) (v : Bool) (m : ℤ) → is_no fr ≡ true → Ok 0 ≡ cond v (pair_overhang fr b m ys) (Ok 0)
-          go (Ok true) v m f = never (cc)
-          go (Ok false) true m f = refl
-          go (Ok false) false m f = refl
-          go (Err r) v m f = never (cc)
+          go : (v : Bool) → ◌≡◌ {A = Answer ℕ} (Ok 0) (cond v (Ok 0) (Ok 0))
+          go true = refl
+          go false = refl
 
       pub cigar-is : {r : Answer ℕ} {fr : Answer Bool} {z : ℤ} {xs : List ℕ} → valid_mapped ys ≡ true → fr ≡ is_fr_by b ys → z ≡ mate_pos_of b → xs ≡ ys → r ≡ pair_overhang fr b z xs → r ≡ past_mate_cigar b ys
       unfolding past_mate_cigar
@@ -135,19 +134,34 @@ module _ (b s d : List ℕ) where
       text-left fr k f = simp (le-ltb (length b) 32 h, text_taken s n z e, le-ltb most_ops (length (text_ops s)) (omega (arith, text_count s n z e)), text_span s n z e) (rw f)
 
 -- 4, 6, or the list
-module _ (p : PairPlaces) (b xs d : List ℕ) where
-  pub list_over : is_over p ≡ true → list_left p b xs d ≡ keeps (Err Overflow) d
+module _ (b xs d : List ℕ) where
+  pub list_over : (r : Refusal) → list_left (Err r) b xs d ≡ keeps (Err r) d
   unfolding list_left
-  list_over o = simp o
+  list_over r = refl
 
-  module _ (o : is_over p ≡ false) where
-    pub list-room : length d < length xs → list_left p b xs d ≡ keeps (Err NoRoom) d
+  module _ (p : Option PairPlaces) where
+    pub list-room : length d < length xs → list_left (Ok p) b xs d ≡ keeps (Err NoRoom) d
     unfolding list_left
-    list-room l = simp (o, lt-ltb (length d) (length xs) l)
+    list-room l = simp (lt-ltb (length d) (length xs) l)
 
-    pub list_is : length xs ≤ length d → list_left p b xs d ≡ record { answer = Ok (record { bases = bases_at p b xs; written = length xs }); left = splice d 0 xs }
+    pub list_is : length xs ≤ length d → list_left (Ok p) b xs d ≡ record { answer = Ok (record { bases = bases_at (Ok p) b xs; written = length xs }); left = splice d 0 xs }
     unfolding list_left
-    list_is l = simp (o, le-ltb (length d) (length xs) l)
+    list_is l = simp (le-ltb (length d) (length xs) l)
+
+left_sums : (x y : Option ℤ) (b xs d : List ℕ) → list_left (both_places x y) b xs d
+    ≡ cond (is_over (both_places x y)) (keeps (Err Overflow) d)
+    (cond (ltb (length d) (length xs)) (keeps (Err NoRoom) d) (record { answer = Ok (record { bases = bases_at (both_places x y) b xs; written = length xs }); left = splice d 0 xs }))
+unfolding list_left
+left_sums (Some p) (Some m) b xs d = refl
+left_sums (Some p) None b xs d = refl
+left_sums None y b xs d = refl
+
+pub left_is : (fr : Bool) (b : List ℕ) (m : ℤ) (xs d : List ℕ) → list_left (placed_pair fr b m) b xs d
+    ≡ cond (is_over (placed_pair fr b m)) (keeps (Err Overflow) d)
+    (cond (ltb (length d) (length xs)) (keeps (Err NoRoom) d) (record { answer = Ok (record { bases = bases_at (placed_pair fr b m) b xs; written = length xs }); left = splice d 0 xs }))
+unfolding placed_pair list_left
+left_is true b m xs d = left_sums (plus_one (record { 0 = pos_of b })) (plus_one (record { 0 = m })) b xs d
+left_is false b m xs d = refl
 
 -- the written list is what the room's first places hold
 pub take_splice : (d xs : List ℕ) (n : ℕ) → length xs ≡ n → take n (splice d 0 xs) ≡ xs

@@ -1,6 +1,6 @@
 -- What is promised of the calls. Document 01: "An overhang never exceeds the read's query length". Document 02, item 7: overhang calls "pass the refusal on wherever they ask for this length".
 use Prim.Native.Nat.{ℕ, ◌≤◌}
-use Rattle.std.specs.Prelude.{Err, Ok}
+use Rattle.std.specs.Prelude.{Err, None, Ok, Option, Some}
 use Rattle.answers.specs.Answer.{Answer}
 use mathlib.Core.Path.{◌≡◌}
 use mathlib.Core.Bool.{Bool, true, false, cond, not}
@@ -14,7 +14,7 @@ use Rattle.sam.specs.Op.{query_len}
 use Rattle.sam.specs.Record.{flags_of, pos_of, mate_pos_of, is_reverse, is_short}
 use Rattle.answers.specs.Settled.{Outcome, keeps}
 use Rattle.answers.specs.declared.Refusal.{Refusal}
-use Rattle.answers.specs.declared.Refusal.TheVariants.{ShortRecord, TooManyOps, Overflow, NoRoom}
+use Rattle.answers.specs.declared.Refusal.TheVariants.{ShortRecord, TooManyOps, NoRoom}
 use Rattle.oplist.specs.Ops.{most_ops, record_ops}
 use Rattle.text_rules.specs.Text.{text_ops}
 use Rattle.text_rules.specs.Valid.{valid_mapped}
@@ -25,7 +25,7 @@ use Rattle.overhang_rules.proofs.Most.{overhang_most}
 use Rattle.overlap_rules.specs.declared.PairPlaces.{PairPlaces}
 use Rattle.overlap_rules.specs.declared.Overhang.{Overhang}
 use Rattle.overlap_rules.specs.Bound.{Within, WithinText}
-use Rattle.overlap_rules.specs.Overlap.{placed_pair, is_over, bases_at, overhang_at, pair_overhang, is_fr_by, past_mate_cigar, past_mate_record, list_left, pair_list_left, past_mate_text}
+use Rattle.overlap_rules.specs.Overlap.{placed_pair, bases_at, overhang_at, pair_overhang, is_fr_by, past_mate_cigar, past_mate_record, list_left, pair_list_left, past_mate_text}
 
 -- ---- the pair test's refusal, which is a length's, is the call's: before 4 of a place, and before 6
 
@@ -50,18 +50,15 @@ text_no_length b s d r l t m e = rw (l, t, m) (passed (is_fr_by b (text_ops s)) 
 
 -- ---- the most that an overhang is
 
-bases_most : (p : PairPlaces) (b ys : List ℕ) → bases_at p b ys ≤ sum_of query_len (record_ops b)
-bases_most PairPlaces.Apart b ys = omega arith
-bases_most (PairPlaces.At p m) b ys = overhang_most (is_reverse (flags_of b)) p.0 (record_ops b) m.0 ys
-bases_most PairPlaces.Over b ys = omega arith
+bases_most : (p : Answer (Option PairPlaces)) (b ys : List ℕ) → bases_at p b ys ≤ sum_of query_len (record_ops b)
+bases_most (Ok None) b ys = omega arith
+bases_most (Ok (Some w)) b ys = overhang_most (is_reverse (flags_of b)) w.own.0 (record_ops b) w.mate.0 ys
+bases_most (Err r) b ys = omega arith
 
-at_most : (p : PairPlaces) (b ys : List ℕ) → Within (overhang_at p b ys) (sum_of query_len (record_ops b))
+at_most : (p : Answer (Option PairPlaces)) (b ys : List ℕ) → Within (overhang_at p b ys) (sum_of query_len (record_ops b))
 unfolding overhang_at
-at_most p b ys = go (is_over p)
-  where
-    go : (t : Bool) → Within (cond t (Err Overflow) (Ok (bases_at p b ys))) (sum_of query_len (record_ops b))
-    go true = tt
-    go false = bases_most p b ys
+at_most (Ok p) b ys = bases_most (Ok p) b ys
+at_most (Err r) b ys = tt
 
 pub ops_most : (b : Bool) (p : ℤ) (xs : List ℕ) (m : ℤ) (ys : List ℕ) → Within (bases_extending b p xs m ys) (sum_of query_len xs)
 unfolding bases_extending
@@ -95,20 +92,20 @@ record_most b m = go (is_short b) (is_short m)
     go false true = tt
     go false false = pair_most (is_primary_fr b m) b (pos_of m) (record_ops m)
 
-left_most : (fr : Answer Bool) (b xs d : List ℕ) → WithinText (pair_list_left fr b xs d).answer (sum_of query_len (record_ops b))
+left_at : (p : Answer (Option PairPlaces)) (b xs d : List ℕ) → WithinText (list_left p b xs d).answer (sum_of query_len (record_ops b))
 unfolding list_left
-left_most (Ok fr) b xs d = go (is_over (placed_pair fr b (mate_pos_of b))) (ltb (length d) (length xs))
+left_at (Ok p) b xs d = go (ltb (length d) (length xs))
   where
-    p : PairPlaces
-    p = placed_pair fr b (mate_pos_of b)
-
     done : Outcome (Answer Overhang)
-    done = record { answer = Ok (record { bases = bases_at p b xs; written = length xs }); left = splice d 0 xs }
+    done = record { answer = Ok (record { bases = bases_at (Ok p) b xs; written = length xs }); left = splice d 0 xs }
 
-    go : (w x : Bool) → WithinText (cond {A = Outcome (Answer Overhang)} w (keeps (Err Overflow) d) (cond {A = Outcome (Answer Overhang)} x (keeps (Err NoRoom) d) done)).answer (sum_of query_len (record_ops b))
-    go true x = tt
-    go false true = tt
-    go false false = bases_most p b xs
+    go : (x : Bool) → WithinText (cond {A = Outcome (Answer Overhang)} x (keeps (Err NoRoom) d) done).answer (sum_of query_len (record_ops b))
+    go true = tt
+    go false = bases_most (Ok p) b xs
+left_at (Err r) b xs d = tt
+
+left_most : (fr : Answer Bool) (b xs d : List ℕ) → WithinText (pair_list_left fr b xs d).answer (sum_of query_len (record_ops b))
+left_most (Ok fr) b xs d = left_at (placed_pair fr b (mate_pos_of b)) b xs d
 left_most (Err r) b xs d = tt
 
 pub text_most : (b s d : List ℕ) → WithinText (past_mate_text b s d).answer (sum_of query_len (record_ops b))

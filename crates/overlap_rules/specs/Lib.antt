@@ -1,3 +1,2 @@
 pub mod Overlap
 pub mod Bound
-pub mod InnerOverlap

@@ -20,30 +20,30 @@ use Rattle.overhang_rules.specs.Overhang.{overhang_of}
 use Rattle.overlap_rules.specs.declared.PairPlaces.{PairPlaces}
 use Rattle.overlap_rules.specs.declared.Overhang.{Overhang}
 
--- of an FR pair, the read's and the mate's place counted from 1; either sum may overflow
-abbrev pub both_places : Option ℤ → Option ℤ → PairPlaces
-both_places (Some p) (Some m) = PairPlaces.At (record { 0 = p }) (record { 0 = m })
-both_places (Some p) None = PairPlaces.Over
-both_places None m = PairPlaces.Over
+-- of an FR pair, the read's and the mate's place counted from 1; either sum may overflow: 4
+abbrev pub both_places : Option ℤ → Option ℤ → Answer (Option PairPlaces)
+both_places (Some p) (Some m) = Ok (Some (record { own = record { 0 = p }; mate = record { 0 = m } }))
+both_places (Some p) None = Err Overflow
+both_places None m = Err Overflow
 
--- whether the pair is FR, and the mate's place as a record has it
-unfoldable pub placed_pair : Bool → List ℕ → ℤ → PairPlaces
-placed_pair fr b m = cond fr (both_places (plus_one (record { 0 = pos_of b })) (plus_one (record { 0 = m }))) PairPlaces.Apart
+-- where the pair is FR, its places, with the mate's place as a record has it; none of another pair
+unfoldable pub placed_pair : Bool → List ℕ → ℤ → Answer (Option PairPlaces)
+placed_pair fr b m = cond fr (both_places (plus_one (record { 0 = pos_of b })) (plus_one (record { 0 = m }))) (Ok None)
 
-abbrev pub is_over : PairPlaces → Bool
-is_over PairPlaces.Apart = false
-is_over (PairPlaces.At p m) = false
-is_over PairPlaces.Over = true
+abbrev pub is_over : Answer (Option PairPlaces) → Bool
+is_over (Ok p) = false
+is_over (Err r) = true
 
 -- 0 unless the pair is FR; else the geometry of the read's ops and the mate's
-abbrev pub bases_at : PairPlaces → List ℕ → List ℕ → ℕ
-bases_at PairPlaces.Apart b ys = 0
-bases_at (PairPlaces.At p m) b ys = overhang_of (is_reverse (flags_of b)) p.0 (record_ops b) m.0 ys
-bases_at PairPlaces.Over b ys = 0
+abbrev pub bases_at : Answer (Option PairPlaces) → List ℕ → List ℕ → ℕ
+bases_at (Ok None) b ys = 0
+bases_at (Ok (Some w)) b ys = overhang_of (is_reverse (flags_of b)) w.own.0 (record_ops b) w.mate.0 ys
+bases_at (Err r) b ys = 0
 
 -- 4
-unfoldable pub overhang_at : PairPlaces → List ℕ → List ℕ → Answer ℕ
-overhang_at p b ys = cond (is_over p) (Err Overflow) (Ok (bases_at p b ys))
+unfoldable pub overhang_at : Answer (Option PairPlaces) → List ℕ → List ℕ → Answer ℕ
+overhang_at (Ok p) b ys = Ok (bases_at (Ok p) b ys)
+overhang_at (Err r) b ys = Err r
 
 -- the same by the pair test, whose refusal, a length's, is passed on before the places are looked at
 abbrev pub pair_overhang : Answer Bool → List ℕ → ℤ → List ℕ → Answer ℕ
@@ -69,11 +69,11 @@ past_mate_record b m =
     (pair_overhang (is_primary_fr b m) b (pos_of m) (record_ops m)))
 
 -- mate text, with room d for its ops xs: 4, 6
-unfoldable pub list_left : PairPlaces → List ℕ → List ℕ → List ℕ → Outcome (Answer Overhang)
-list_left p b xs d =
-    cond (is_over p) (keeps (Err Overflow) d)
-    (cond (ltb (length d) (length xs)) (keeps (Err NoRoom) d)
-    (record { answer = Ok (record { bases = bases_at p b xs; written = length xs }); left = splice d 0 xs }))
+unfoldable pub list_left : Answer (Option PairPlaces) → List ℕ → List ℕ → List ℕ → Outcome (Answer Overhang)
+list_left (Err why) b xs d = keeps (Err why) d
+list_left (Ok p) b xs d =
+    cond (ltb (length d) (length xs)) (keeps (Err NoRoom) d)
+    (record { answer = Ok (record { bases = bases_at (Ok p) b xs; written = length xs }); left = splice d 0 xs })
 
 -- the same by the pair test: 2, 4
 abbrev pub pair_list_left : Answer Bool → List ℕ → List ℕ → List ℕ → Outcome (Answer Overhang)
