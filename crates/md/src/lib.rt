@@ -18,10 +18,7 @@ use md_rules::Spot;
 fn is_loss(op: u32) -> bool
     ensures { result ≡ is_loss op }
 {
-    if op % 16 != 2 {
-        return false;
-    }
-    0 < op / 16
+    op % 16 == 2 && 0 < op / 16
 }
 
 // An op of the measuring pass.
@@ -36,9 +33,8 @@ fn step(text: &[u8], s: Spot, op: u32) -> Option<Spot>
         return md_text::deletion(text, s, op / 16);
     }
     Some(Spot {
-        at: s.at,
-        left: s.left,
         count: s.count + 1,
+        ..s
     })
 }
 
@@ -50,20 +46,18 @@ fn write_op(text: &[u8], s: Spot, op: u32, out: &mut [u32]) -> Spot
     if op % 16 == 0 {
         return md_runs::write_runs(text, s, op, out);
     }
-    let place = s.count;
-    out[place] = op;
+    out[s.count] = op;
     if !is_loss(op) {
         return Spot {
-            at: s.at,
-            left: s.left,
-            count: place + 1,
+            count: s.count + 1,
+            ..s
         };
     }
-    let f = md_text::number(text, s.at + 1 + (op / 16) as usize);
+    let f = md_text::number(text, s.at + 1 + (op / 16) as usize).unwrap();
     Spot {
         at: f.at,
         left: f.n,
-        count: place + 1,
+        count: s.count + 1,
     }
 }
 
@@ -74,27 +68,16 @@ fn measure(ops: &[u32], text: &[u8]) -> Option<usize>
     requires { length ops.now ≤ 65535 }
     ensures { WalkedIs ops.now text.now result }
 {
-    let f = md_text::number(text, 0);
-    if f.at == 0 {
-        return None;
-    }
+    let f = md_text::number(text, 0)?;
     let mut s = Spot {
         at: f.at,
         left: f.n,
         count: 0,
     };
-    let mut i: usize = 0;
-    while i < ops.len() {
-        let Some(next) = step(text, s, ops[i]) else {
-            return None;
-        };
-        s = next;
-        i += 1;
+    for op in ops {
+        s = step(text, s, *op)?;
     }
-    if s.left != 0 {
-        return None;
-    }
-    if s.at < text.len() {
+    if s.left != 0 || s.at < text.len() {
         return None;
     }
     Some(s.count)
@@ -106,16 +89,14 @@ fn write(ops: &[u32], text: &[u8], out: &mut [u32])
     requires text_in_bounds { length (told ops.now (columns_of text.now)) ≤ length out.old }
     ensures { out.new ≡ splice out.old 0 (told ops.now (columns_of text.now)) }
 {
-    let f = md_text::number(text, 0);
+    let f = md_text::number(text, 0).unwrap();
     let mut s = Spot {
         at: f.at,
         left: f.n,
         count: 0,
     };
-    let mut i: usize = 0;
-    while i < ops.len() {
-        s = write_op(text, s, ops[i], out);
-        i += 1;
+    for op in ops {
+        s = write_op(text, s, *op, out);
     }
 }
 
@@ -123,18 +104,7 @@ fn write(ops: &[u32], text: &[u8], out: &mut [u32])
 fn holds_told(ops: &[u32]) -> bool
     ensures { result ≡ holds is_told ops.now }
 {
-    let mut i: usize = 0;
-    while i < ops.len() {
-        let op = ops[i];
-        if op % 16 == 7 {
-            return true;
-        }
-        if op % 16 == 8 {
-            return true;
-        }
-        i += 1;
-    }
-    false
+    ops.iter().any(|op| matches!(op % 16, 7 | 8))
 }
 
 // The list with each M as the runs of = and X that an MD text tells, in the first places of out. Refusals 3, 20, 21, 22, 6.

@@ -1,7 +1,7 @@
 -- What a byte does to the place that a text stands at, and to its columns.
 use Prim.Native.Nat.{ℕ, zero, suc, ◌+◌, ◌-◌, ◌*◌, ◌≤◌, ◌<◌}
 use mathlib.Core.Path.{◌≡◌, refl, sym, ap, ◌∙◌}
-use mathlib.Core.Bool.{Bool, true, false, cond}
+use mathlib.Core.Bool.{Bool, true, false, cond, ◌&&◌}
 use mathlib.Core.List.{List, [], ◌∷◌, ◌++◌, append-nil}
 use native.Mathlib.Omega.{arith}
 use lib.ListN.{length, get_or, take, drop, replicate, length-append, length-replicate}
@@ -188,7 +188,7 @@ within_capitals zero s h = refl
 within_capitals (suc n) [] h = absurd (omega arith)
 within_capitals (suc n) (b ∷ s) h = go (is_capital b) h (λ g. within_capitals n s g)
   where
-    go : (t : Bool) → suc n ≤ cond t (suc (capitals s)) 0 → (n ≤ capitals s → all_capital (take n s) ≡ true) → cond t (all_capital (take n s)) false ≡ true
+    go : (t : Bool) → suc n ≤ cond t (suc (capitals s)) 0 → (n ≤ capitals s → all_capital (take n s) ≡ true) → (t && all_capital (take n s)) ≡ true
     go true h r = r (omega arith)
     go false h r = absurd (omega arith)
 
@@ -200,7 +200,7 @@ through zero k s l a = (ap (λ (j : ℕ). columns_from InLetters j s) {x = k} {y
 through (suc n) k [] l a = absurd (omega arith)
 through (suc n) k (b ∷ s) l a = go (is_capital b) refl a (λ g. through n (k + 1) s (omega arith) g)
   where
-    go : (t : Bool) → is_capital b ≡ t → cond t (all_capital (take n s)) false ≡ true
+    go : (t : Bool) → is_capital b ≡ t → (t && all_capital (take n s)) ≡ true
         → (all_capital (take n s) ≡ true → (columns_from InLetters (k + 1) s ≡ columns_from InLetters (k + 1 + n) (drop n s)) × (fits Letters s ≡ fits Letters (drop n s)))
         → (columns_from InLetters k (b ∷ s) ≡ columns_from InLetters (k + suc n) (drop n s)) × (fits Letters (b ∷ s) ≡ fits Letters (drop n s))
     go true q a r =
@@ -214,6 +214,6 @@ first_letter zero s h l a = absurd (omega arith)
 first_letter (suc n) [] h l a = absurd (omega arith)
 first_letter (suc n) (b ∷ s) h l a = go (is_capital b) refl a
   where
-    go : (t : Bool) → is_capital b ≡ t → cond t (all_capital (take n s)) false ≡ true → fits Caret (b ∷ s) ≡ fits Letters (b ∷ s)
+    go : (t : Bool) → is_capital b ≡ t → (t && all_capital (take n s)) ≡ true → fits Caret (b ∷ s) ≡ fits Letters (b ∷ s)
     go true q a = fits-first b s q ∙ sym (fits_more b s q)
     go false q a = false_true a

@@ -1,5 +1,6 @@
 -- An M, number by number of the text: what is passed and what is left make the whole.
 use Prim.Native.Nat.{ℕ, suc, ◌+◌, ◌-◌, ◌≤◌, ◌<◌}
+use Rattle.std.specs.Prelude.{Option, Some, None, IsSome}
 use mathlib.Core.Path.{◌≡◌, refl, sym, ap, ◌∙◌}
 use mathlib.Core.Bool.{Bool, true, false}
 use mathlib.Core.List.{List, ◌∷◌, ◌++◌}
@@ -12,7 +13,8 @@ use Rattle.lists.proofs.ListLaws.{splice_append}
 use Rattle.sam.specs.Md.{is_capital, MdColumn, MdColumn.Match, MdColumn.Mismatch}
 use Rattle.md_rules.specs.Md.{fits, well_formed, Within.InNumber, columns_from}
 use Rattle.md_rules.specs.Rule.{runs, bases}
-use Rattle.md_rules.specs.InnerWalk.{most, Behind, columns_at, ReadAt, pair_of, closed_by, open_by}
+use Rattle.md_rules.specs.declared.Figure.{Figure}
+use Rattle.md_rules.specs.InnerWalk.{most, Behind, columns_at, ReadAt, FigureAt, pair_of, closed_by, open_by}
 use Rattle.md_rules.specs.declared.Place.TheVariants.{Wants}
 use Rattle.md_rules.proofs.PlaceLaws.{letter_read, letter-columns, letter-fits, no_letter, side}
 use Rattle.md_rules.proofs.RunLaws.{runs_left, bases_same, on_bases, on_drop, on_runs, end_bases, end_drop, end_runs, pair_few, closed_few, no_base}
@@ -90,6 +92,11 @@ module _ (text : List ℕ) (cs : List MdColumn) (N from n k at left count : ℕ)
       go : (t : Bool) → is_capital (get_or text at 0) ≡ t → t ≡ true
       go true q = refl
       go false q = absurd (omega (arith, few, not_there h (λ j. q) f b))
+
+  -- and it can be told
+  pub is_there : (r : Option Figure) → left < n → well_formed text ≡ true → bases N cs ≡ true → length cs ≤ most → FigureAt text (at + 1) r → IsSome r
+  is_there (Some f) h w b few u = refl
+  is_there None h w b few u = let i = there h w b few in absurd (omega (arith, few, no_number h i.0 i.1 u w))
 
   -- the M ends within the matches
   module _ (h : n ≤ left) where

@@ -1,17 +1,18 @@
 -- The two passes over a list: what is passed and what is left make the whole, and what they come to.
 use Prim.Native.Nat.{ℕ, zero, suc, ◌+◌, ◌*◌, ◌≤◌, ◌<◌}
+use Rattle.std.specs.Prelude.{IsTrue, ◌↔◌}
+use Rattle.std.specs.List.{HoldsAt}
+use Rattle.std.proofs.lemmas.Bool.Decides.{same_from_decides, Decides-by_or}
 use mathlib.Core.Path.{◌≡◌, refl, sym, ap, ◌∙◌}
-use mathlib.Core.Bool.{Bool, true, false, cond}
+use mathlib.Core.Bool.{Bool, true, false, cond, ◌||◌}
 use mathlib.Core.List.{List, [], ◌∷◌, ◌++◌}
 use native.Mathlib.Omega.{arith}
 use lib.ListN.{length, get_or, drop, length-append}
-use borrow.Author.Tests.{eq-eqb, ne_eqb}
 use Rattle.lists.specs.Lists.{sum_of, splice}
 use Rattle.lists.specs.Runs.{holds}
 use Rattle.lists.proofs.Absurd.{false_true}
 use Rattle.lists.proofs.ListLaws.{splice_append, splice_nil}
-use Rattle.lists.proofs.Walks.{step, done}
-use Rattle.sam.specs.Op.{len_of, code_of}
+use Rattle.sam.specs.Op.{len_of}
 use Rattle.sam.specs.Md.{is_capital, MdColumn}
 use Rattle.md_rules.specs.Md.{fits, well_formed, Within.InNumber, columns_from, columns_of}
 use Rattle.md_rules.specs.Rule.{is_told, op_agrees, op_leaves, op_told, agrees, told}
@@ -147,25 +148,12 @@ module _ (xs text : List ℕ) (i : ℕ) (s : Spot) (p : Passed xs text i s) wher
 
 -- ---- = and X
 
-module _ (xs : List ℕ) (i : ℕ) (h : i < length xs) where
-  pub held : (o : ℕ) → o ≡ get_or xs i 0 → is_told o ≡ true → holds is_told (drop i xs) ≡ true
-  unfolding holds
-  held o e t = rw (step xs i o e h, t)
-
-  pub not_held : (o : ℕ) → o ≡ get_or xs i 0 → is_told o ≡ false → holds is_told (drop i xs) ≡ holds is_told (drop (i + 1) xs)
-  unfolding holds
-  not_held o e t = rw (step xs i o e h, t)
-
-pub none_held : (xs : List ℕ) (i : ℕ) → length xs ≤ i → holds is_told (drop i xs) ≡ false
+-- a test that finds one of the two tells whether a list holds them
+pub told_any : (r : Bool) (xs : List ℕ) → (IsTrue r ↔ ((k : ℕ) × (k < length xs) × HoldsAt (λ o. is_told o ≡ true) xs k)) → r ≡ holds is_told xs
 unfolding holds
-none_held xs i h = ap (holds is_told) (done xs i h)
-
-module _ (o : ℕ) where
-  pub told_match : code_of o ≡ 7 → is_told o ≡ true
-  told_match e = rw (eq-eqb (code_of o) 7 e)
-
-  pub told_mismatch : (code_of o ≡ 7 → ⊥) → code_of o ≡ 8 → is_told o ≡ true
-  told_mismatch n e = rw (ne_eqb (code_of o) 7 n, eq-eqb (code_of o) 8 e)
-
-  pub told_other : (code_of o ≡ 7 → ⊥) → (code_of o ≡ 8 → ⊥) → is_told o ≡ false
-  told_other n e = rw (ne_eqb (code_of o) 7 n, ne_eqb (code_of o) 8 e)
+told_any r xs h =
+    same_from_decides r (holds is_told xs) h (Decides-by_or is_told (λ o. is_told o ≡ true) (holds is_told) (λ o. (λ e. e, λ e. e)) refl (λ o os. either (is_told o) (holds is_told os)) xs)
+  where
+    either : (a b : Bool) → cond a true b ≡ (a || b)
+    either true b = refl
+    either false b = refl

@@ -1,7 +1,7 @@
 -- A text by places: what stands at one takes the columns to the next.
-use Prim.Native.Nat.{ℕ, suc, ◌+◌, ◌-◌, ◌*◌, ◌≤◌, ◌<◌}
+use Prim.Native.Nat.{ℕ, ◌+◌, ◌-◌, ◌*◌, ◌≤◌, ◌<◌}
 use mathlib.Core.Path.{◌≡◌, refl, sym, ap, ◌∙◌}
-use mathlib.Core.Bool.{Bool, true, false, cond, ◌&&◌}
+use mathlib.Core.Bool.{Bool, true, false}
 use mathlib.Core.List.{List, [], ◌∷◌}
 use mathlib.Core.Logic.{◌⊎◌, inl, inr, ⊎_elim}
 use native.Mathlib.Omega.{arith}
@@ -10,12 +10,15 @@ use borrow.Author.Tests.{ltb-true, ltb-false}
 use lib.ListN.{length, get_or, take, drop, length-drop}
 use lib.Seq.{get_or-drop, drop-drop}
 use Rattle.lists.proofs.Walks.{step, done}
+use Rattle.std.specs.Prelude.{None, IsTrue, ◌↔◌}
+use Rattle.std.specs.List.{All}
+use Rattle.std.proofs.lemmas.Bool.Decides.{same_from_decides, Decides-by_and}
 use Rattle.lists.proofs.Absurd.{false_true}
 use Rattle.sam.specs.Text.{is_digit}
 use Rattle.sam.specs.Md.{is_capital, MdColumn, MdColumn.Mismatch, MdColumn.Deleted}
 use Rattle.md_rules.specs.Md.{next_place, may_end, fits, well_formed, Within.InNumber, Within.InLetters, columns_from}
 use Rattle.md_rules.specs.Rule.{bases}
-use Rattle.md_rules.specs.InnerWalk.{most, Behind, columns_at, ReadAt, FigureAt, all_capital}
+use Rattle.md_rules.specs.InnerWalk.{Behind, columns_at, ReadAt, FigureAt, all_capital}
 use Rattle.md_rules.specs.declared.Place.{Place}
 use Rattle.md_rules.specs.declared.Place.TheVariants.{Wants, Number, Caret, Letters}
 use Rattle.md_rules.proofs.ByteLaws.{fits_digit, fits_begin, fits_letter, fits_caret, fits_behind, no_begin, only_caret, caret_letters, columns_digit, columns_behind, columns_letter, columns_caret, columns_apart, capitals, LettersAre, letters_are, through, first_letter, digit_capital}
@@ -104,39 +107,16 @@ module _ (text : List ℕ) (at : ℕ) (h : at < length text) (c : get_or text at
         ∙ ap (fits Letters) behind
         ∙ digit-next (λ s. fits Letters s ≡ fits Wants s) (λ b s g. fits_behind b s (digit_capital b g)) k
 
--- a letter more
-pub capital_turn : (text : List ℕ) (at to : ℕ) (all : Bool) → at < to → to ≤ length text
-    → (all && all_capital (take (to - at) (drop at text))) ≡ ((all && is_capital (get_or text at 0)) && all_capital (take (to - (at + 1)) (drop (at + 1) text)))
+-- a test that looks at each letter tells whether all are capital
+pub capital_all : (r : Bool) (s : List ℕ) → (IsTrue r ↔ All (λ b. is_capital b ≡ true) s) → r ≡ all_capital s
 unfolding all_capital
-capital_turn text at to all h l =
-    ap (λ (s : List ℕ). all && all_capital (take (to - at) s)) (step text at (get_or text at 0) refl (omega arith))
-    ∙ ap (λ (n : ℕ). all && all_capital (take n (get_or text at 0 ∷ drop (at + 1) text))) {x = to - at} {y = suc (to - (at + 1))} (omega arith)
-    ∙ go all (is_capital (get_or text at 0)) (all_capital (take (to - (at + 1)) (drop (at + 1) text)))
-  where
-    go : (a b c : Bool) → (a && cond b c false) ≡ ((a && b) && c)
-    go true true c = refl
-    go true false c = refl
-    go false b c = refl
-
-pub no_turn : (text : List ℕ) (at to : ℕ) (all : Bool) → to ≤ at → (all && all_capital (take (to - at) (drop at text))) ≡ all
-unfolding all_capital
-no_turn text at to all h = ap (λ (n : ℕ). all && all_capital (take n (drop at text))) {x = to - at} {y = 0} (omega arith) ∙ go all
-  where
-    go : (a : Bool) → (a && true) ≡ a
-    go true = refl
-    go false = refl
+capital_all r s h = same_from_decides r (all_capital s) h (Decides-by_and is_capital (λ b. is_capital b ≡ true) all_capital (λ b. (λ e. e, λ e. e)) refl (λ _ _. refl) s)
 
 -- ---- what a number leads to
 
 module _ (text : List ℕ) (from : ℕ) where
-  pub none_there : fits Wants (drop from text) ≡ false → FigureAt text from (record { n = 0; at = 0 })
-  none_there e = record { read = λ h. absurd (omega arith); unread = λ z f. false_true (sym e ∙ f) }
-
-  pub too_large : most < length (columns_from InNumber 0 (drop from text)) → FigureAt text from (record { n = 0; at = 0 })
-  too_large h = record { read = λ h. absurd (omega arith); unread = λ z f. h }
-
-  pub one_there : (n at : ℕ) → ReadAt text from n at → FigureAt text from (record { n = n; at = at })
-  one_there n at r = record { read = λ h. r; unread = λ z. absurd (omega (arith, r.past)) }
+  pub none_there : fits Wants (drop from text) ≡ false → FigureAt text from None
+  none_there e f = false_true (sym e ∙ f)
 
 -- behind a letter
 pub letter_read : (text : List ℕ) (at n next : ℕ) → Behind text at → at < length text → is_capital (get_or text at 0) ≡ true → ReadAt text (at + 1) n next

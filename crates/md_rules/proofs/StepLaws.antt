@@ -1,6 +1,6 @@
 -- What an M, a D of nonzero length and any other op come to is what the rule has of an op.
 use Prim.Native.Nat.{ℕ, ◌+◌, ◌≤◌, ◌<◌}
-use Rattle.std.specs.Prelude.{None, Option, Some}
+use Rattle.std.specs.Prelude.{None, Option, Some, IsSome}
 use mathlib.Core.Path.{◌≡◌, refl, sym, ap, ◌∙◌}
 use mathlib.Core.Bool.{Bool, true, false}
 use mathlib.Core.List.{List, ◌∷◌}
@@ -97,13 +97,11 @@ module _ (text : List ℕ) (s : Spot) (o : ℕ) (d : List ℕ) (w : MayWrite tex
     pub loss-room : s.at + 1 + len_of o ≤ length text
     loss-room = omega (arith, inside, length-drop (s.at + 1) text, lost-room text s.at s.left (len_of o) w.behind (loss_some o l) none inside caret w.formed lost)
 
-    module _ (f : Figure) (r : FigureAt text (s.at + 1 + len_of o) f) where
-      read : ReadAt text (s.at + 1 + len_of o) f.n f.at
-      read = r.read (above f.at (λ z. large (lost-large text s.at s.left (len_of o) w.behind (loss_some o l) none inside caret (r.unread z) w.formed lost)))
-        where
-          above : (k : ℕ) → (k ≡ 0 → ⊥) → 0 < k
-          above k e = omega arith
+    pub loss-read : (r : Option Figure) → FigureAt text (s.at + 1 + len_of o) r → IsSome r
+    loss-read (Some f) u = refl
+    loss-read None u = large (lost-large text s.at s.left (len_of o) w.behind (loss_some o l) none inside caret u w.formed lost)
 
+    module _ (f : Figure) (read : ReadAt text (s.at + 1 + len_of o) f.n f.at) where
       all : all_capital (take (len_of o) (drop (s.at + 1) text)) ≡ true
       all = lost-capital text s.at s.left (len_of o) w.behind (loss_some o l) none inside caret w.formed lost
 

@@ -1,5 +1,5 @@
 -- What the functions of `md` go by: what a place of a text stands for, and what an op does to it.
-use Rattle.std.specs.Prelude.{ℕ, zero, suc, ◌+◌, ◌≤◌, ◌<◌, ◌≡◌, Bool, true, false, cond, List, [], ◌∷◌, ◌++◌, length, take, drop, get_or, replicate}
+use Rattle.std.specs.Prelude.{ℕ, zero, suc, ◌+◌, ◌≤◌, ◌<◌, ◌≡◌, Bool, true, false, ◌&&◌, List, [], ◌∷◌, ◌++◌, length, take, drop, get_or, replicate}
 use Rattle.std.specs.Prelude.{None, Option, Some}
 use Rattle.lists.specs.Lists.{splice}
 use Rattle.sam.specs.Op.{op_of}
@@ -39,14 +39,14 @@ pub record ReadAt (text : List ℕ) (from n at : ℕ) : Type 0 where
   pub columns : columns_from InNumber 0 (drop from text) ≡ columns_at text at n
 
 -- or there is none, or one that is too large
-pub record FigureAt (text : List ℕ) (from : ℕ) (f : Figure) : Type 0 where
-  pub read : 0 < f.at → ReadAt text from f.n f.at
-  pub unread : f.at ≡ 0 → fits Wants (drop from text) ≡ true → most < length (columns_from InNumber 0 (drop from text))
+abbrev pub FigureAt : List ℕ → ℕ → Option Figure → Type 0
+FigureAt text from (Some f) = ReadAt text from f.n f.at
+FigureAt text from None = fits Wants (drop from text) ≡ true → most < length (columns_from InNumber 0 (drop from text))
 
 -- whether all are capital letters
 unfoldable pub all_capital : List ℕ → Bool
 all_capital [] = true
-all_capital (b ∷ s) = cond (is_capital b) (all_capital s) false
+all_capital (b ∷ s) = is_capital b && all_capital s
 
 -- the run of n bases of a code: none where there are none
 unfoldable pub run_of : ℕ → ℕ → List ℕ

@@ -11,7 +11,7 @@ pub enum Place {
     Wrong,
 }
 
-// A number of a text, and the place behind it; place 0 where none stands there, or one that is larger than any list of ops.
+// A number of a text, and the place behind it. Where none stands there, or one that is larger than any list of ops, there is no `Figure`.
 #[derive(Clone, Copy)]
 pub struct Figure {
     pub n: u64,
@@ -25,4 +25,3 @@ pub struct Spot {
     pub left: u64,
     pub count: usize,
 }
-

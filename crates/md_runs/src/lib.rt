@@ -4,7 +4,7 @@
 ghost use Rattle.std.specs.Prelude.{◌≡◌, true, ◌+◌, ◌≤◌, ◌<◌, length};
 ghost use Rattle.lists.specs.Lists.{splice};
 ghost use Rattle.md_rules.specs.Rule.{is_match};
-ghost use Rattle.md_rules.specs.InnerWalk.{run_of, pair_of, closed_by, open_by, Behind, RunsAt, MayWrite, Wrote};
+ghost use Rattle.md_rules.specs.InnerWalk.{run_of, pair_of, Behind, RunsAt, MayWrite, Wrote};
 
 use md_rules::Spot;
 
@@ -12,34 +12,10 @@ use md_rules::Spot;
 fn pair_count(k: u64, m: u64) -> usize
     ensures { result ≡ length (pair_of k m) }
 {
-    if k == 0 {
-        return if m == 0 { 0 } else { 1 };
-    }
-    if m == 0 { 1 } else { 2 }
+    usize::from(k != 0) + usize::from(m != 0)
 }
 
-// How many runs are closed by a mismatch behind k mismatches and m matches.
-fn closed_count(k: u64, m: u64) -> usize
-    ensures { result ≡ length (closed_by k m) }
-{
-    if m == 0 {
-        return 0;
-    }
-    pair_count(k, m)
-}
-
-// How many mismatches stand in a row then.
-fn open_count(k: u64, m: u64) -> u64
-    requires { k < 268435456 }
-    ensures { result ≡ open_by k m }
-{
-    if m == 0 {
-        return k + 1;
-    }
-    1
-}
-
-// Counts the runs of an M.
+// Counts the runs of an M, of which k mismatches in a row are not counted yet. It tests the text, which `write_runs` need not: so they are two.
 pub fn count_runs(text: &[u8], s: Spot, length: u32) -> Option<Spot>
     requires { Behind text.now s.at × (length < 268435456) × (s.count < 1152921504606846976) }
     ensures { RunsAt text.now s length result }
@@ -50,24 +26,22 @@ pub fn count_runs(text: &[u8], s: Spot, length: u32) -> Option<Spot>
     let mut left = s.left;
     let mut count = s.count;
     while left < n {
-        if text.len() <= at {
+        if text.len() <= at || !text[at].is_ascii_uppercase() {
             return None;
         }
-        if !md_text::is_capital(text[at]) {
-            return None;
+        let f = md_text::number(text, at + 1)?;
+        if left == 0 {
+            k += 1;
+        } else {
+            count += pair_count(k, left);
+            k = 1;
         }
-        let f = md_text::number(text, at + 1);
-        if f.at == 0 {
-            return None;
-        }
-        count += closed_count(k, left);
-        k = open_count(k, left);
         n -= left + 1;
         left = f.n;
         at = f.at;
     }
     Some(Spot {
-        at: at,
+        at,
         left: left - n,
         count: count + pair_count(k, n),
     })
@@ -96,19 +70,7 @@ fn put_pair(out: &mut [u32], place: usize, k: u64, m: u64) -> usize
     put_run(out, next, m, 7)
 }
 
-// Writes the runs that are closed by a mismatch behind k mismatches and m matches.
-fn put_closed(out: &mut [u32], place: usize, k: u64, m: u64) -> usize
-    requires { (k < 268435456) × (m < 268435456) × (place + length (closed_by k m) ≤ length out.old) }
-    ensures value { result ≡ place + length (closed_by k m) }
-    ensures out_after { out.new ≡ splice out.old place (closed_by k m) }
-{
-    if m == 0 {
-        return place;
-    }
-    put_pair(out, place, k, m)
-}
-
-// Writes the runs of an M.
+// Writes the runs of an M, of which k mismatches in a row are not written yet.
 pub fn write_runs(text: &[u8], s: Spot, op: u32, out: &mut [u32]) -> Spot
     requires { MayWrite text.now s op out.old × (is_match op ≡ true) }
     ensures { Wrote text.now s op result out.old out.new }
@@ -119,16 +81,20 @@ pub fn write_runs(text: &[u8], s: Spot, op: u32, out: &mut [u32]) -> Spot
     let mut left = s.left;
     let mut place = s.count;
     while left < n {
-        let f = md_text::number(text, at + 1);
-        place = put_closed(out, place, k, left);
-        k = open_count(k, left);
+        let f = md_text::number(text, at + 1).unwrap();
+        if left == 0 {
+            k += 1;
+        } else {
+            place = put_pair(out, place, k, left);
+            k = 1;
+        }
         n -= left + 1;
         left = f.n;
         at = f.at;
     }
     let end = put_pair(out, place, k, n);
     Spot {
-        at: at,
+        at,
         left: left - n,
         count: end,
     }

@@ -3,40 +3,56 @@ use Prim.Native.Nat.{ℕ, ◌+◌, ◌≤◌}
 use mathlib.Core.Path.{◌≡◌, sym, ap, ◌∙◌}
 use mathlib.Core.Bool.{true}
 use native.Mathlib.Omega.{arith}
+use borrow.Author.Rules.{rules}
+use Rattle.std.specs.Prelude.{None}
 use lib.ListN.{length, get_or}
 use Rattle.sam.specs.Md.{is_capital}
-use Rattle.md_rules.specs.InnerWalk.{pair_of}
-use Rattle.md_rules.proofs.RunLaws.{pair_few, closed_few}
+use Rattle.md_rules.specs.InnerWalk.{pair_of, closed_by, open_by}
+use Rattle.md_rules.proofs.RunLaws.{pair_few, closed_none, closed_some}
 use Rattle.md_rules.proofs.MatchLaws.{turn, no_number, not_there, ended-are, ended-rest, ended-counted, ended-few}
 use Rattle.md_runs.proofs.count_runs.Goals as goal
+use Rattle.md_runs.proofs.count_runs.Goals.{then-text-at-via-then-text-at, then-text-at-via-else-text-at+then-not-is_ascii_uppercase, then-left-eq0, else-left-eq0}
 
 pub returns-then-text-at : goal.returns-then-text-at
 returns-then-text-at c =
-    not_there c.args.text.now _ _ _ _ _ c.loop-left.at _ _ c.loop-left.invariant (omega arith) (λ h. absurd (omega (arith, c.if-text-at.true)))
+    not_there c.args.text.now _ _ _ _ _ c.loop-left.at _ _ c.loop-left.invariant (omega arith) (elim c.then-text-at.branch [
+      | then-text-at-via-then-text-at w ↦ λ h. absurd (omega (arith, w.if-text-at.true))
+      | then-text-at-via-else-text-at+then-not-is_ascii_uppercase w ↦ λ h. sym w.is_ascii_uppercase.ensures.value ∙ w.if-not-is_ascii_uppercase.true
+    ])
 
-pub returns-then-not-is_capital : goal.returns-then-not-is_capital
-returns-then-not-is_capital c =
-    not_there c.args.text.now _ _ _ _ _ c.loop-left.at _ _ c.loop-left.invariant (omega arith) (λ h. sym c.is_capital.ensures ∙ c.if-not-is_capital.true)
-
-pub returns-then-f-eq0 : goal.returns-then-f-eq0
-returns-then-f-eq0 c =
+pub returns-in_err-f : goal.returns-in_err-f
+returns-in_err-f c =
+    let e : c.from_residual.result ≡ None = search rules in
+    rw e
+    (
     let letter : is_capital (get_or c.args.text.now c.loop-left.at 0) ≡ true =
-    sym c.is_capital.ensures ∙ c.if-not-is_capital.false
+    sym c.is_ascii_uppercase.ensures.value ∙ c.if-not-is_ascii_uppercase.false
     in
-    λ f b. no_number c.args.text.now _ _ _ _ _ c.loop-left.at _ _ c.loop-left.invariant (omega arith) (omega arith) (letter) (c.number-f.ensures.unread c.if-f-eq0.true) f
+    λ f b. no_number c.args.text.now _ _ _ _ _ c.loop-left.at _ _ c.loop-left.invariant (omega arith) (omega arith) (letter) c.in_err-f.ensures f)
 
 pub overflow_add-count : goal.overflow_add-count
 overflow_add-count c =
-    omega (arith, c.loop-left.invariant.few, closed_few c.loop-left.k c.loop-left.left, c.closed_count-count.ensures, c.requires.1, c.requires.2)
+    omega (arith, c.loop-left.invariant.few, pair_few c.loop-left.k c.loop-left.left, c.pair_count-count.ensures, c.requires.1, c.requires.2)
 
 pub loop-left-preserved : goal.loop-left-preserved
 loop-left-preserved c =
     let letter : is_capital (get_or c.args.text.now c.loop-left.at 0) ≡ true =
-    sym c.is_capital.ensures ∙ c.if-not-is_capital.false
+    sym c.is_ascii_uppercase.ensures.value ∙ c.if-not-is_ascii_uppercase.false
     in
-    rw (c.open_count-k.ensures, c.closed_count-count.ensures)
-    (turn c.args.text.now _ _ _ c.loop-left.n c.loop-left.k c.loop-left.at c.loop-left.left c.loop-left.count c.loop-left.invariant (omega arith) (omega arith) (letter) c.number-f.result.n c.number-f.result.at
-    (c.number-f.ensures.read (omega (arith, c.if-f-eq0.false))))
+    let k = c.loop-left.k in
+    let left = c.loop-left.left in
+    let now : (c.if-left-eq0.count ≡ c.loop-left.count + length (closed_by k left)) × (c.if-left-eq0.k ≡ open_by k left) =
+    elim c.if-left-eq0.branch [
+      | then-left-eq0 w ↦
+          let z = closed_none k left w.if-left-eq0.true in
+          (omega (arith, w.count-is, ap length z.0), w.k-is ∙ sym z.1)
+      | else-left-eq0 w ↦
+          let z = closed_some k left w.if-left-eq0.false in
+          (omega (arith, w.count-is, w.pair_count-count.ensures, ap length z.0), w.k-is ∙ sym z.1)
+    ]
+    in
+    rw (now.0, now.1)
+    (turn c.args.text.now _ _ _ c.loop-left.n k c.loop-left.at left c.loop-left.count c.loop-left.invariant (omega arith) (omega arith) (letter) c.in_ok-f.f.n c.in_ok-f.f.at c.in_ok-f.ensures)
 
 pub overflow_add-result : goal.overflow_add-result
 overflow_add-result c =

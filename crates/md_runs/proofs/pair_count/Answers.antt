@@ -1,21 +1,21 @@
 -- A run for some, none for none.
-use mathlib.Core.Path.{sym, ap}
+use Prim.Native.Nat.{ℕ, ◌+◌}
+use mathlib.Core.Path.{◌≡◌, refl, sym, ap}
+use mathlib.Core.Bool.{Bool, true, false, not}
+use native.Mathlib.Omega.{arith}
+use mir.Val.{bool_byte}
+use lib.Dec.{eqb}
 use lib.ListN.{length}
+use borrow.Author.Tests.{eqb-true, eqb-false}
+use Rattle.md_rules.specs.InnerWalk.{pair_of}
 use Rattle.md_rules.proofs.RunLaws.{run_none, run_some, pair_is}
 use Rattle.md_runs.proofs.pair_count.Goals as goal
 
-pub returns-then-m-eq0 : goal.returns-then-m-eq0
-returns-then-m-eq0 c =
-    sym (ap length (pair_is _ _ (run_none _ 8 c.if-k-eq0.true) (run_none _ 7 c.if-m-eq0.true)))
+by_tests : (k m : ℕ) (t u : Bool) → eqb k 0 ≡ t → eqb m 0 ≡ u → bool_byte (not t) + bool_byte (not u) ≡ length (pair_of k m)
+by_tests k m true true e f = sym (ap length (pair_is k m (run_none k 8 (eqb-true k 0 e)) (run_none m 7 (eqb-true m 0 f))))
+by_tests k m true false e f = sym (ap length (pair_is k m (run_none k 8 (eqb-true k 0 e)) (run_some m 7 (eqb-false m 0 f))))
+by_tests k m false true e f = sym (ap length (pair_is k m (run_some k 8 (eqb-false k 0 e)) (run_none m 7 (eqb-true m 0 f))))
+by_tests k m false false e f = sym (ap length (pair_is k m (run_some k 8 (eqb-false k 0 e)) (run_some m 7 (eqb-false m 0 f))))
 
-pub returns-else-m-eq0 : goal.returns-else-m-eq0
-returns-else-m-eq0 c =
-    sym (ap length (pair_is _ _ (run_none _ 8 c.if-k-eq0.true) (run_some _ 7 c.if-m-eq0.false)))
-
-pub returns-then-m-eq0-2 : goal.returns-then-m-eq0-2
-returns-then-m-eq0-2 c =
-    sym (ap length (pair_is _ _ (run_some _ 8 c.if-k-eq0.false) (run_none _ 7 c.if-m-eq0-2.true)))
-
-pub returns-else-m-eq0-2 : goal.returns-else-m-eq0-2
-returns-else-m-eq0-2 c =
-    sym (ap length (pair_is _ _ (run_some _ 8 c.if-k-eq0.false) (run_some _ 7 c.if-m-eq0-2.false)))
+pub returns : goal.returns
+returns c = omega (arith, c.from.ensures, c.from-2.ensures, by_tests c.args.k c.args.m _ _ refl refl)

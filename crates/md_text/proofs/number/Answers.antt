@@ -1,71 +1,73 @@
 -- The number so far and the text behind it have the columns of all.
 use Prim.Native.Nat.{ℕ, ◌+◌, ◌*◌, ◌-◌}
-use mathlib.Core.Path.{◌≡◌, refl, sym, ap, ◌∙◌}
-use mathlib.Core.Bool.{true}
+use mathlib.Core.Path.{◌≡◌, refl, sym, ap, ◌∙◌, subst}
+use mathlib.Core.Bool.{true, false}
 use native.Mathlib.Omega.{arith}
-use lib.ListN.{drop}
+use lib.ListN.{length, get_or, drop}
 use Rattle.sam.specs.Text.{is_digit}
 use Rattle.sam.proofs.TextLaws.{a_digit}
+use Rattle.md_rules.specs.InnerWalk.{ReadAt}
 use Rattle.md_rules.specs.Md.{Within.InNumber, columns_from}
 use Rattle.md_rules.proofs.ByteLaws.{columns_least}
-use Rattle.md_rules.proofs.PlaceLaws.{ended, past_end, none_begins, not-begun, digit-columns, digit-fits, begin-fits, none_there, too_large, one_there}
+use Rattle.md_rules.proofs.PlaceLaws.{ended, past_end, none_begins, not-begun, digit-columns, digit-fits, begin-fits, none_there}
 use Rattle.md_text.proofs.number.Goals as goal
+use Rattle.md_text.proofs.number.Goals.{then-text-from-via-then-text-from, then-text-from-via-else-text-from+then-not-is_ascii_digit}
 
 pub returns-then-text-from : goal.returns-then-text-from
 returns-then-text-from c =
-    none_there c.args.text.now c.args.from (none_begins c.args.text.now c.args.from c.if-text-from.true)
-
-pub returns-then-not-is_digit : goal.returns-then-not-is_digit
-returns-then-not-is_digit c =
-    none_there c.args.text.now c.args.from (not-begun c.args.text.now c.args.from _ refl (omega arith) (sym c.is_digit.ensures ∙ c.if-not-is_digit.true))
+    none_there c.args.text.now c.args.from
+    (elim c.then-text-from.branch [
+      | then-text-from-via-then-text-from w ↦ none_begins c.args.text.now c.args.from w.if-text-from.true
+      | then-text-from-via-else-text-from+then-not-is_ascii_digit w ↦ not-begun c.args.text.now c.args.from _ refl (omega arith) (sym w.is_ascii_digit.ensures.value ∙ w.if-not-is_ascii_digit.true)
+    ])
 
 pub loop-at-init : goal.loop-at-init
 loop-at-init c =
-    let first_digit : is_digit c.wide-n.result ≡ true =
-    ap is_digit c.wide-n.ensures.0 ∙ sym c.is_digit.ensures ∙ c.if-not-is_digit.false
-    in
-    let d = first_digit in
-    let k = a_digit c.wide-n.result d in (
+    let text = c.args.text.now in
+    let first = get_or text c.args.from 0 in
+    let d : is_digit first ≡ true = sym c.is_ascii_digit.ensures.value ∙ c.if-not-is_ascii_digit.false in
+    let k = a_digit first d in (
       omega arith,
       omega arith,
-      omega (arith, k.most),
-      ap is_digit (sym c.wide-n.ensures.0) ∙ d,
-      begin-fits c.args.text.now c.args.from _ c.wide-n.ensures.0 (omega arith) d,
-      digit-columns c.args.text.now c.args.from _ c.wide-n.ensures.0 (omega arith) 0 d
-          ∙ ap (λ (m : ℕ). columns_from InNumber m (drop (c.args.from + 1) c.args.text.now)) {x = 0 * 10 + (c.wide-n.result - 48)} {y = c.wide-n.result - 48} (omega arith),
+      omega (arith, k.most, c.from-n.ensures),
+      d,
+      begin-fits text c.args.from _ refl (omega arith) d,
+      digit-columns text c.args.from _ refl (omega arith) 0 d ∙ ap (λ (m : ℕ). columns_from InNumber m (drop (c.args.from + 1) text)) (omega (arith, c.from-n.ensures)),
     )
 
-pub returns-then-not-is_digit-2 : goal.returns-then-not-is_digit-2
-returns-then-not-is_digit-2 c =
-    let d = sym c.is_digit-in-loop-at.ensures ∙ c.if-not-is_digit-2.true in
-    one_there c.args.text.now c.args.from c.loop-at.n c.loop-at.at
-    (record { past = c.loop-at.invariant.0; inside = c.loop-at.invariant.1; fair = c.loop-at.invariant.2; begins = c.loop-at.invariant.3; onward = c.loop-at.invariant.4; apart = d; columns = c.loop-at.invariant.5 ∙ ended c.args.text.now c.loop-at.at c.loop-at.n d })
+pub returns-then-not-is_ascii_digit-2 : goal.returns-then-not-is_ascii_digit-2
+returns-then-not-is_ascii_digit-2 c =
+    let d = sym c.is_ascii_digit-in-loop-at.ensures.value ∙ c.if-not-is_ascii_digit-2.true in
+    let v = c.loop-at.invariant in
+    record { past = v.0; inside = v.1; fair = v.2; begins = v.3; onward = v.4; apart = d; columns = v.5 ∙ ended c.args.text.now c.loop-at.at c.loop-at.n d }
 
 pub returns-then-n-gt-MOST_BASES : goal.returns-then-n-gt-MOST_BASES
 returns-then-n-gt-MOST_BASES c =
-    let next-digit : is_digit c.wide.result ≡ true =
-    ap is_digit c.wide.ensures.0 ∙ sym c.is_digit-in-loop-at.ensures ∙ c.if-not-is_digit-2.false
-    in
-    let p = c.loop-at.invariant.5 ∙ digit-columns c.args.text.now c.loop-at.at c.wide.result c.wide.ensures.0 (omega arith) c.loop-at.n (next-digit) in
-    too_large c.args.text.now c.args.from
-    (rw p (omega (arith, columns_least (c.loop-at.n * 10 + (c.wide.result - 48)) (drop (c.loop-at.at + 1) c.args.text.now), c.if-n-gt-MOST_BASES.true)))
+    let text = c.args.text.now in
+    let b = get_or text c.loop-at.at 0 in
+    let d : is_digit b ≡ true = sym c.is_ascii_digit-in-loop-at.ensures.value ∙ c.if-not-is_ascii_digit-2.false in
+    let p = c.loop-at.invariant.5 ∙ digit-columns text c.loop-at.at b refl (omega arith) c.loop-at.n d in
+    λ f. rw p (omega (arith, columns_least (c.loop-at.n * 10 + (b - 48)) (drop (c.loop-at.at + 1) text), c.if-n-gt-MOST_BASES.true))
 
 pub loop-at-preserved : goal.loop-at-preserved
 loop-at-preserved c =
-    let next-digit : is_digit c.wide.result ≡ true =
-    ap is_digit c.wide.ensures.0 ∙ sym c.is_digit-in-loop-at.ensures ∙ c.if-not-is_digit-2.false
-    in
-    let d = next-digit in (
+    let text = c.args.text.now in
+    let b = get_or text c.loop-at.at 0 in
+    let d : is_digit b ≡ true = sym c.is_ascii_digit-in-loop-at.ensures.value ∙ c.if-not-is_ascii_digit-2.false in (
       omega arith,
       omega arith,
       omega arith,
       c.loop-at.invariant.3,
-      c.loop-at.invariant.4 ∙ digit-fits c.args.text.now c.loop-at.at _ c.wide.ensures.0 (omega arith) d,
-      c.loop-at.invariant.5 ∙ digit-columns c.args.text.now c.loop-at.at _ c.wide.ensures.0 (omega arith) c.loop-at.n d,
+      c.loop-at.invariant.4 ∙ digit-fits text c.loop-at.at b refl (omega arith) d,
+      c.loop-at.invariant.5 ∙ digit-columns text c.loop-at.at b refl (omega arith) c.loop-at.n d
+          ∙ ap (λ (m : ℕ). columns_from InNumber (c.loop-at.n * 10 + m) (drop (c.loop-at.at + 1) text)) (sym c.from.ensures),
     )
 
 pub returns : goal.returns
 returns c =
-    let d = past_end c.args.text.now c.loop-at.at c.loop-at-test.false in
-    one_there c.args.text.now c.args.from c.loop-at.n c.loop-at.at
-    (record { past = c.loop-at.invariant.0; inside = c.loop-at.invariant.1; fair = c.loop-at.invariant.2; begins = c.loop-at.invariant.3; onward = c.loop-at.invariant.4; apart = d; columns = c.loop-at.invariant.5 ∙ ended c.args.text.now c.loop-at.at c.loop-at.n d })
+    let text = c.args.text.now in
+    let v = c.loop-at.invariant in
+    let e : c.loop-at.at ≡ length text = omega arith in
+    let d = past_end text (length text) (omega arith) in
+    subst (λ (k : ℕ). ReadAt text c.args.from c.loop-at.n k) e
+    (record { past = v.0; inside = v.1; fair = v.2; begins = v.3; onward = v.4; apart = subst (λ (k : ℕ). is_digit (get_or text k 0) ≡ false) (sym e) d; columns = v.5 ∙ ended text c.loop-at.at c.loop-at.n (subst (λ (k : ℕ). is_digit (get_or text k 0) ≡ false) (sym e) d) })

@@ -1,5 +1,5 @@
 -- The number so far and the text behind it have the columns of all.
-use Prim.Native.Nat.{◌-◌, ◌≤◌, ◌<◌}
+use Prim.Native.Nat.{◌≤◌, ◌<◌}
 use mathlib.Core.Path.{◌≡◌}
 use mathlib.Core.Bool.{true}
 use lib.ListN.{get_or, length, drop}
@@ -17,7 +17,3 @@ invariant-loop-at l =
     × (is_digit (get_or l.text l.from 0) ≡ true)
     × (fits Wants (drop l.from l.text) ≡ fits Number (drop l.at l.text))
     × (columns_from InNumber 0 (drop l.from l.text) ≡ columns_from InNumber l.n (drop l.at l.text))
-
-abbrev pub decreases-loop-at : goal.decreases-loop-at
-decreases-loop-at l =
-    length l.text - l.at
