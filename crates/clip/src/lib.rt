@@ -2,13 +2,12 @@
 #![tactic(auto)]
 
 ghost use Rattle.std.specs.Prelude.{◌≡◌, true, false, ◌≤◌};
-ghost use Rattle.oplist.specs.Ops.{ops_of};
 ghost use Rattle.answers.specs.Settled.{Settled};
 ghost use Rattle.clip_rules.specs.Answer.{clipped_up_to, uncounted, without_count, start_up_to, end_up_to, clipped_start, clipped_end, long_start, long_end, record_start, record_end};
 
 use answers::{Answer, Refusal};
 use clip_rules::Clipped;
-use oplist::Ops;
+use oplist::{Lent, OpList};
 
 // Clips `amount` bases at the start of a lent list: the ops written, and the reference length taken. Refusals 3, 8, 19, 6.
 pub fn clip_cigar_start_raw(ops: &[u32], amount: u64, out: &mut [u32]) -> Answer<Clipped>
@@ -43,11 +42,10 @@ fn start_up_to(limit: usize, ops: &[u32], amount: u64, out: &mut [u32]) -> Answe
     requires { limit ≤ 4294967295 }
     ensures { Settled (start_up_to limit ops.now amount out.old) result out.new }
 {
-    if limit < ops.len() {
+    let Some(list) = Lent::new(ops, limit) else {
         return Err(Refusal::TooManyOps);
-    }
-    let list = oplist::lent(ops);
-    clip_start(ops, &[], list, limit, amount, out)
+    };
+    clip_start(list, limit, amount, out)
 }
 
 // The same at the end.
@@ -55,11 +53,10 @@ fn end_up_to(limit: usize, ops: &[u32], amount: u64, out: &mut [u32]) -> Answer<
     requires { limit ≤ 4294967295 }
     ensures { Settled (end_up_to limit ops.now amount out.old) result out.new }
 {
-    if limit < ops.len() {
+    let Some(list) = Lent::new(ops, limit) else {
         return Err(Refusal::TooManyOps);
-    }
-    let list = oplist::lent(ops);
-    clip_end(ops, &[], list, limit, amount, out)
+    };
+    clip_end(list, limit, amount, out)
 }
 
 // Clips `amount` bases at the start of a record's ops, whose number is no matter. Refusals 1, 8, 19, 6.
@@ -70,8 +67,7 @@ pub fn clip_cigar_start(bam: &[u8], amount: u64, out: &mut [u32]) -> Answer<Clip
         return Err(Refusal::ShortRecord);
     }
     let list = oplist::of_record(bam);
-    let limit = oplist::count(&[], bam, list);
-    clip_start(&[], bam, list, limit, amount, out)
+    clip_start(list, list.count(), amount, out)
 }
 
 // The same at the end. Refusals 1, 8, 19, 6.
@@ -82,44 +78,26 @@ pub fn clip_cigar_end(bam: &[u8], amount: u64, out: &mut [u32]) -> Answer<u64>
         return Err(Refusal::ShortRecord);
     }
     let list = oplist::of_record(bam);
-    let limit = oplist::count(&[], bam, list);
-    clip_end(&[], bam, list, limit, amount, out)
+    clip_end(list, list.count(), amount, out)
 }
 
 // A clip at the start of an op list of at most `limit` ops. Refusals 3, 8, 19, 6.
-pub fn clip_start(
-    words: &[u32],
-    rec: &[u8],
-    list: Ops,
-    limit: usize,
-    amount: u64,
-    out: &mut [u32],
-) -> Answer<Clipped>
-    ensures { Settled (clipped_up_to limit (ops_of words.now rec.now list) amount true out.old) result out.new }
+pub fn clip_start<L: OpList>(list: L, limit: usize, amount: u64, out: &mut [u32]) -> Answer<Clipped>
+    ensures { Settled (clipped_up_to limit (L.ops list) amount true out.old) result out.new }
 {
-    clip_write::clip_ops(words, rec, list, limit, amount, true, out)
+    clip_write::clip_ops(list, limit, amount, true, out)
 }
 
 // The same at the end, without a count.
-pub fn clip_end(
-    words: &[u32],
-    rec: &[u8],
-    list: Ops,
-    limit: usize,
-    amount: u64,
-    out: &mut [u32],
-) -> Answer<u64>
-    ensures { Settled (without_count (clipped_up_to limit (ops_of words.now rec.now list) amount false out.old)) result out.new }
+pub fn clip_end<L: OpList>(list: L, limit: usize, amount: u64, out: &mut [u32]) -> Answer<u64>
+    ensures { Settled (without_count (clipped_up_to limit (L.ops list) amount false out.old)) result out.new }
 {
-    without_count(clip_write::clip_ops(words, rec, list, limit, amount, false, out))
+    without_count(clip_write::clip_ops(list, limit, amount, false, out))
 }
 
 // An answer without its count.
 fn without_count(answer: Answer<Clipped>) -> Answer<u64>
     ensures { result ≡ uncounted answer }
 {
-    match answer {
-        Ok(Clipped { written: n, lost: _ }) => Ok(n),
-        Err(why) => Err(why),
-    }
+    answer.map(|clipped| clipped.written)
 }

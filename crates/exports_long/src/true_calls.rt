@@ -11,13 +11,13 @@ ghost use Rattle.border.specs.Border.{count_of, position_of, two_of, lengths_of,
 
 use answers::Answer;
 use border::{ToldCount, ToldLengths, ToldPosition, ToldTwo};
-use tag_rules::TrueList;
+use oplist::Area;
 
-fn told_true_list(answer: Answer<TrueList>) -> ToldTwo
+fn told_true_list(answer: Answer<Area>) -> ToldTwo
     ensures { result ≡ two_of (tell_true_list answer) }
 {
     match answer {
-        Ok(TrueList { at, n }) => border::two(at as u64, 4 * (n as u64)),
+        Ok(Area { at, n }) => border::two(at as u64, 4 * (n as u64)),
         Err(why) => border::refused_two(why),
     }
 }

@@ -24,7 +24,7 @@ use Rattle.lookup_rules.specs.Lookup.{long_looked, tell_found}
 use Rattle.ends_rules.specs.Ends.{unclipped_by, tell_unclipped}
 use Rattle.clip_rules.specs.Answer.{given, clipped_ops, clipped_count, clipped_into, long_start, long_end, tell_clipped}
 use Rattle.tag_rules.specs.Long.{own_list, list_in, first_cg, behind_placeholder, true_list, refusal_of, read_from, tell_true_list}
-use Rattle.tag_rules.specs.declared.TrueList.{TrueList}
+use Rattle.oplist.specs.declared.Area.{Area}
 use Rattle.true_rules.specs.True.{stop_kept, true_ops, true_printed, true_lengths, true_unclipped, true_clipped, true_start, true_end}
 use Rattle.promises.specs.Table.{Row, first, Gives, GivesFilled}
 use Rattle.promises.specs.LongRows.{holds_placeholder, record_tags, breaks_early, first_is, reader_rows, ops_at, held_ops, behind_reader, true_ops_rows, true_print_rows, true_lengths_rows, true_unclipped_rows, true_clip_rows, long_list_rows, long_length_rows, long_lookup_rows, long_clip_rows}
@@ -81,7 +81,7 @@ reader_number b = go (is_short b) (ltb (length b) (ops_end b)) (holds_placeholde
 pub true_cigar_raw_bytes : (b : List ℕ) → Gives (tell_true_list (true_list b)) (reader_rows b)
 true_cigar_raw_bytes b = go (true_list b) (reader_number b)
   where
-    go : (t : Answer TrueList) → refusal_of t ≡ first (reader_rows b) → Gives (tell_true_list t) (reader_rows b)
+    go : (t : Answer Area) → refusal_of t ≡ first (reader_rows b) → Gives (tell_true_list t) (reader_rows b)
     go (Ok got) e = answer refl e
     go (Err r) e = refusal refl e
 
@@ -113,7 +113,7 @@ reads : {A : Type 0} (tell : A → Told) (stop : Refusal → A) (make : List ℕ
     → (b : List ℕ) → Gives (tell (read_from stop make b (true_list b))) (behind_reader rows b)
 reads tell stop make rows p q b = go (true_list b) (reader_number b)
   where
-    go : (t : Answer TrueList) → refusal_of t ≡ first (reader_rows b) → Gives (tell (read_from stop make b t)) (reader_rows b ++ rows (ops_at b t))
+    go : (t : Answer Area) → refusal_of t ≡ first (reader_rows b) → Gives (tell (read_from stop make b t)) (reader_rows b ++ rows (ops_at b t))
     go (Ok got) e = like (past_reader b (rows (ops_in b got.at got.n)) e) (q (ops_in b got.at got.n))
     go (Err r) e = refusal (p r) (by_reader b (rows []) r e)
 
@@ -124,7 +124,7 @@ reads_into : {A : Type 0} (tell : A → Told) (stop : Refusal → A) → ((r : R
     → (b : List ℕ) → GivesFilled tell (read_from (stop_kept stop d) make b (true_list b)) d (behind_reader rows b) (done (held_ops b)) (out (held_ops b))
 reads_into tell stop p d make rows done out q b = go (true_list b) (reader_number b)
   where
-    go : (t : Answer TrueList) → refusal_of t ≡ first (reader_rows b)
+    go : (t : Answer Area) → refusal_of t ≡ first (reader_rows b)
         → GivesFilled tell (read_from (stop_kept stop d) make b t) d (reader_rows b ++ rows (ops_at b t)) (done (ops_at b t)) (out (ops_at b t))
     go (Ok got) e = like_filled tell (past_reader b (rows (ops_in b got.at got.n)) e) (q (ops_in b got.at got.n))
     go (Err r) e = kept_refusal tell (stop r) (p r) (by_reader b (rows []) r e) (not-zero r)

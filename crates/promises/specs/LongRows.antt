@@ -10,7 +10,7 @@ use Rattle.sam.specs.Tags.{Tag, Tags, Ends, Breaks, Then, tags_of, is_cg, is_op_
 use Rattle.oplist.specs.Ops.{most_long_ops, record_ops}
 use Rattle.print_rules.specs.Text.{text_of}
 use Rattle.tag_rules.specs.Long.{true_list, read_from}
-use Rattle.tag_rules.specs.declared.TrueList.{TrueList}
+use Rattle.oplist.specs.declared.Area.{Area}
 use Rattle.promises.specs.Table.{Row, ◌when◌, only}
 use Rattle.promises.specs.Rows.{short, overrun, over, bad_code, bad_start, no_room, place_rows, clip_into}
 
@@ -54,7 +54,7 @@ reader_rows b = short b ∷ overrun b ∷ bad_tags b ∷ other_cg b ∷ long_cg 
 -- ---- the calls that read its list
 
 -- the ops that it hands back
-abbrev pub ops_at : List ℕ → Answer TrueList → List ℕ
+abbrev pub ops_at : List ℕ → Answer Area → List ℕ
 ops_at b t = read_from (λ r. []) (λ xs. xs) b t
 
 abbrev pub held_ops : List ℕ → List ℕ

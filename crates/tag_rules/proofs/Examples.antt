@@ -10,14 +10,14 @@ use Rattle.sam.specs.Tags.{number_size, to_nul, array_size, value_size, tag_size
 use Rattle.oplist.specs.Ops.{record_ops}
 use Rattle.answers.specs.declared.Refusal.TheVariants.{ShortRecord, AreaOverrun, BadTags, OtherCg}
 use Rattle.tag_rules.specs.Long.{list_in, first_cg, behind_placeholder, true_list}
-use Rattle.tag_rules.specs.declared.TrueList.{TrueList}
+use Rattle.oplist.specs.declared.Area.{Area}
 
 -- a record of so many bases with these ops and what follows them; its name is a NUL
 abbrev made : ℕ → List ℕ → List ℕ → List ℕ
 made seq ops rest = replicate 8 0 ++ (1 ∷ 0 ∷ 0 ∷ 0 ∷ length ops ∷ 0 ∷ 0 ∷ 0 ∷ (uint32 seq ++ (replicate 12 0 ++ (0 ∷ (op_bytes ops ++ rest)))))
 
 -- 3S10N, two bytes of bases, three of qualities, tags
-abbrev three : List ℕ → Answer TrueList
+abbrev three : List ℕ → Answer Area
 three tags = true_list (made 3 (52 ∷ 163 ∷ []) (replicate 5 9 ++ tags))
 
 -- NM:C:5, RG:Z:a, XB:B:s,1,2
@@ -29,7 +29,7 @@ abbrev cg : ℕ → ℕ → List ℕ → List ℕ
 cg kind n xs = 67 ∷ 71 ∷ 66 ∷ kind ∷ (uint32 n ++ op_bytes xs)
 
 -- a CG behind other tags, before a byte that is no tag, before a CG of another type, of no op; no tag; tags without CG
-pub worked : ◌≡◌ {A = List (Answer TrueList)}
+pub worked : ◌≡◌ {A = List (Answer Area)}
     (three (before ++ cg 73 2 (16 ∷ 32 ∷ []))
     ∷ three (cg 73 2 (16 ∷ 32 ∷ []) ++ (1 ∷ []))
     ∷ three (cg 73 1 (16 ∷ []) ++ cg 105 1 (16 ∷ []))
@@ -43,7 +43,7 @@ worked = refl
 
 -- refusal 12: one and two bytes where a tag should begin; a type and an array's type that are not listed; a text without its NUL; a CG cut in its count, one short of a
 -- number, of 2^30 + 1 numbers, of a type not listed; then 13: a CG that is an array of signed numbers, and one that is a text
-pub refused : ◌≡◌ {A = List (Answer TrueList)}
+pub refused : ◌≡◌ {A = List (Answer Area)}
     (three (before ++ (88 ∷ []))
     ∷ three (before ++ (88 ∷ 89 ∷ []))
     ∷ three (88 ∷ 89 ∷ 100 ∷ 1 ∷ 2 ∷ 3 ∷ 4 ∷ 5 ∷ 6 ∷ 7 ∷ 8 ∷ [])
@@ -62,7 +62,7 @@ refused = refl
 
 -- no bases, `0S` and `0N`: the tags begin at 41; S of another length, and three ops, are no placeholder, whatever follows; an l_seq that no S can have; qualities that
 -- overrun, far and by one; an area that overruns; a short record
-pub fronts : ◌≡◌ {A = List (Answer TrueList)}
+pub fronts : ◌≡◌ {A = List (Answer Area)}
     (true_list (made 0 (4 ∷ 3 ∷ []) (cg 73 1 (16 ∷ [])))
     ∷ true_list (made 3 (36 ∷ 163 ∷ []) (replicate 5 9 ++ cg 73 1 (16 ∷ [])))
     ∷ true_list (made 3 (52 ∷ 163 ∷ 0 ∷ []) (88 ∷ []))

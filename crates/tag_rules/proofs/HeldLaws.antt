@@ -17,12 +17,12 @@ use Rattle.sam.specs.TagBytes.{Proper, array, bytes_of, all_bytes}
 use Rattle.sam.proofs.TagLaws.{whole, value-length}
 use Rattle.sam.proofs.TagArrayLaws.{ops_size}
 use Rattle.sam.proofs.PartLaws.{length_op_bytes, read_ops}
-use Rattle.oplist.specs.Ops.{most_long_ops, ops_of, record_ops}
-use Rattle.oplist.proofs.OpsLaws.{in_is}
+use Rattle.std.proofs.Common.{le-leb}
+use Rattle.oplist.specs.Ops.{most_long_ops, area_ops, record_ops}
 use Rattle.answers.specs.declared.Refusal.{Refusal}
-use Rattle.tag_rules.specs.Long.{own_list, list_in, first_cg, true_list, part_of, read_from}
+use Rattle.tag_rules.specs.Long.{found, own_list, list_in, first_cg, true_list, part_of, read_from}
 use Rattle.tag_rules.specs.Whole.{Front, NoCg, cg_of}
-use Rattle.tag_rules.specs.declared.TrueList.{TrueList}
+use Rattle.oplist.specs.declared.Area.{Area}
 use Rattle.tag_rules.proofs.ListLaws.{short, overrun, ordinary, behind, bases_overrun, tags_walked}
 use Rattle.tag_rules.proofs.WalkLaws.{kind_other, numbers-other, list-long, list_is}
 use Rattle.tag_rules.proofs.TrueLaws.{first_cg_counts}
@@ -30,7 +30,7 @@ use Rattle.tag_rules.proofs.TrueLaws.{first_cg_counts}
 -- ---- where the list ends
 
 -- a list ends before a place
-abbrev EndsBy : ℕ → Answer TrueList → Type 0
+abbrev EndsBy : ℕ → Answer Area → Type 0
 EndsBy end (Ok got) = got.at + 4 * got.n ≤ end
 EndsBy end (Err r) = Unit
 
@@ -49,11 +49,11 @@ module _ (s : List ℕ) (h : 0 < tag_size s) where
           let k : at + 3 + 5 + 4 * le32 s 4 ≤ at + tag_size s = omega arith in
           subst⁻¹ (EndsBy (at + tag_size s)) (list_is (at + 3) s h (eqb-true (byte_at s 2) 66 p) (eqb-true (byte_at s 3) 73 q) (ltb-false most_long_ops (le32 s 4) r)) k
 
-later : (e e' : ℕ) → e ≤ e' → (p : Answer TrueList) → EndsBy e p → EndsBy e' p
+later : (e e' : ℕ) → e ≤ e' → (p : Answer Area) → EndsBy e p → EndsBy e' p
 later e e' h (Ok got) k = omega arith
 later e e' h (Err r) k = tt
 
-walk_in : (without : Answer TrueList) (e : ℕ) → EndsBy e without → (n : ℕ) (s : List ℕ) (at : ℕ) → at + length s ≤ e → EndsBy e (first_cg without (at + n) (tags_behind n s))
+walk_in : (without : Answer Area) (e : ℕ) → EndsBy e without → (n : ℕ) (s : List ℕ) (at : ℕ) → at + length s ≤ e → EndsBy e (first_cg without (at + n) (tags_behind n s))
 unfolding first_cg tags_behind
 walk_in without e o n [] at l = o
 walk_in without e o zero (x ∷ s) at l = go (eqb (tag_size (x ∷ s)) 0) refl (is_cg (tag_at (x ∷ s))) refl (walk_in without e o (tag_size (x ∷ s) - 1) s (at + 1) (omega arith))
@@ -104,13 +104,14 @@ module _ (b : List ℕ) (at n : ℕ) (e : true_list b ≡ Ok (record { at = at; 
   within = subst (EndsBy (length b)) e (in_record b)
 
   -- so every walk over an op list of a record reads it
-  pub list_ops : (w : List ℕ) → ops_of w b (record { inside = true; at = at; n = n }) ≡ ops_in b at n
-  list_ops w = in_is w b (record { inside = true; at = at; n = n }) refl within
+  pub list_ops : area_ops b at n ≡ ops_in b at n
+  unfolding area_ops
+  list_ops = simp (le-leb _ _ within)
 
 -- a call that reads the list makes of it what it makes of these ops, or stops as the reader does
 module _ {A : Type 0} (stop : Refusal → A) (make : List ℕ → A) (b : List ℕ) where
-  pub reads_list : (at n : ℕ) → true_list b ≡ Ok (record { at = at; n = n }) → read_from stop make b (true_list b) ≡ make (ops_of [] b (record { inside = true; at = at; n = n }))
-  reads_list at n e = ap (read_from stop make b) e ∙ ap make (sym (list_ops b at n e []))
+  pub reads_list : (at n : ℕ) → true_list b ≡ Ok (record { at = at; n = n }) → read_from stop make b (true_list b) ≡ make (area_ops b at n)
+  reads_list at n e = ap (read_from stop make b) e ∙ ap make (sym (list_ops b at n e))
 
   pub reads_none : (r : Refusal) → true_list b ≡ Err r → read_from stop make b (true_list b) ≡ stop r
   reads_none r e = ap (read_from stop make b) e
@@ -161,7 +162,7 @@ module _ (p : List ℕ) (f : Front p) (ts : List Tag) (a : Each Proper ts) (n : 
   held_list =
       first_cg_counts p f ts a n (cg_of xs) s (cg_proper xs few) refl
       ∙ cg_list xs few (length p + length (all_bytes ts) + 3)
-      ∙ ap (λ (k : ℕ). (Ok (record { at = k; n = length xs }))) {x = length p + length (all_bytes ts) + 3 + 5} {y = length p + length (all_bytes ts) + 8} (omega arith)
+      ∙ ap (λ (k : ℕ). found k (length xs)) {x = length p + length (all_bytes ts) + 3 + 5} {y = length p + length (all_bytes ts) + 8} (omega arith)
 
   pub held_ops : ops_in (p ++ (all_bytes ts ++ (bytes_of (cg_of xs) ++ s))) (length p + length (all_bytes ts) + 8) (length xs) ≡ xs
   held_ops = ap (λ (l : List ℕ). ops_in l place (length xs)) parted ∙ ap (λ (k : ℕ). ops_in (ahead ++ (op_bytes xs ++ s)) k (length xs)) place_is ∙ read_ops ahead xs s small

@@ -14,7 +14,7 @@ use Rattle.sam.specs.Tags.{tags_of, is_placeholder}
 use Rattle.oplist.specs.Ops.{record_ops}
 use Rattle.oplist.specs.Few.{length_ops_in}
 use Rattle.answers.specs.declared.Refusal.TheVariants.{ShortRecord, AreaOverrun, BadTags}
-use Rattle.tag_rules.specs.Long.{own_list, first_cg, behind_placeholder, true_list}
+use Rattle.tag_rules.specs.Long.{found, own_list, first_cg, behind_placeholder, true_list}
 
 -- ---- the placeholder
 
@@ -79,5 +79,5 @@ module _ (b : List ℕ) where
   unfolding behind_placeholder
   tags_walked h = simp (le-ltb (length b) (tags_start b) h)
 
-pub same_list : (a a' n n' : ℕ) → a ≡ a' → n ≡ n' → (Ok (record { at = a; n = n })) ≡ Ok (record { at = a'; n = n' })
+pub same_list : (a a' n n' : ℕ) → a ≡ a' → n ≡ n' → found a n ≡ found a' n'
 same_list a a' n n' p q = rw (p, q) refl

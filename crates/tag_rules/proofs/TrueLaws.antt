@@ -16,7 +16,7 @@ use Rattle.sam.proofs.TagByteLaws.{reads_tag, reads_tags, read_back}
 use Rattle.oplist.specs.Ops.{record_ops}
 use Rattle.tag_rules.specs.Long.{own_list, list_in, first_cg, true_list}
 use Rattle.tag_rules.specs.Whole.{Front, NoCg}
-use Rattle.tag_rules.specs.declared.TrueList.{TrueList}
+use Rattle.oplist.specs.declared.Area.{Area}
 use Rattle.tag_rules.proofs.ListLaws.{ordinary, behind, tags_walked, same_list}
 use Rattle.tag_rules.proofs.WalkLaws.{walk_same}
 use Rattle.tag_rules.proofs.FrontLaws.{front-seq, front-start, front-count, front-end, front-tags, front-ops}
@@ -51,7 +51,7 @@ module _ (p q : List ℕ) (h : 32 ≤ length p) (k : ops_end p ≤ length p) whe
 
 -- ---- tags
 
-cg_follows : (without : Answer TrueList) (at : ℕ) (ts : List Tag) (cg : Tag) (more : Tags) → NoCg ts → is_cg cg ≡ true
+cg_follows : (without : Answer Area) (at : ℕ) (ts : List Tag) (cg : Tag) (more : Tags) → NoCg ts → is_cg cg ≡ true
     → first_cg without at (followed ts (Then cg more)) ≡ list_in (at + length (all_bytes ts) + 3) cg
 unfolding first_cg followed all_bytes
 cg_follows without at [] cg more h e = simp e (ap (λ (k : ℕ). list_in k cg) {x = at + 3} {y = at + 0 + 3} (omega arith))
@@ -61,7 +61,7 @@ cg_follows without at (t ∷ ts) cg more h e =
     (cg_follows without (at + (3 + length t.value)) ts cg more h.1 e
     ∙ ap (λ (k : ℕ). list_in k cg) {x = at + (3 + length t.value) + length (all_bytes ts) + 3} {y = at + length (bytes_of t ++ all_bytes ts) + 3} (omega arith))
 
-none_follows : (without : Answer TrueList) (at : ℕ) (ts : List Tag) → NoCg ts → first_cg without at (followed ts Ends) ≡ without
+none_follows : (without : Answer Area) (at : ℕ) (ts : List Tag) → NoCg ts → first_cg without at (followed ts Ends) ≡ without
 unfolding first_cg followed
 none_follows without at [] h = refl
 none_follows without at (t ∷ ts) h = simp h.0 (none_follows without (at + (3 + length t.value)) ts h.1)

@@ -15,12 +15,12 @@ use Rattle.sam.proofs.TagLaws.{value-length, tags_end, tags_break, tags_then}
 use Rattle.sam.proofs.TagArrayLaws.{count-is, no-array, array-of-ops}
 use Rattle.oplist.specs.Ops.{most_long_ops}
 use Rattle.answers.specs.declared.Refusal.TheVariants.{TooManyOps, BadTags, OtherCg}
-use Rattle.tag_rules.specs.Long.{list_in, first_cg}
-use Rattle.tag_rules.specs.declared.TrueList.{TrueList}
+use Rattle.tag_rules.specs.Long.{found, list_in, first_cg}
+use Rattle.oplist.specs.declared.Area.{Area}
 
 -- ---- the first CG
 
-module _ (without : Answer TrueList) (b : List ℕ) (at : ℕ) where
+module _ (without : Answer Area) (b : List ℕ) (at : ℕ) where
   pub walk_ends : length b ≤ at → first_cg without at (tags_of (drop at b)) ≡ without
   unfolding first_cg
   walk_ends h = ap (first_cg without at) (tags_end (drop at b) (simp length-drop (omega arith)))
@@ -42,7 +42,7 @@ module _ (without : Answer TrueList) (b : List ℕ) (at : ℕ) where
       ∙ simp f (ap (λ (k : ℕ). first_cg without (at + k) (tags_of (drop (tag_size (drop at b)) (drop at b)))) (value-length (drop at b) g ∙ sym e)
       ∙ ap (λ (l : List ℕ). first_cg without (at + n) (tags_of l)) (ap (λ (k : ℕ). drop k (drop at b)) (sym e) ∙ drop-drop n at b))
 
-pub walk_same : (b : List ℕ) (p q : Answer TrueList) (at at' : ℕ) → p ≡ q → at ≡ at' → first_cg p at (tags_of (drop at b)) ≡ first_cg q at' (tags_of (drop at' b))
+pub walk_same : (b : List ℕ) (p q : Answer Area) (at at' : ℕ) → p ≡ q → at ≡ at' → first_cg p at (tags_of (drop at b)) ≡ first_cg q at' (tags_of (drop at' b))
 walk_same b p q at at' e f = rw (e, f) refl
 
 -- ---- the list in a CG
@@ -66,4 +66,4 @@ module _ (at : ℕ) (s : List ℕ) (h : 0 < tag_size s) where
       unfolding list_in
       list_is k =
           let n = count-is s h e in
-          simp (array-of-ops s h e true (eq-eqb (byte_at s 3) 73 f), le-ltb most_long_ops (array_count (tag_at s)) (omega arith)) (ap ((λ x y. Ok (record { at = x; n = y })) (at + 5)) n)
+          simp (array-of-ops s h e true (eq-eqb (byte_at s 3) 73 f), le-ltb most_long_ops (array_count (tag_at s)) (omega arith)) (ap (found (at + 5)) n)

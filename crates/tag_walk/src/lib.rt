@@ -6,7 +6,7 @@ ghost use Rattle.sam.specs.Tags.{tag_size, tag_at, tags_of, is_cg};
 ghost use Rattle.tag_rules.specs.Long.{list_in, first_cg};
 
 use answers::{Answer, Refusal};
-use tag_rules::TrueList;
+use oplist::Area;
 
 // Whether the tag at a place is CG.
 fn is_cg(b: &[u8], at: usize) -> bool
@@ -21,7 +21,7 @@ fn is_cg(b: &[u8], at: usize) -> bool
 }
 
 // The list in the CG at a place. Refusals 13 and 3.
-fn list_in(b: &[u8], at: usize) -> Answer<TrueList>
+fn list_in(b: &[u8], at: usize) -> Answer<Area>
     requires nonzero { 0 < tag_size (drop at b.now) }
     requires b_in_bounds { at + tag_size (drop at b.now) ≤ length b.now }
     ensures { result ≡ list_in (at + 3) (tag_at (drop at b.now)) }
@@ -36,11 +36,11 @@ fn list_in(b: &[u8], at: usize) -> Answer<TrueList>
     if oplist::MOST_LONG_OPS < n as usize {
         return Err(Refusal::TooManyOps);
     }
-    Ok(TrueList { at: at + 8, n })
+    Ok(Area { at: at + 8, n })
 }
 
 // The list in the first CG of the tags from a place on, and where there is none the list `without`. Refusals 12, 13 and 3.
-pub fn first_cg(b: &[u8], from: usize, without: Answer<TrueList>) -> Answer<TrueList>
+pub fn first_cg(b: &[u8], from: usize, without: Answer<Area>) -> Answer<Area>
     requires { from ≤ length b.now }
     ensures { result ≡ first_cg without from (tags_of (drop from b.now)) }
 {

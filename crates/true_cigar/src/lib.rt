@@ -9,18 +9,16 @@ ghost use Rattle.true_rules.specs.True.{true_part, true_part_refusal, true_ops, 
 use answers::Answer;
 use fields::Part;
 use length_rules::RecordLengths;
-use oplist::Ops;
-use tag_rules::TrueList;
 
 // The part of the record that holds its true list; empty beside a refusal.
 fn true_bytes(bam: &[u8]) -> &[u8]
     ensures { result.now ≡ true_part bam.now }
 {
-    let Ok(TrueList { at, n }) = tags::true_list(bam) else {
+    let Ok(area) = tags::true_list(bam) else {
         return &bam[..0];
     };
-    let end = at + 4 * (n as usize);
-    &bam[at..end]
+    let end = area.at + 4 * (area.n as usize);
+    &bam[area.at..end]
 }
 
 // The number that stands beside that part.
@@ -28,7 +26,7 @@ fn true_refusal(bam: &[u8]) -> u32
     ensures { result ≡ true_part_refusal bam.now }
 {
     match tags::true_list(bam) {
-        Ok(TrueList { at: _, n: _ }) => 0,
+        Ok(_) => 0,
         Err(why) => answers::number(why),
     }
 }
@@ -46,49 +44,22 @@ pub fn true_cigar_raw_bytes<'a>(bam: &'a [u8]) -> Part<'a>
 pub fn true_cigar_ops(bam: &[u8], out: &mut [u32]) -> Answer<u64>
     ensures { Settled (true_ops bam.now out.old) result out.new }
 {
-    match tags::true_list(bam) {
-        Ok(TrueList { at, n }) => {
-            let list = Ops {
-                inside: true,
-                at: at,
-                n: n,
-            };
-            copied_ops::copy_ops(bam, list, out)
-        }
-        Err(why) => Err(why),
-    }
+    let area = tags::true_list(bam)?;
+    copied_ops::copy_ops(oplist::ops_at(bam, area), out)
 }
 
 // The text of the true list, in the first places of out. Refusals 1, 2, 12, 13, 3, 7 and 6.
 pub fn true_cigar_to_bytes_into(bam: &[u8], out: &mut [u8]) -> Answer<u64>
     ensures { Settled (true_printed bam.now out.old) result out.new }
 {
-    match tags::true_list(bam) {
-        Ok(TrueList { at, n }) => {
-            let list = Ops {
-                inside: true,
-                at: at,
-                n: n,
-            };
-            print::print_ops(bam, list, out)
-        }
-        Err(why) => Err(why),
-    }
+    let area = tags::true_list(bam)?;
+    print::print_ops(oplist::ops_at(bam, area), out)
 }
 
 // The lengths of the true list, and the clips at its ends. Refusals 1, 2, 12, 13, 3 and 4.
 pub fn true_cigar_lengths(bam: &[u8]) -> Answer<RecordLengths>
     ensures { result ≡ true_lengths bam.now }
 {
-    match tags::true_list(bam) {
-        Ok(TrueList { at, n }) => {
-            let list = Ops {
-                inside: true,
-                at: at,
-                n: n,
-            };
-            list_lengths::list_lengths(bam, list)
-        }
-        Err(why) => Err(why),
-    }
+    let area = tags::true_list(bam)?;
+    list_lengths::list_lengths(oplist::ops_at(bam, area))
 }

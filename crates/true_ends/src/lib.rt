@@ -9,8 +9,7 @@ ghost use Rattle.true_rules.specs.True.{true_unclipped, true_start, true_end};
 use answers::{Answer, Refusal};
 use clip_rules::Clipped;
 use ends_rules::Unclipped;
-use oplist::Ops;
-use tag_rules::TrueList;
+use oplist::OpList;
 
 // The unclipped 5' position by the true list, or that the record is unmapped, which is asked before the list is looked for, or that it has no ops. Refusals 1, 2, 12, 13, 3 and 4.
 pub fn true_unclipped_5prime_from_raw_bam(bam: &[u8]) -> Answer<Unclipped>
@@ -23,51 +22,28 @@ pub fn true_unclipped_5prime_from_raw_bam(bam: &[u8]) -> Answer<Unclipped>
     if fields::is_unmapped(flags) {
         return Ok(Unclipped::Unmapped);
     }
-    match tags::true_list(bam) {
-        Ok(TrueList { at, n }) => {
-            let list = Ops {
-                inside: true,
-                at: at,
-                n: n,
-            };
-            unclipped::unclipped_by(bam, list, fields::own_place(bam), fields::is_reverse(flags))
-        }
-        Err(why) => Err(why),
-    }
+    let area = tags::true_list(bam)?;
+    unclipped::unclipped_by(
+        oplist::ops_at(bam, area),
+        fields::own_place(bam),
+        fields::is_reverse(flags),
+    )
 }
 
 // Clips `amount` bases at the start of the true list: the ops written, and the reference length taken. Refusals 1, 2, 12, 13, 3, 8, 19 and 6.
 pub fn true_clip_cigar_start(bam: &[u8], amount: u64, out: &mut [u32]) -> Answer<Clipped>
     ensures { Settled (true_start bam.now amount out.old) result out.new }
 {
-    match tags::true_list(bam) {
-        Ok(TrueList { at, n }) => {
-            let list = Ops {
-                inside: true,
-                at: at,
-                n: n,
-            };
-            let limit = oplist::count(&[], bam, list);
-            clip::clip_start(&[], bam, list, limit, amount, out)
-        }
-        Err(why) => Err(why),
-    }
+    let area = tags::true_list(bam)?;
+    let list = oplist::ops_at(bam, area);
+    clip::clip_start(list, list.count(), amount, out)
 }
 
 // The same at the end: the ops written.
 pub fn true_clip_cigar_end(bam: &[u8], amount: u64, out: &mut [u32]) -> Answer<u64>
     ensures { Settled (true_end bam.now amount out.old) result out.new }
 {
-    match tags::true_list(bam) {
-        Ok(TrueList { at, n }) => {
-            let list = Ops {
-                inside: true,
-                at: at,
-                n: n,
-            };
-            let limit = oplist::count(&[], bam, list);
-            clip::clip_end(&[], bam, list, limit, amount, out)
-        }
-        Err(why) => Err(why),
-    }
+    let area = tags::true_list(bam)?;
+    let list = oplist::ops_at(bam, area);
+    clip::clip_end(list, list.count(), amount, out)
 }

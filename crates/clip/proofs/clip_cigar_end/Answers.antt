@@ -15,4 +15,4 @@ returns-then-bam-lt32 c =
 pub returns : goal.returns
 unfolding clipped_record
 returns c =
-    simp (le-ltb _ _ c.if-bam-lt32.false) (resettled (ap without_count (own_limit _ _ c.args.amount false c.args.out.now _ c.count-limit.ensures.0 (c.of_record-list.ensures.by_index _))) c.clip_end.ensures)
+    simp (le-ltb _ _ c.if-bam-lt32.false) (resettled (ap without_count (own_limit _ _ c.args.amount false c.args.out.now _ c.count.ensures.value (c.of_record-list.ensures))) c.clip_end.ensures)

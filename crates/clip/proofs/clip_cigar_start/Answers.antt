@@ -14,4 +14,4 @@ returns-then-bam-lt32 c =
 pub returns : goal.returns
 unfolding clipped_record
 returns c =
-    simp (le-ltb _ _ c.if-bam-lt32.false) (resettled (own_limit _ _ c.args.amount true c.args.out.now _ c.count-limit.ensures.0 (c.of_record-list.ensures.by_index _)) c.clip_start.ensures)
+    simp (le-ltb _ _ c.if-bam-lt32.false) (resettled (own_limit _ _ c.args.amount true c.args.out.now _ c.count.ensures.value (c.of_record-list.ensures)) c.clip_start.ensures)

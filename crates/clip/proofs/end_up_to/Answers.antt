@@ -4,7 +4,7 @@ use Rattle.answers.proofs.Unique.{settled}
 use Rattle.clip_rules.specs.Answer.{clipped_up_to}
 use Rattle.clip.proofs.end_up_to.Goals as goal
 
-pub returns-then-limit-ops : goal.returns-then-limit-ops
+pub returns-in_default : goal.returns-in_default
 unfolding clipped_up_to
-returns-then-limit-ops c =
-    settled (simp (lt-ltb _ _ c.if-limit-ops.true))
+returns-in_default c =
+    settled (simp (lt-ltb _ _ c.in_default.ensures))

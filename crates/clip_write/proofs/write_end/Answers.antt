@@ -4,16 +4,15 @@ use mathlib.Core.Path.{ap}
 use mathlib.Core.List.{[], ◌∷◌}
 use native.Mathlib.Omega.{arith}
 use lib.ListN.{take}
-use Rattle.oplist.specs.Ops.{ops_of}
 use Rattle.clip_write.proofs.WriteLaws.{back_is, few_reverse, two_reverse}
 use Rattle.clip_write.proofs.write_end.Goals as goal
 
 pub returns-then-p-eq2 : goal.returns-then-p-eq2
-returns-then-p-eq2 c =
-    back_is c.args.out.now c.copy.new.out c.put.new.out (ops_of c.args.words.now c.args.rec.now c.args.list) c.args.p.skip _ (take c.args.p.heads (c.args.p.first ∷ (c.args.p.second ∷ []))) _
-    (ap (λ m. m - c.args.p.skip) c.count.ensures.0) (omega arith) (omega arith) (two_reverse c.args.p.heads c.args.p.first c.args.p.second (omega arith)) c.copy.ensures c.put.ensures
+returns-then-p-eq2 g c =
+    back_is c.args.out.now c.copy.new.out c.put.new.out (g.L.OpList.ops c.args.list) c.args.p.skip _ (take c.args.p.heads (c.args.p.first ∷ (c.args.p.second ∷ []))) _
+    (ap (λ m. m - c.args.p.skip) c.count.ensures.value) (omega arith) (omega arith) (two_reverse c.args.p.heads c.args.p.first c.args.p.second (omega arith)) c.copy.ensures c.put.ensures
 
 pub returns-else-p-eq2 : goal.returns-else-p-eq2
-returns-else-p-eq2 c =
-    back_is c.args.out.now c.copy.new.out c.put-else-p-eq2.new.out (ops_of c.args.words.now c.args.rec.now c.args.list) c.args.p.skip _ (take c.args.p.heads (c.args.p.first ∷ (c.args.p.second ∷ []))) _
-    (ap (λ m. m - c.args.p.skip) c.count.ensures.0) (omega arith) (omega arith) (few_reverse c.args.p.heads c.args.p.first c.args.p.second (omega arith)) c.copy.ensures c.put-else-p-eq2.ensures
+returns-else-p-eq2 g c =
+    back_is c.args.out.now c.copy.new.out c.put-else-p-eq2.new.out (g.L.OpList.ops c.args.list) c.args.p.skip _ (take c.args.p.heads (c.args.p.first ∷ (c.args.p.second ∷ []))) _
+    (ap (λ m. m - c.args.p.skip) c.count.ensures.value) (omega arith) (omega arith) (few_reverse c.args.p.heads c.args.p.first c.args.p.second (omega arith)) c.copy.ensures c.put-else-p-eq2.ensures

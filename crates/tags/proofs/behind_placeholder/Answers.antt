@@ -14,5 +14,5 @@ returns-then-bam-start c =
 pub returns : goal.returns
 returns c =
     c.first_cg.ensures
-    ∙ walk_same c.args.bam.now _ (own_list c.args.bam.now) _ (tags_start c.args.bam.now) (same_list c.args.list.at (ops_start c.args.bam.now) c.args.list.n (op_count_of c.args.bam.now) c.requires.at_value.0 c.requires.at_value.1) (omega (arith, c.requires.at_value.0, c.requires.at_value.1))
+    ∙ walk_same c.args.bam.now _ (own_list c.args.bam.now) _ (tags_start c.args.bam.now) (same_list c.args.area.at (ops_start c.args.bam.now) c.args.area.n (op_count_of c.args.bam.now) c.requires.at_value.0 c.requires.at_value.1) (omega (arith, c.requires.at_value.0, c.requires.at_value.1))
     ∙ sym (tags_walked c.args.bam.now (omega (arith, c.requires.at_value.0, c.requires.at_value.1)))

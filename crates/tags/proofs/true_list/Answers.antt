@@ -13,20 +13,20 @@ returns-then-bam-lt32 c =
 
 pub returns-then-not-inside : goal.returns-then-not-inside
 returns-then-not-inside c =
-    sym (overrun c.args.bam.now c.if-bam-lt32.false (overruns c.args.bam.now c.of_record-list.result c.of_record-list.ensures.at_value _ c.inside.ensures (c.if-not-inside.true)))
+    sym (overrun c.args.bam.now c.if-bam-lt32.false (overruns c.args.bam.now c.area_of-area.result c.area_of-area.ensures _ c.inside.ensures (c.if-not-inside.true)))
 
 pub returns-then-not-is_placeholder : goal.returns-then-not-is_placeholder
 returns-then-not-is_placeholder c =
     let within : ops_end c.args.bam.now ≤ length c.args.bam.now =
-    lies c.args.bam.now c.of_record-list.result c.of_record-list.ensures.at_value _ c.inside.ensures (c.if-not-inside.false)
+    lies c.args.bam.now c.area_of-area.result c.area_of-area.ensures _ c.inside.ensures (c.if-not-inside.false)
     in
-    same_list _ _ _ _ c.of_record-list.ensures.at_value.0 c.of_record-list.ensures.at_value.1
+    same_list _ _ _ _ c.area_of-area.ensures.0 c.area_of-area.ensures.1
     ∙ sym (ordinary c.args.bam.now c.if-bam-lt32.false (within) (sym c.is_placeholder.ensures ∙ c.if-not-is_placeholder.true))
 
 pub returns : goal.returns
 returns c =
     let within : ops_end c.args.bam.now ≤ length c.args.bam.now =
-    lies c.args.bam.now c.of_record-list.result c.of_record-list.ensures.at_value _ c.inside.ensures (c.if-not-inside.false)
+    lies c.args.bam.now c.area_of-area.result c.area_of-area.ensures _ c.inside.ensures (c.if-not-inside.false)
     in
     c.behind_placeholder.ensures
     ∙ sym (behind c.args.bam.now c.if-bam-lt32.false (within) (sym c.is_placeholder.ensures ∙ c.if-not-is_placeholder.false))

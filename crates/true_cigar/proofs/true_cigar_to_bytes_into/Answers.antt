@@ -1,16 +1,15 @@
--- The text of the list that the reader names, or its refusal.
-use Prim.Native.Nat.{ℕ}
+-- The text of the list that the reader names.
+use Rattle.std.proofs.Common.{sym, ap, ◌∙◌, ℕ, List}
 use Rattle.std.specs.Prelude.{Err}
-use mathlib.Core.Path.{sym, ◌∙◌}
-use mathlib.Core.List.{List}
 use Rattle.answers.proofs.Unique.{resettled}
 use Rattle.print_rules.specs.Text.{printed_ops}
 use Rattle.tag_rules.proofs.HeldLaws.{reads_list}
 use Rattle.true_rules.specs.True.{stop_kept}
 use Rattle.true_cigar.proofs.true_cigar_to_bytes_into.Goals as goal
 
-pub returns-in-At : goal.returns-in-At
-returns-in-At c =
+pub returns : goal.returns
+returns c =
     resettled
-    (reads_list (stop_kept Err c.args.out.now) (λ (l : List ℕ). printed_ops l c.args.out.now) c.args.bam.now _ _ (sym c.true_list.ensures ∙ c.in-At.is))
+    (reads_list (stop_kept Err c.args.out.now) (λ (l : List ℕ). printed_ops l c.args.out.now) c.args.bam.now _ _ (sym c.in_ok-area.ensures)
+    ∙ ap (λ (l : List ℕ). printed_ops l c.args.out.now) (sym c.ops_at.ensures))
     c.print_ops.ensures

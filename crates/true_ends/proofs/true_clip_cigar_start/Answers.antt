@@ -11,7 +11,7 @@ use Rattle.tag_rules.proofs.HeldLaws.{reads_list}
 use Rattle.true_rules.specs.True.{stop_kept}
 use Rattle.true_ends.proofs.true_clip_cigar_start.Goals as goal
 
-pub returns-in-At : goal.returns-in-At
-returns-in-At c =
-    let list = reads_list (stop_kept Err c.args.out.now) (λ (l : List ℕ). clipped_into l c.args.amount true c.args.out.now) c.args.bam.now _ _ (sym c.true_list.ensures ∙ c.in-At.is) in
-    resettled (list ∙ own_limit _ _ c.args.amount true c.args.out.now _ c.count-limit.ensures.0 refl) c.clip_start.ensures
+pub returns : goal.returns
+returns c =
+    let list = reads_list (stop_kept Err c.args.out.now) (λ (l : List ℕ). clipped_into l c.args.amount true c.args.out.now) c.args.bam.now _ _ (sym c.in_ok-area.ensures) in
+    resettled (list ∙ own_limit _ _ c.args.amount true c.args.out.now _ c.count.ensures.value c.ops_at-list.ensures) c.clip_start.ensures
