@@ -2,14 +2,13 @@
 #![tactic(auto)]
 
 ghost use Rattle.std.specs.Prelude.{◌≡◌, ◌≤◌, max};
-ghost use Rattle.oplist.specs.Ops.{ops_of};
 ghost use Rattle.lookup_rules.specs.Lookup.{look, looked_up_to, looked, long_looked, counted, read_over};
 ghost use Rattle.lookup_rules.specs.Examined.{place_of};
 ghost use Rattle.lookup.specs.InnerLookup.{spot_of, over_of};
 
 use answers::{Answer, Refusal};
 use lookup_rules::Found;
-use oplist::Ops;
+use oplist::{Lent, OpList};
 
 // What stands over a reference base: a query base; none, as the read lacks it; or there is no such reference base.
 #[derive(Clone, Copy)]
@@ -31,16 +30,14 @@ pub struct Spot {
 pub const LAST_START: u64 = 2147483648;
 
 // What is seen at reference base k of the alignment, counted from 0.
-fn look_at(words: &[u32], rec: &[u8], list: Ops, k: u64) -> Spot
-    ensures result_value { (spot_of result ≡ look (ops_of words.now rec.now list) k) × (result.before ≤ 1152921504606846976) }
-    ensures place_value { result.place ≡ place_of (ops_of words.now rec.now list) k }
+fn look_at<L: OpList>(list: L, k: u64) -> Spot
+    ensures result_value { (spot_of result ≡ look (L.ops list) k) × (result.before ≤ 1152921504606846976) }
+    ensures place_value { result.place ≡ place_of (L.ops list) k }
 {
-    let n = oplist::count(words, rec, list);
     let mut before: u64 = 0;
     let mut left = k;
-    let mut i: usize = 0;
-    while i < n {
-        let op = oplist::op_at(words, rec, list, i);
+    for i in 0..list.count() {
+        let op = list.op(i);
         let refs = ops::ref_len(op);
         if left < refs {
             if ops::consumes_query(op) {
@@ -51,19 +48,18 @@ fn look_at(words: &[u32], rec: &[u8], list: Ops, k: u64) -> Spot
                 };
             }
             return Spot {
-                before: before,
+                before,
                 over: Over::Gap,
                 place: i + 1,
             };
         }
         left -= refs;
         before += ops::query_len(op);
-        i += 1;
     }
     Spot {
-        before: before,
+        before,
         over: Over::Off,
-        place: i,
+        place: list.count(),
     }
 }
 
@@ -74,13 +70,8 @@ fn read_over(asked: bool, before: u64, over: Over) -> Option<u64>
 {
     match over {
         Over::Base => Some(before + 1),
-        Over::Gap => {
-            if asked {
-                return Some(before.max(1));
-            }
-            None
-        }
-        Over::Off => None,
+        Over::Gap if asked => Some(before.max(1)),
+        _ => None,
     }
 }
 
@@ -90,13 +81,8 @@ fn read_pos_up_to(limit: usize, cigar: &[u32], start: u64, pos: u64, asked: bool
     requires { limit ≤ 4294967295 }
     ensures { result ≡ looked_up_to limit cigar.now start pos asked }
 {
-    if limit < cigar.len() {
-        return Err(Refusal::TooManyOps);
-    }
-    if start < 1 {
-        return Err(Refusal::BadStart);
-    }
-    if LAST_START < start {
+    let list = Lent::new(cigar, limit).ok_or(Refusal::TooManyOps)?;
+    if start < 1 || LAST_START < start {
         return Err(Refusal::BadStart);
     }
     if pos < start {
@@ -105,7 +91,7 @@ fn read_pos_up_to(limit: usize, cigar: &[u32], start: u64, pos: u64, asked: bool
             examined: 0,
         });
     }
-    let s = look_at(cigar, &[], oplist::lent(cigar), pos - start);
+    let s = look_at(list, pos - start);
     Ok(Found {
         place: read_over(asked, s.before, s.over),
         examined: s.place as u32,
@@ -120,7 +106,12 @@ pub fn read_pos_at_ref_pos_raw(cigar: &[u32], start: u64, pos: u64, asked: bool)
 }
 
 // And of a long list.
-pub fn long_read_pos_at_ref_pos_raw(cigar: &[u32], start: u64, pos: u64, asked: bool) -> Answer<Found>
+pub fn long_read_pos_at_ref_pos_raw(
+    cigar: &[u32],
+    start: u64,
+    pos: u64,
+    asked: bool,
+) -> Answer<Found>
     ensures { result ≡ long_looked cigar.now start pos asked }
 {
     read_pos_up_to(oplist::MOST_LONG_OPS, cigar, start, pos, asked)
