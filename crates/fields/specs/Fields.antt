@@ -8,15 +8,19 @@ use Rattle.answers.specs.Answers.{Told, answered, refused, number_of}
 use Rattle.answers.specs.declared.Refusal.TheVariants.{ShortRecord}
 use Rattle.fields.specs.declared.Area.{Area}
 
+-- what is read of a record that has its fixed part
+abbrev pub field : {A : Type 0} → (List ℕ → A) → List ℕ → Answer A
+field f b = cond (is_short b) (Err ShortRecord) (Ok (f b))
+
 abbrev pub int_field : (List ℕ → ℤ) → List ℕ → Answer ℤ
-int_field f b = cond (is_short b) (Err ShortRecord) (Ok (f b))
+int_field f b = field f b
 
 abbrev pub nat_field : (List ℕ → ℕ) → List ℕ → Answer ℕ
-nat_field f b = cond (is_short b) (Err ShortRecord) (Ok (f b))
+nat_field f b = field f b
 
 -- a position, counted from 0
 abbrev pub pos_field : (List ℕ → ℤ) → List ℕ → Answer Pos0
-pos_field f b = cond (is_short b) (Err ShortRecord) (Ok (record { 0 = f b }))
+pos_field f b = field (λ (r : List ℕ). record { 0 = f r }) b
 
 -- where the ops lie, 0 and 0 where their area ends past the record
 unfoldable pub cigar_area : List ℕ → Answer Area
