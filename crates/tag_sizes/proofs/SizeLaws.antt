@@ -1,29 +1,38 @@
 -- What the code computes at a place is the size of what stands at the front of the bytes behind it.
-use Prim.Native.Nat.{ℕ, ◌+◌, ◌*◌, ◌≤◌, ◌<◌}
+use Prim.Native.Nat.{ℕ, ◌+◌, ◌*◌, ◌≤◌}
 use mathlib.Core.Path.{◌≡◌, refl, sym, ap, ◌∙◌}
-use mathlib.Core.List.{List}
+use mathlib.Core.List.{List, [], ◌∷◌}
+use mathlib.Core.Bool.{Bool, true, false, cond, not}
+use lib.Dec.{eqb, ltb}
+use Rattle.std.specs.Prelude.{None, Some}
+use Rattle.std.specs.Option.{unwrap_or}
+use Rattle.std.specs.List.{position_or_len}
 use native.Mathlib.Omega.{arith}
 use lib.ListN.{length, drop, length-drop}
 use lib.Seq.{drop-drop}
-use borrow.Author.Tests.{eq-eqb, ne_eqb}
-use Rattle.lists.proofs.Walks.{step, done}
+use borrow.Author.Tests.{lt-ltb, le-ltb}
+use mathlib.Core.Logic.{inl, inr}
+use Rattle.std.proofs.lemmas.Bool.{cases_lt}
+use Rattle.std.proofs.lemmas.List.Sums.{prefix_len-le-length}
 use Rattle.sam.specs.Record.{byte_at, le32}
 use Rattle.sam.specs.Tags.{number_size, to_nul, array_size, value_size}
 use Rattle.sam.proofs.TagLaws.{byte, number, array_is}
 
 -- ---- the NUL
 
-pub nul_found : (b : List ℕ) (i : ℕ) → i < length b → byte_at b i ≡ 0 → to_nul (drop i b) ≡ 1
+-- the place of the first NUL, or the end
+pub nul_is : (s : List ℕ) → position_or_len (λ (x : ℕ). eqb x 0) s + 1 ≡ to_nul s
 unfolding to_nul
-nul_found b i h e = ap to_nul (step b i _ refl h) ∙ simp (eq-eqb (byte_at b i) 0 e)
+nul_is [] = refl
+nul_is (x ∷ s) = go (eqb x 0) (nul_is s)
+  where
+    go : (t : Bool) → position_or_len (λ (y : ℕ). eqb y 0) s + 1 ≡ to_nul s → cond (not t) (1 + position_or_len (λ (y : ℕ). eqb y 0) s) 0 + 1 ≡ cond t 1 (1 + to_nul s)
+    go true e = refl
+    go false e = omega arith
 
-pub nul_later : (b : List ℕ) (i : ℕ) → i < length b → (byte_at b i ≡ 0 → ⊥) → to_nul (drop i b) ≡ 1 + to_nul (drop (i + 1) b)
-unfolding to_nul
-nul_later b i h e = ap to_nul (step b i _ refl h) ∙ simp (ne_eqb (byte_at b i) 0 e)
-
-pub nul_none : (b : List ℕ) (i : ℕ) → length b ≤ i → to_nul (drop i b) ≡ 1
-unfolding to_nul
-nul_none b i h = ap to_nul (done b i h)
+-- and the end, where none is found
+pub nul_or_end : (s : List ℕ) → unwrap_or (cond (ltb (position_or_len (λ (x : ℕ). eqb x 0) s) (length s)) (Some (position_or_len (λ (x : ℕ). eqb x 0) s)) None) (length s) ≡ position_or_len (λ (x : ℕ). eqb x 0) s
+nul_or_end s = elim (cases_lt (position_or_len (λ (x : ℕ). eqb x 0) s) (length s)) [ inl h ↦ simp (lt-ltb _ _ h) | inr h ↦ simp (le-ltb _ _ h) (omega (arith, prefix_len-le-length (λ (x : ℕ). not (eqb x 0)) s)) ]
 
 -- ---- an array
 

@@ -1,21 +1,19 @@
 // Document 02, item 1: the sizes of tags, by their types. An inner crate of the reader of a record's true op list.
+// Here 0 says that there is no size, and no `Option` does: so does `tag_size` of the definitions (sam, specs/Tags), which each of these equals.
 #![tactic(auto)]
 
 ghost use Rattle.std.specs.Prelude.{◌≡◌, ◌+◌, ◌≤◌, ◌<◌, length, drop};
 ghost use Rattle.sam.specs.Tags.{number_size, to_nul, array_size, value_size, tag_size};
 
 // The bytes of a number, by its type; 0 for any other type.
+#[tactic(auto, unfolding(sam::specs::Tags::number_size))]
 fn number_size(kind: u8) -> u64
     ensures { (result ≡ number_size kind) × (result ≤ 4) }
 {
     match kind {
-        b'c' => 1,
-        b'C' => 1,
-        b's' => 2,
-        b'S' => 2,
-        b'i' => 4,
-        b'I' => 4,
-        b'f' => 4,
+        b'c' | b'C' => 1,
+        b's' | b'S' => 2,
+        b'i' | b'I' | b'f' => 4,
         _ => 0,
     }
 }
@@ -25,14 +23,12 @@ fn to_nul(b: &[u8], at: usize) -> u64
     requires { (0 < at) × (at ≤ length b.now) }
     ensures { result ≡ to_nul (drop at b.now) }
 {
-    let mut i = at;
-    while i < b.len() {
-        if b[i] == 0 {
-            return (i - at) as u64 + 1;
-        }
-        i += 1;
-    }
-    (i - at) as u64 + 1
+    let text = &b[at..];
+    let before = text
+        .iter()
+        .position(|byte| *byte == 0)
+        .unwrap_or(text.len());
+    before as u64 + 1
 }
 
 // The bytes of an array at a place, with its type and count; 0 where these overrun, and for a type that no array has.
@@ -47,18 +43,18 @@ fn array_size(b: &[u8], at: usize) -> u64
     if width == 0 {
         return 0;
     }
-    5 + width * (little_endian::u32_at(b, at + 1) as u64)
+    5 + width * u64::from(little_endian::u32_at(b, at + 1))
 }
 
 // The bytes of a value of a type at a place; 0 for a type that is not listed.
+#[tactic(auto, unfolding(sam::specs::Tags::value_size))]
 fn value_size(b: &[u8], kind: u8, at: usize) -> u64
     requires { (0 < at) × (at ≤ length b.now) }
     ensures { result ≡ value_size kind (drop at b.now) }
 {
     match kind {
         b'A' => 1,
-        b'Z' => to_nul(b, at),
-        b'H' => to_nul(b, at),
+        b'Z' | b'H' => to_nul(b, at),
         b'B' => array_size(b, at),
         _ => number_size(kind),
     }

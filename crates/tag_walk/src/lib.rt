@@ -14,10 +14,7 @@ fn is_cg(b: &[u8], at: usize) -> bool
     requires b_in_bounds { at + tag_size (drop at b.now) ≤ length b.now }
     ensures { result ≡ is_cg (tag_at (drop at b.now)) }
 {
-    if b[at] != b'C' {
-        return false;
-    }
-    b[at + 1] == b'G'
+    b[at] == b'C' && b[at + 1] == b'G'
 }
 
 // The list in the CG at a place. Refusals 13 and 3.
@@ -45,6 +42,7 @@ pub fn first_cg(b: &[u8], from: usize, without: Answer<Area>) -> Answer<Area>
     ensures { result ≡ first_cg without from (tags_of (drop from b.now)) }
 {
     let mut at = from;
+    // No `for`: each step is as long as the tag.
     while at < b.len() {
         let size = tag_sizes::tag_size(b, at);
         if size == 0 {

@@ -17,4 +17,4 @@ returns-then-width-eq0 c =
 
 pub returns : goal.returns
 returns c =
-    array_at c.args.b.now c.args.at c.number_size-width.result c.u32_at.result (omega arith) c.number_size-width.ensures.0 c.u32_at.ensures c.if-width-eq0.false
+    array_at c.args.b.now c.args.at c.number_size-width.result c.from.result (omega arith) c.number_size-width.ensures.0 (c.from.ensures ∙ c.u32_at.ensures) c.if-width-eq0.false

@@ -8,17 +8,17 @@ use Rattle.sam.specs.Tags.{tag_at, is_cg}
 use Rattle.sam.proofs.TagLaws.{byte, whole}
 use Rattle.tag_walk.proofs.is_cg.Goals as goal
 
-pub returns-then-b-at-ne67 : goal.returns-then-b-at-ne67
+pub returns-else-b-at-eq67 : goal.returns-else-b-at-eq67
 unfolding is_cg tag_at
-returns-then-b-at-ne67 c =
-    simp (byte c.args.b.now c.args.at 0 c.args.at (omega arith), ne_eqb _ 67 c.if-b-at-ne67.true)
+returns-else-b-at-eq67 c =
+    simp (byte c.args.b.now c.args.at 0 c.args.at (omega arith), ne_eqb _ 67 c.if-b-at-eq67.false)
 
 pub bounds-b-at-2 : goal.bounds-b-at-2
 bounds-b-at-2 c =
     let w = whole (drop c.args.at c.args.b.now) c.requires.nonzero in
     omega (arith, w.0, c.requires.b_in_bounds)
 
-pub returns : goal.returns
+pub returns-then-b-at-eq67 : goal.returns-then-b-at-eq67
 unfolding is_cg tag_at
-returns c =
-    simp (byte c.args.b.now c.args.at 0 c.args.at (omega arith), eq-eqb _ 67 c.if-b-at-ne67.false, byte c.args.b.now c.args.at 1 (c.args.at + 1) refl)
+returns-then-b-at-eq67 c =
+    simp (byte c.args.b.now c.args.at 0 c.args.at (omega arith), eq-eqb _ 67 c.if-b-at-eq67.true, byte c.args.b.now c.args.at 1 (c.args.at + 1) refl)
