@@ -5,6 +5,10 @@ use mathlib.Core.List.{List, ◌++◌, append_assoc}
 use native.Mathlib.Omega.{arith}
 use lib.ListN.{length, take, drop, length-drop, length-append}
 use lib.Seq.{take-add, take_all, drop-drop, length-take-le}
+use borrow.Rule.Slice.PartMut.{put_mid}
+use Rattle.std.specs.List.{between}
+use Rattle.std.proofs.lemmas.Slice.{between_to_end}
+use Rattle.record_parts.proofs.PutLaws.{part_written}
 use Rattle.lists.specs.Lists.{splice}
 use Rattle.lists.proofs.ListLaws.{splice_append, length_splice, two_parts}
 use Rattle.lists.proofs.Splices.{front_step, part_of_front}
@@ -40,6 +44,15 @@ front_is b d d₁ d₂ d₃ d₄ d₅ c n place bin count len e f g₁ g₂ g₃
     same_header : (b : List ℕ) (c : Change) (place bin count len : ℕ) → place ≡ bits32 c.place → bin ≡ c.bin → count ≡ length c.ops → len ≡ c.len
         → part b 0 4 ++ (uint32 place ++ (part b 8 2 ++ (uint16 bin ++ (uint16 count ++ (part b 14 2 ++ (uint32 len ++ part b 20 12)))))) ≡ new_header b c
     same_header b c place bin count len e₁ e₂ e₃ e₄ = rw (e₁, e₂, e₃, e₄) refl
+
+-- the bases, in their part of a list
+pub bases_put : (b d ys : List ℕ) (from n at x k : ℕ) → x ≡ bases_start b → tags_start b ≤ length b → from + n ≤ seq_len_of b → k ≡ (n + 1) / 2
+    → ys ≡ packed (take n (drop from (bases_of (between x (length b) b)))) → put_mid at k d ys ≡ splice d at (packed (take n (drop from (bases_of (drop x b)))))
+bases_put b d ys from n at x k ex t f e g =
+    let l = length_behind b x in
+    let m = packed_size (bases_of (drop x b)) from n (omega arith) in
+    part_written d ys (packed (take n (drop from (bases_of (drop x b))))) at k (omega arith)
+    (g ∙ ap (λ (s : List ℕ). packed (take n (drop from (bases_of s)))) (between_to_end b x (length b) (omega arith)))
 
 -- bases, qualities and tags
 pub tail-is : (b d d₁ d₂ d₃ : List ℕ) (from n at second x y z : ℕ) → x ≡ bases_start b → y ≡ quals_start b → z ≡ tags_start b → tags_start b ≤ length b → from + n ≤ seq_len_of b

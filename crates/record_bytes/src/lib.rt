@@ -1,7 +1,7 @@
 // What stands before and behind the ops of a clipped record: the header and the name; bases, qualities and tags. An inner crate.
 #![tactic(auto)]
 
-ghost use Rattle.std.specs.Prelude.{◌≡◌, ◌++◌, ◌+◌, ◌-◌, ◌/◌, ◌≤◌, length};
+ghost use Rattle.std.specs.Prelude.{◌≡◌, Bool, ◌++◌, ◌+◌, ◌-◌, ◌/◌, ◌≤◌, length};
 ghost use Rattle.lists.specs.Lists.{splice};
 ghost use Rattle.sam.specs.Record.{name_len_of, seq_len_of, tags_start};
 ghost use Rattle.sam.specs.Bases.{packed};
@@ -12,13 +12,13 @@ ghost use Rattle.record_rules.specs.InnerPlan.{change_by, Fits};
 use record_rules::RecordPlan;
 
 // The header with its new numbers, and the name.
-pub fn put_front(rec: &[u8], p: RecordPlan, start: bool, out: &mut [u8])
+pub fn put_front(rec: &[u8], p: RecordPlan, out: &mut [u8])
     requires fits { Fits rec.now p }
     requires rec_in_bounds { 32 + name_len_of rec.now ≤ length out.old }
-    ensures { out.new ≡ splice out.old 0 (new_header rec.now (change_by rec.now start p) ++ new_name rec.now (change_by rec.now start p)) }
+    ensures { (start : Bool) → out.new ≡ splice out.old 0 (new_header rec.now (change_by rec.now start p) ++ new_name rec.now (change_by rec.now start p)) }
 {
     let n = 32 + little_endian::u8_at(rec, 8) as usize;
-    record_parts::copy_bytes(rec, 0, n, out, 0);
+    record_parts::copy_bytes(&rec[..n], &mut out[..n]);
     record_parts::put_u32(signed::bits32(p.place), out, 4);
     record_parts::put_u16(p.bin, out, 10);
     record_parts::put_u16(p.n, out, 12);
@@ -37,11 +37,14 @@ pub fn put_tail(rec: &[u8], from: usize, n: usize, out: &mut [u8], at: usize)
     let tags = record_parts::tags_start(rec);
     let first = quals + from;
     let second = at + (n + 1) / 2;
-    record_bases::put_bases(rec, bases, from, n, out, at);
+    record_bases::put_bases(&rec[bases..], from, n, &mut out[at..second]);
     if first + n == tags {
-        record_parts::copy_bytes(rec, first, rec.len() - first, out, second);
+        let rest = rec.len() - first;
+        record_parts::copy_bytes(&rec[first..], &mut out[second..second + rest]);
         return;
     }
-    record_parts::copy_bytes(rec, first, n, out, second);
-    record_parts::copy_bytes(rec, tags, rec.len() - tags, out, second + n);
+    let third = second + n;
+    let rest = rec.len() - tags;
+    record_parts::copy_bytes(&rec[first..first + n], &mut out[second..third]);
+    record_parts::copy_bytes(&rec[tags..], &mut out[third..third + rest]);
 }

@@ -29,10 +29,8 @@ fn first_query(words: &[u32], rec: &[u8], list: Ops, start: bool, n: usize) -> u
 {
     let count = oplist::count(words, rec, list);
     let mut query: u64 = 0;
-    let mut i: usize = 0;
-    while i < n {
+    for i in 0..n {
         query += ops::query_len(oplist::op_from(words, rec, list, count, start, i));
-        i += 1;
     }
     query
 }
@@ -51,13 +49,6 @@ fn heads_query(heads: usize, a: u32, b: u32) -> u64
     ops::query_len(a) + ops::query_len(b)
 }
 
-// a - b, or 0 where that is below 0.
-fn saturating_sub(a: u64, b: u64) -> u64
-    ensures { (result ≡ a - b) × (result ≤ a) }
-{
-    if b < a { a - b } else { 0 }
-}
-
 // The l_seq that a plan leaves. Only the ops that it takes are walked.
 pub fn new_len(bam: &[u8], p: Plan, start: bool) -> u32
     requires bam_in_bounds { tags_start bam.now ≤ length bam.now }
@@ -68,7 +59,7 @@ pub fn new_len(bam: &[u8], p: Plan, start: bool) -> u32
     let gone = first_query(&[], bam, oplist::of_record(bam), start, p.skip);
     let put = heads_query(p.heads, p.first, p.second);
     let len = little_endian::u32_at(bam, 16) as u64;
-    saturating_sub(len, saturating_sub(gone, put)) as u32
+    len.saturating_sub(gone.saturating_sub(put)) as u32
 }
 
 // The first base that stays: the lost ones are at the chosen end.

@@ -1,7 +1,7 @@
 // The ops of a clipped record, stored: those put in place by their numbers, in the order of the end, the others as bytes. An inner crate.
 #![tactic(auto)]
 
-ghost use Rattle.std.specs.Prelude.{◌≡◌, [], ◌∷◌, ◌++◌, reverse, ◌+◌, ◌-◌, ◌*◌, ◌≤◌, length, take, drop};
+ghost use Rattle.std.specs.Prelude.{◌≡◌, [], ◌∷◌, ◌+◌, ◌-◌, ◌*◌, ◌≤◌, length, take};
 ghost use Rattle.lists.specs.Lists.{splice};
 ghost use Rattle.sam.specs.Record.{ops_in, op_bytes};
 ghost use Rattle.record_rules.specs.InnerPlan.{planned_ops};
@@ -24,41 +24,7 @@ fn put_heads(out: &mut [u8], at: usize, heads: usize, a: u32, b: u32)
     record_parts::put_u32(b, out, at + 4);
 }
 
-// A clip at the start: the ops put in place, then the ops from place `skip` on, of n ops from place `area` on.
-fn put_ops_start(rec: &[u8], area: usize, n: usize, p: Plan, out: &mut [u8], at: usize)
-    requires heads_bound { p.heads ≤ 2 }
-    requires skip_le_n { p.skip ≤ n }
-    requires n_in_bounds { area + 4 * n ≤ length rec.now }
-    requires skip_in_bounds { at + 4 * (p.heads + (n - p.skip)) ≤ length out.old }
-    ensures { out.new ≡ splice out.old at (op_bytes (take p.heads (p.first ∷ (p.second ∷ [])) ++ drop p.skip (ops_in rec.now area n))) }
-{
-    put_heads(out, at, p.heads, p.first, p.second);
-    record_parts::copy_bytes(
-        rec,
-        area + 4 * p.skip,
-        4 * (n - p.skip),
-        out,
-        at + 4 * p.heads,
-    );
-}
-
-// A clip at the end: the ops but for the last `skip`, then the ops put in place, the first of them last.
-fn put_ops_end(rec: &[u8], area: usize, n: usize, p: Plan, out: &mut [u8], at: usize)
-    requires heads_bound { p.heads ≤ 2 }
-    requires skip_le_n { p.skip ≤ n }
-    requires n_in_bounds { area + 4 * n ≤ length rec.now }
-    requires skip_in_bounds { at + 4 * (p.heads + (n - p.skip)) ≤ length out.old }
-    ensures { out.new ≡ splice out.old at (op_bytes (reverse (take p.heads (p.first ∷ (p.second ∷ [])) ++ drop p.skip (reverse (ops_in rec.now area n))))) }
-{
-    record_parts::copy_bytes(rec, area, 4 * (n - p.skip), out, at);
-    if p.heads == 2 {
-        put_heads(out, at + 4 * (n - p.skip), p.heads, p.second, p.first);
-    } else {
-        put_heads(out, at + 4 * (n - p.skip), p.heads, p.first, p.second);
-    }
-}
-
-// The ops that a plan leaves, of n ops from place `area` on.
+// The ops that a plan leaves, of n ops from place `area` on. At the start those put in place stand first; at the end they stand last, the first of them behind the other.
 pub fn put_ops(rec: &[u8], area: usize, n: usize, p: Plan, start: bool, out: &mut [u8], at: usize)
     requires heads_bound { p.heads ≤ 2 }
     requires skip_le_n { p.skip ≤ n }
@@ -66,9 +32,19 @@ pub fn put_ops(rec: &[u8], area: usize, n: usize, p: Plan, start: bool, out: &mu
     requires skip_in_bounds { at + 4 * (p.heads + (n - p.skip)) ≤ length out.old }
     ensures { out.new ≡ splice out.old at (op_bytes (planned_ops start (ops_in rec.now area n) p)) }
 {
+    let kept = 4 * (n - p.skip);
     if start {
-        put_ops_start(rec, area, n, p, out, at);
+        let behind = at + 4 * p.heads;
+        let first = area + 4 * p.skip;
+        put_heads(out, at, p.heads, p.first, p.second);
+        record_parts::copy_bytes(&rec[first..first + kept], &mut out[behind..behind + kept]);
         return;
     }
-    put_ops_end(rec, area, n, p, out, at);
+    let behind = at + kept;
+    record_parts::copy_bytes(&rec[area..area + kept], &mut out[at..behind]);
+    if p.heads == 2 {
+        put_heads(out, behind, p.heads, p.second, p.first);
+    } else {
+        put_heads(out, behind, p.heads, p.first, p.second);
+    }
 }

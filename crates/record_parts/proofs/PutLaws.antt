@@ -22,6 +22,18 @@ part_written d ys vs at k e f =
     ap (λ (l : List ℕ). take at d ++ (l ++ drop k (drop at d))) f
     ∙ ap (λ (l : List ℕ). take at d ++ (vs ++ l)) (drop-drop k at d ∙ ap (λ (n : ℕ). drop (at + n) d) (sym e))
 
+-- n bytes of s, from place `from` on, that are copied to a part of a list, and to its front
+pub part_copied : (d s ys : List ℕ) (at from n j k : ℕ) → j ≡ n → k ≡ n → from + n ≤ length s → ys ≡ take j (drop from s) → put_mid at k d ys ≡ splice d at (take n (drop from s))
+part_copied d s ys at from n j k e f h g =
+    let l = length-drop from s in
+    let m = length-take-le n (drop from s) (omega arith) in
+    part_written d ys (take n (drop from s)) at k (omega arith) (g ∙ ap (λ (i : ℕ). take i (drop from s)) e)
+
+pub front_copied : (d s ys : List ℕ) (n : ℕ) → n ≤ length s → ys ≡ take n s → ys ++ drop n d ≡ splice d 0 (take n (drop 0 s))
+front_copied d s ys n h e =
+    let m : length (take n s) ≡ n = length-take-le n s h in
+    ap (λ (l : List ℕ). l ++ drop n d) e ∙ ap (λ (k : ℕ). take n s ++ drop k d) (sym m) ∙ sym (splice_start d (take n s))
+
 -- a number's bytes, the lowest first
 pub two_bytes_of : (n : ℕ) → to_le_bytes w16 (n % 65536) ≡ uint16 n
 two_bytes_of n = search rules

@@ -29,23 +29,15 @@ pub fn plan_record(bam: &[u8], amount: u64, start: bool) -> Answer<RecordPlan>
     }
     let list = oplist::of_record(bam);
     let limit = oplist::count(&[], bam, list);
-    match clip_plan::plan_clip(&[], bam, list, limit, amount, start, true) {
-        Ok(p) => counted(bam, p, start),
-        Err(why) => Err(why),
-    }
+    let p = clip_plan::plan_clip(&[], bam, list, limit, amount, start, true)?;
+    counted(bam, p, start)
 }
 
 // Whether a query length differs from an l_seq that is not 0.
 fn query_differs(len: u64, query: u64) -> bool
     ensures { result ≡ differs len query }
 {
-    if len == 0 {
-        return false;
-    }
-    if query == len {
-        return false;
-    }
-    true
+    len != 0 && query != len
 }
 
 // The bin of a record at z with so many reference bases. Refusal 4.
@@ -67,23 +59,19 @@ fn binned(bam: &[u8], p: Plan, start: bool, refs: u64, count: u64, z: i32) -> An
     requires refs_bound { refs < 268435456 }
     ensures { FateIs bam.now start (binned bam.now (planned_ops start (record_ops bam.now) p) start count z (bin_at z refs)) result }
 {
-    match bin_at(z, refs) {
-        Ok(bin) => {
-            let n = record_left::count_of(bam, p);
-            let len = record_left::new_len(bam, p, start);
-            let from = record_left::first_kept(bam, start, len);
-            Ok(RecordPlan {
-                ops: p,
-                n: n,
-                place: z,
-                bin: bin,
-                len: len,
-                from: from,
-                count: count,
-            })
-        }
-        Err(why) => Err(why),
-    }
+    let bin = bin_at(z, refs)?;
+    let n = record_left::count_of(bam, p);
+    let len = record_left::new_len(bam, p, start);
+    let from = record_left::first_kept(bam, start, len);
+    Ok(RecordPlan {
+        ops: p,
+        n,
+        place: z,
+        bin,
+        len,
+        from,
+        count,
+    })
 }
 
 // A record that is moved by the count. Refusal 4, of the position and of the bin.
@@ -95,10 +83,8 @@ fn placed(bam: &[u8], p: Plan, start: bool, refs: u64, count: u64) -> Answer<Rec
     requires refs_value { refs ≡ sum_of ref_len (planned_ops start (record_ops bam.now) p) }
     ensures { FateIs bam.now start (placed bam.now (planned_ops start (record_ops bam.now) p) start count (checked (pos_of bam.now +ℤ pos count))) result }
 {
-    match signed::checked_add(little_endian::i32_at(bam, 4), count as i32) {
-        Some(z) => binned(bam, p, start, refs, count, z),
-        None => Err(Refusal::Overflow),
-    }
+    let z = signed::checked_add(little_endian::i32_at(bam, 4), count as i32).ok_or(Refusal::Overflow)?;
+    binned(bam, p, start, refs, count, z)
 }
 
 // A record whose ops a plan clips. Refusals 15, 16, 4.

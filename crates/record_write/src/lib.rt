@@ -18,20 +18,16 @@ use record_rules::RecordPlan;
 pub fn clip_record_start(bam: &[u8], amount: u64, out: &mut [u8]) -> Answer<Clipped>
     ensures { Settled (clipped_record_start bam.now amount out.old) result out.new }
 {
-    match record_plan::plan_record(&*bam, amount, true) {
-        Ok(p) => put_start(&*bam, p, out),
-        Err(why) => Err(why),
-    }
+    let p = record_plan::plan_record(&*bam, amount, true)?;
+    put_start(&*bam, p, out)
 }
 
 // The same at the end: the bytes written. Refusals 1, 2, 8, 19, 15, 16, 4, 6.
 pub fn clip_record_end(bam: &[u8], amount: u64, out: &mut [u8]) -> Answer<u64>
     ensures { Settled (clipped_record_end bam.now amount out.old) result out.new }
 {
-    match record_plan::plan_record(&*bam, amount, false) {
-        Ok(p) => put_end(&*bam, p, out),
-        Err(why) => Err(why),
-    }
+    let p = record_plan::plan_record(&*bam, amount, false)?;
+    put_end(&*bam, p, out)
 }
 
 // How many bytes the record has that a plan is for.
@@ -54,7 +50,7 @@ fn write_record(rec: &[u8], p: RecordPlan, start: bool, out: &mut [u8])
     let area = 32 + little_endian::u8_at(rec, 8) as usize;
     let n = little_endian::u16_at(rec, 12) as usize;
     let ops = p.ops;
-    record_bytes::put_front(rec, p, start, out);
+    record_bytes::put_front(rec, p, out);
     record_ops::put_ops(rec, area, n, ops, start, out, area);
     record_bytes::put_tail(
         rec,

@@ -15,7 +15,7 @@ loop-i-preserved c =
     let xs = facing c.args.start (ops_of c.args.words.now c.args.rec.now c.args.list) in
     let l = length_facing c.args.start (ops_of c.args.words.now c.args.rec.now c.args.list) in
     let q = sum_step query_len xs c.loop-i.i _ c.op_from.ensures (omega arith) in
-    (omega arith, omega arith, omega arith)
+    (omega arith, omega arith)
 
 pub returns : goal.returns
 returns c =

@@ -1,7 +1,5 @@
 -- What is summed and what is left are the whole.
-use Prim.Native.Nat.{◌+◌, ◌-◌, ◌*◌, ◌≤◌}
-use mathlib.Core.Path.{◌≡◌}
-use lib.ListN.{drop}
+use Rattle.std.proofs.Common.{◌≡◌, ◌+◌, ◌*◌, ◌≤◌, drop}
 use Rattle.lists.specs.Lists.{facing, sum_of}
 use Rattle.oplist.specs.Ops.{ops_of}
 use Rattle.sam.specs.Op.{query_len}
@@ -9,10 +7,5 @@ use Rattle.record_left.proofs.first_query.Given as goal
 
 abbrev pub invariant-loop-i : goal.invariant-loop-i
 invariant-loop-i l =
-    (l.i ≤ l.n)
-    × (l.query ≤ 268435456 * l.i)
+    (l.query ≤ 268435456 * l.i)
     × (l.query + sum_of query_len (drop l.i (facing l.start (ops_of l.words l.rec l.list))) ≡ sum_of query_len (facing l.start (ops_of l.words l.rec l.list)))
-
-abbrev pub decreases-loop-i : goal.decreases-loop-i
-decreases-loop-i l =
-    l.n - l.i
