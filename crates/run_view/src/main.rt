@@ -2,9 +2,13 @@
 // its fields; the part that holds its ops, and the number beside it; the part that holds its true list; lengths and ends; its text, in 12 places; and its ops clipped at the start by 25, at the end by 5, by 0 and by 26, in 3 places.
 #![tactic(auto)]
 
-mod asked;
 mod record;
 mod shown;
+
+use fields::Part;
+use shown::{Bytes, ClippedEnd, ClippedStart, FivePrime, Lengths, Place, Told};
+use std::io;
+use view::RawRecordView;
 
 // Document 01's record up to its ops, with other numbers in the fields that it does not name: 5S20M2D5M, name `r`, l_seq 30.
 fn example(pos: u32, flags: u32) -> [u8; 96] {
@@ -21,145 +25,122 @@ fn example(pos: u32, flags: u32) -> [u8; 96] {
     )
 }
 
-fn numbers(rt: &impl Print, bam: &[u8]) {
-    shown::text(rt, b"  ref_id ");
-    shown::int(rt, asked::ref_id(bam));
-    shown::text(rt, b", pos ");
-    shown::place0(rt, asked::pos(bam));
-    shown::text(rt, b", l_read_name ");
-    shown::nat(rt, asked::l_read_name(bam));
-    shown::text(rt, b", bin ");
-    shown::nat(rt, asked::bin(bam));
-    shown::text(rt, b", n_cigar_op ");
-    shown::nat(rt, asked::n_cigar_op(bam));
+fn numbers(rt: &impl Print, view: RawRecordView) -> io::Result<()> {
+    print!(rt;
+        "  ref_id {}, pos {}",
+        Told(view.ref_id()),
+        Told(view.pos())
+    )?;
+    print!(rt;
+        ", l_read_name {}, bin {}",
+        Told(view.l_read_name()),
+        Told(view.bin())
+    )?;
+    print!(rt;
+        ", n_cigar_op {}, flags {}",
+        Told(view.n_cigar_op()),
+        Told(view.flags())
+    )?;
+    print!(rt;
+        ", l_seq {}, mate_ref_id {}",
+        Told(view.l_seq()),
+        Told(view.mate_ref_id())
+    )?;
+    print!(rt; ", mate_pos {}", Told(view.mate_pos()))?;
+    println!(rt; ", template_length {}", Told(view.template_length()))
 }
 
-fn more_numbers(rt: &impl Print, bam: &[u8]) {
-    shown::text(rt, b", flags ");
-    shown::nat(rt, asked::flags(bam));
-    shown::text(rt, b", l_seq ");
-    shown::nat(rt, asked::l_seq(bam));
-    shown::text(rt, b", mate_ref_id ");
-    shown::int(rt, asked::mate_ref_id(bam));
-    shown::text(rt, b", mate_pos ");
-    shown::place0(rt, asked::mate_pos(bam));
-    shown::text(rt, b", template_length ");
-    shown::int(rt, asked::template_length(bam));
-    shown::end(rt);
+fn part(rt: &impl Print, name: &str, shown: Part) -> io::Result<()> {
+    let Part { refusal, part } = shown;
+    println!(rt;
+        "  {name}, refusal {refusal}, bytes {}:{}",
+        part.len(),
+        Bytes(part)
+    )
 }
 
-fn part(rt: &impl Print, bam: &[u8]) {
-    shown::text(rt, b"  part, refusal ");
-    shown::natural(rt, asked::part_refusal(bam) as u64);
-    let bytes = asked::part(bam);
-    shown::text(rt, b", bytes ");
-    shown::natural(rt, bytes.len() as u64);
-    shown::text(rt, b":");
-    shown::bytes(rt, bytes);
-    shown::end(rt);
+fn sums(rt: &impl Print, view: RawRecordView) -> io::Result<()> {
+    print!(rt; "  reference {}", Told(view.reference_length()))?;
+    print!(rt; ", query {}", Told(view.query_length()))?;
+    print!(rt; ", lengths {}", Told(view.cigar_lengths().map(Lengths)))?;
+    print!(rt;
+        "; start {}",
+        Told(view.alignment_start_1based().map(Place))
+    )?;
+    print!(rt; ", end {}", Told(view.alignment_end_1based().map(Place)))?;
+    println!(rt;
+        ", unclipped {}",
+        Told(view.unclipped_5prime_1based().map(FivePrime))
+    )
 }
 
-fn true_part(rt: &impl Print, bam: &[u8]) {
-    shown::text(rt, b"  true part, refusal ");
-    shown::natural(rt, asked::true_part_refusal(bam) as u64);
-    let bytes = asked::true_part(bam);
-    shown::text(rt, b", bytes ");
-    shown::natural(rt, bytes.len() as u64);
-    shown::text(rt, b":");
-    shown::bytes(rt, bytes);
-    shown::end(rt);
-}
-
-fn sums(rt: &impl Print, bam: &[u8]) {
-    shown::text(rt, b"  reference ");
-    shown::int(rt, asked::reference_length(bam));
-    shown::text(rt, b", query ");
-    shown::count(rt, asked::query_length(bam));
-    shown::text(rt, b", lengths ");
-    shown::lengths(rt, asked::cigar_lengths(bam));
-    shown::text(rt, b"; start ");
-    shown::place1(rt, asked::alignment_start_1based(bam));
-    shown::text(rt, b", end ");
-    shown::place1(rt, asked::alignment_end_1based(bam));
-    shown::text(rt, b", unclipped ");
-    shown::unclipped(rt, asked::unclipped_5prime_1based(bam));
-    shown::end(rt);
-}
-
-fn printed(rt: &impl Print, bam: &[u8]) {
+fn text(rt: &impl Print, view: RawRecordView) -> io::Result<()> {
     let mut out = [b'.'; 12];
-    shown::text(rt, b"  text ");
-    shown::count(rt, asked::cigar_to_string(bam, &mut out));
-    shown::text(rt, b" ");
-    shown::text(rt, &out);
-    shown::end(rt);
+    print!(rt; "  text {} ", Told(view.cigar_to_string(&mut out)))?;
+    rt.write_all(&out)?;
+    println!(rt)
 }
 
-fn clipped_start(rt: &impl Print, bam: &[u8], amount: u64) {
+fn clipped_start(rt: &impl Print, view: RawRecordView, amount: u64) -> io::Result<()> {
     let mut out = [112u32; 3];
-    let got = asked::clip_cigar_start(bam, amount, &mut out);
-    shown::clipped_start(rt, got, &out);
+    let answer = view.clip_cigar_start(amount, &mut out);
+    print!(rt; "  clipped {}", ClippedStart(answer, &out))
 }
 
-fn clipped_end(rt: &impl Print, bam: &[u8], amount: u64) {
+fn clipped_end(rt: &impl Print, view: RawRecordView, amount: u64) -> io::Result<()> {
     let mut out = [112u32; 3];
-    let got = asked::clip_cigar_end(bam, amount, &mut out);
-    shown::text(rt, b"; ");
-    shown::clipped_end(rt, got, &out);
+    let answer = view.clip_cigar_end(amount, &mut out);
+    print!(rt; "; {}", ClippedEnd(answer, &out))
 }
 
-fn show(rt: &impl Print, name: &[u8], bam: &[u8]) {
-    shown::text(rt, name);
-    shown::text(rt, b", bytes ");
-    shown::natural(rt, asked::as_bytes(bam).len() as u64);
-    shown::end(rt);
-    numbers(rt, bam);
-    more_numbers(rt, bam);
-    part(rt, bam);
-    true_part(rt, bam);
-    sums(rt, bam);
-    printed(rt, bam);
-    shown::text(rt, b"  clipped ");
-    clipped_start(rt, bam, 25);
-    clipped_end(rt, bam, 5);
-    clipped_end(rt, bam, 0);
-    clipped_end(rt, bam, 26);
-    shown::end(rt);
+fn show(rt: &impl Print, name: &str, bam: &[u8]) -> io::Result<()> {
+    let view = RawRecordView::new(bam);
+    println!(rt; "{name}, bytes {}", view.as_bytes().len())?;
+    numbers(rt, view)?;
+    part(rt, "part", view.cigar_raw_bytes())?;
+    part(rt, "true part", view.true_cigar_raw_bytes())?;
+    sums(rt, view)?;
+    text(rt, view)?;
+    clipped_start(rt, view, 25)?;
+    clipped_end(rt, view, 5)?;
+    clipped_end(rt, view, 0)?;
+    clipped_end(rt, view, 26)?;
+    println!(rt)
 }
 
-fn whole(rt: &impl Print) {
+fn whole(rt: &impl Print) -> io::Result<()> {
     let forward = example(99, 0);
-    show(rt, b"5S20M2D5M at 99", record::cut(&forward, 95));
+    show(rt, "5S20M2D5M at 99", record::cut(&forward, 95))?;
     let reverse = example(99, fields::REVERSE);
-    show(rt, b"5S20M2D5M at 99, reverse", record::cut(&reverse, 95));
+    show(rt, "5S20M2D5M at 99, reverse", record::cut(&reverse, 95))?;
     let unmapped = example(99, fields::UNMAPPED);
-    show(rt, b"5S20M2D5M at 99, unmapped", record::cut(&unmapped, 95));
+    show(rt, "5S20M2D5M at 99, unmapped", record::cut(&unmapped, 95))
 }
 
-fn short(rt: &impl Print) {
+fn short(rt: &impl Print) -> io::Result<()> {
     let r = example(99, 0);
-    show(rt, b"no record", &[]);
-    show(rt, b"cut in its fields", record::cut(&r, 31));
-    show(rt, b"cut after its fields", record::cut(&r, 32));
-    show(rt, b"cut in its last op", record::cut(&r, 49));
-    show(rt, b"cut after its ops", record::cut(&r, 50));
+    show(rt, "no record", &[])?;
+    show(rt, "cut in its fields", record::cut(&r, 31))?;
+    show(rt, "cut after its fields", record::cut(&r, 32))?;
+    show(rt, "cut in its last op", record::cut(&r, 49))?;
+    show(rt, "cut after its ops", record::cut(&r, 50))
 }
 
-fn ends_of_the_range(rt: &impl Print) {
+fn ends_of_the_range(rt: &impl Print) -> io::Result<()> {
     let last = example(2147483647, 0);
-    show(rt, b"5S20M2D5M at 2147483647", record::cut(&last, 95));
+    show(rt, "5S20M2D5M at 2147483647", record::cut(&last, 95))?;
     let none = example(4294967295, 0);
-    show(rt, b"5S20M2D5M at -1", record::cut(&none, 95));
+    show(rt, "5S20M2D5M at -1", record::cut(&none, 95))
 }
 
 // An op of code 9, one of the largest length, and nine ops of 2^31 bases in all.
-fn odd_ops(rt: &impl Print) {
+fn odd_ops(rt: &impl Print) -> io::Result<()> {
     let unnamed = record::with_word(example(99, 0), 46, 89);
-    show(rt, b"5S20M2D5?", record::cut(&unnamed, 95));
+    show(rt, "5S20M2D5?", record::cut(&unnamed, 95))?;
     let long = record::with_word(example(99, 0), 38, 4294967280);
-    show(rt, b"5S268435455M2D5M", record::cut(&long, 95));
+    show(rt, "5S268435455M2D5M", record::cut(&long, 95))?;
     let over = record::with_run(record::new(99, 0, 9), 0, 0);
-    show(rt, b"8 of 268435455M and 8M", record::cut(&over, 72));
+    show(rt, "8 of 268435455M and 8M", record::cut(&over, 72))
 }
 
 // A placeholder, 3S10N for three bases, and behind its bases and qualities a CG of 1M2S, whose type is I, or i (105).
@@ -171,19 +152,24 @@ fn placeholder(numbers: u32) -> [u8; 96] {
     record::with_word(record::with_word(counted, 57, 16), 61, 36)
 }
 
-fn long_lists(rt: &impl Print) {
+fn long_lists(rt: &impl Print) -> io::Result<()> {
     let r = placeholder(73);
-    show(rt, b"3S10N, and 1M2S in CG", record::cut(&r, 65));
-    show(rt, b"3S10N, and no tag", record::cut(&r, 49));
-    show(rt, b"3S10N, and CG cut in its last op", record::cut(&r, 64));
+    show(rt, "3S10N, and 1M2S in CG", record::cut(&r, 65))?;
+    show(rt, "3S10N, and no tag", record::cut(&r, 49))?;
+    show(rt, "3S10N, and CG cut in its last op", record::cut(&r, 64))?;
     let other = placeholder(105);
-    show(rt, b"3S10N, and CG of type i", record::cut(&other, 65));
+    show(rt, "3S10N, and CG of type i", record::cut(&other, 65))
 }
 
+fn all(rt: &impl Print) -> io::Result<()> {
+    whole(rt)?;
+    short(rt)?;
+    ends_of_the_range(rt)?;
+    odd_ops(rt)?;
+    long_lists(rt)
+}
+
+// A failed write ends the program, which still ends with status 0.
 fn main(rt: HostRuntime) {
-    whole(&rt);
-    short(&rt);
-    ends_of_the_range(&rt);
-    odd_ops(&rt);
-    long_lists(&rt);
+    let _ = all(&rt);
 }

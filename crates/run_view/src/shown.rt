@@ -1,169 +1,139 @@
-// Prints answers.
-use answers::{Answer, Pos0, Pos1, Refusal};
+// How answers are printed.
+use answers::{Answer, Pos1};
 use clip_rules::Clipped;
 use ends_rules::Unclipped;
-use length_rules::{Clips, RecordLengths};
+use length_rules::RecordLengths;
+use std::fmt;
 
-pub fn text(rt: &impl Print, words: &[u8]) {
-    let _ = rt.write_all(words);
-}
+// A value, or the refusal.
+#[derive(Clone, Copy)]
+pub struct Told<T>(pub Answer<T>);
 
-pub fn end(rt: &impl Print) {
-    text(rt, b"\n");
-}
-
-pub fn natural(rt: &impl Print, n: u64) {
-    let _ = print!(rt; "{n}");
-}
-
-fn integer(rt: &impl Print, n: i32) {
-    let u = signed::raise(n);
-    if u < 2147483648 {
-        text(rt, b"-");
-        natural(rt, 2147483648 - u);
-    } else {
-        natural(rt, u - 2147483648);
-    }
-}
-
-fn refused(rt: &impl Print, why: Refusal) {
-    text(rt, b"refused ");
-    natural(rt, answers::number(why) as u64);
-}
-
-pub fn int(rt: &impl Print, answer: Answer<i32>) {
-    match answer {
-        Ok(n) => integer(rt, n),
-        Err(why) => refused(rt, why),
-    }
-}
-
-pub fn nat(rt: &impl Print, answer: Answer<u32>) {
-    match answer {
-        Ok(n) => natural(rt, n as u64),
-        Err(why) => refused(rt, why),
-    }
-}
-
-pub fn count(rt: &impl Print, answer: Answer<u64>) {
-    match answer {
-        Ok(n) => natural(rt, n),
-        Err(why) => refused(rt, why),
-    }
-}
-
-fn clips(rt: &impl Print, run: Clips) {
-    text(rt, b" ");
-    natural(rt, run.soft);
-    text(rt, b" ");
-    natural(rt, run.hard);
-}
-
-pub fn lengths(rt: &impl Print, answer: Answer<RecordLengths>) {
-    match answer {
-        Ok(l) => {
-            integer(rt, l.reference);
-            text(rt, b" ");
-            natural(rt, l.query);
-            clips(rt, l.leading);
-            clips(rt, l.trailing);
+impl<T: fmt::Display> fmt::Display for Told<T> {
+    fn fmt<W: fmt::Write>(&self, f: &mut fmt::Formatter<W>) -> fmt::Result {
+        match &self.0 {
+            Ok(value) => write!(f, "{value}"),
+            Err(why) => write!(f, "{why}"),
         }
-        Err(why) => refused(rt, why),
     }
 }
 
-pub fn place0(rt: &impl Print, answer: Answer<Pos0>) {
-    match answer {
-        Ok(at) => integer(rt, at.0),
-        Err(why) => refused(rt, why),
+// A place, or `none`.
+#[derive(Clone, Copy)]
+pub struct Place(pub Option<Pos1>);
+
+impl fmt::Display for Place {
+    fn fmt<W: fmt::Write>(&self, f: &mut fmt::Formatter<W>) -> fmt::Result {
+        match self.0 {
+            Some(at) => write!(f, "{at}"),
+            None => write!(f, "none"),
+        }
     }
 }
 
-pub fn place1(rt: &impl Print, answer: Answer<Option<Pos1>>) {
-    match answer {
-        Ok(Some(at)) => integer(rt, at.0),
-        Ok(None) => text(rt, b"none"),
-        Err(why) => refused(rt, why),
+// The unclipped 5' position, or why the record has none.
+#[derive(Clone, Copy)]
+pub struct FivePrime(pub Unclipped);
+
+impl fmt::Display for FivePrime {
+    fn fmt<W: fmt::Write>(&self, f: &mut fmt::Formatter<W>) -> fmt::Result {
+        match self.0 {
+            Unclipped::At(at) => write!(f, "{at}"),
+            Unclipped::Unmapped => write!(f, "unmapped"),
+            Unclipped::NoOps => write!(f, "no ops"),
+        }
     }
 }
 
-pub fn unclipped(rt: &impl Print, answer: Answer<Unclipped>) {
-    match answer {
-        Ok(Unclipped::At(at)) => integer(rt, at.0),
-        Ok(Unclipped::Unmapped) => text(rt, b"unmapped"),
-        Ok(Unclipped::NoOps) => text(rt, b"no ops"),
-        Err(why) => refused(rt, why),
+// Reference and query length, then the soft and hard clips at the start and at the end.
+#[derive(Clone, Copy)]
+pub struct Lengths(pub RecordLengths);
+
+impl fmt::Display for Lengths {
+    fn fmt<W: fmt::Write>(&self, f: &mut fmt::Formatter<W>) -> fmt::Result {
+        let RecordLengths {
+            reference,
+            query,
+            leading,
+            trailing,
+        } = self.0;
+        write!(f, "{reference} {query} {} {}", leading.soft, leading.hard)?;
+        write!(f, " {} {}", trailing.soft, trailing.hard)
     }
 }
 
-// An op as text; a code 9 to 15 as a number.
-fn op(rt: &impl Print, word: u32) {
-    natural(rt, (word / 16) as u64);
-    let n = kinds::named(word % 16);
-    if n.letter == 0 {
-        text(rt, b"?");
-    } else {
-        let letter = [n.letter];
-        text(rt, &letter);
+// Bytes as numbers, each after a space.
+#[derive(Clone, Copy)]
+pub struct Bytes<'a>(pub &'a [u8]);
+
+impl fmt::Display for Bytes<'_> {
+    fn fmt<W: fmt::Write>(&self, f: &mut fmt::Formatter<W>) -> fmt::Result {
+        for byte in self.0 {
+            write!(f, " {byte}")?;
+        }
+        Ok(())
+    }
+}
+
+// An op's letter, `?` for the codes 9 to 15.
+fn letter(op: u32) -> char {
+    match kinds::named(op % 16).letter {
+        0 => '?',
+        letter => char::from(letter),
     }
 }
 
 // Ops as text, `.` for none.
-fn list(rt: &impl Print, words: &[u32]) {
-    if words.len() == 0 {
-        text(rt, b".");
-    }
-    let mut i: usize = 0;
-    while i < words.len() {
-        op(rt, words[i]);
-        i += 1;
-    }
-}
+#[derive(Clone, Copy)]
+pub struct Ops<'a>(pub &'a [u32]);
 
-// The first n ops of a list.
-fn first(rt: &impl Print, words: &[u32], n: usize) {
-    if n <= words.len() {
-        list(rt, &words[..n]);
-    }
-}
-
-// A refusal, and what the output holds.
-fn refused_beside(rt: &impl Print, why: Refusal, out: &[u32]) {
-    refused(rt, why);
-    text(rt, b" leaves ");
-    list(rt, out);
-}
-
-// The list written and the count.
-pub fn clipped_start(rt: &impl Print, answer: Answer<Clipped>, out: &[u32]) {
-    match answer {
-        Ok(Clipped { written: n, lost: count }) => {
-            first(rt, out, n as usize);
-            text(rt, b" ");
-            natural(rt, count);
+impl fmt::Display for Ops<'_> {
+    fn fmt<W: fmt::Write>(&self, f: &mut fmt::Formatter<W>) -> fmt::Result {
+        if self.0.is_empty() {
+            return write!(f, ".");
         }
-        Err(why) => refused_beside(rt, why, out),
+        for &op in self.0 {
+            write!(f, "{}{}", op / 16, letter(op))?;
+        }
+        Ok(())
     }
 }
 
-// The list written.
-pub fn clipped_end(rt: &impl Print, answer: Answer<u64>, out: &[u32]) {
-    match answer {
-        Ok(n) => first(rt, out, n as usize),
-        Err(why) => refused_beside(rt, why, out),
+// The first n ops of the output; nothing where it has fewer.
+#[derive(Clone, Copy)]
+struct First<'a>(&'a [u32], u64);
+
+impl fmt::Display for First<'_> {
+    fn fmt<W: fmt::Write>(&self, f: &mut fmt::Formatter<W>) -> fmt::Result {
+        match self.0.get(..self.1 as usize) {
+            Some(ops) => write!(f, "{}", Ops(ops)),
+            None => Ok(()),
+        }
     }
 }
 
-fn byte(rt: &impl Print, value: u8) {
-    text(rt, b" ");
-    natural(rt, value as u64);
+// What clipping at the start answers, and the output that was lent: the list written and the count, or the refusal and what the output holds.
+#[derive(Clone, Copy)]
+pub struct ClippedStart<'a>(pub Answer<Clipped>, pub &'a [u32]);
+
+impl fmt::Display for ClippedStart<'_> {
+    fn fmt<W: fmt::Write>(&self, f: &mut fmt::Formatter<W>) -> fmt::Result {
+        match self.0 {
+            Ok(Clipped { written, lost }) => write!(f, "{} {lost}", First(self.1, written)),
+            Err(why) => write!(f, "{why} leaves {}", Ops(self.1)),
+        }
+    }
 }
 
-// Bytes as numbers, each after a space.
-pub fn bytes(rt: &impl Print, part: &[u8]) {
-    let mut i: usize = 0;
-    while i < part.len() {
-        byte(rt, part[i]);
-        i += 1;
+// The same of clipping at the end, which answers no count.
+#[derive(Clone, Copy)]
+pub struct ClippedEnd<'a>(pub Answer<u64>, pub &'a [u32]);
+
+impl fmt::Display for ClippedEnd<'_> {
+    fn fmt<W: fmt::Write>(&self, f: &mut fmt::Formatter<W>) -> fmt::Result {
+        match self.0 {
+            Ok(written) => write!(f, "{}", First(self.1, written)),
+            Err(why) => write!(f, "{why} leaves {}", Ops(self.1)),
+        }
     }
 }
