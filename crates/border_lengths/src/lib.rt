@@ -9,32 +9,30 @@ use answers::Answer;
 use border::ToldLengths;
 use length_rules::RecordLengths;
 
-// Reference and query length, and the clips at both ends.
+// Reference and query length, and the clips at both ends. No `From`: both types are of other crates (`orphan-impl`).
 pub fn told_lengths(answer: Answer<RecordLengths>) -> ToldLengths
     ensures { result ≡ lengths_of (tell_lengths answer) }
 {
     match answer {
-        Ok(l) => {
-            let leading = l.leading;
-            let trailing = l.trailing;
-            ToldLengths {
-                refusal: 0,
-                reference: l.reference,
-                query: l.query,
-                leading_soft: leading.soft,
-                leading_hard: leading.hard,
-                trailing_soft: trailing.soft,
-                trailing_hard: trailing.hard,
-            }
+        Ok(
+            RecordLengths {
+                reference,
+                query,
+                leading,
+                trailing,
+            },
+        ) => ToldLengths {
+            refusal: 0,
+            reference,
+            query,
+            leading_soft: leading.soft,
+            leading_hard: leading.hard,
+            trailing_soft: trailing.soft,
+            trailing_hard: trailing.hard,
         },
         Err(why) => ToldLengths {
             refusal: answers::number(why),
-            reference: 0,
-            query: 0,
-            leading_soft: 0,
-            leading_hard: 0,
-            trailing_soft: 0,
-            trailing_hard: 0,
+            ..Default::default()
         },
     }
 }

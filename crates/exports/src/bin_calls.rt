@@ -13,28 +13,28 @@ use border::ToldCount;
 pub extern "C" fn cigar_reg2bin(beg: i32, end: i32) -> ToldCount
     ensures { result ≡ count_of (tell_nat (reg2bin beg end)) }
 {
-    border::told_nat(bin::reg2bin(Pos0(beg), end))
+    bin::reg2bin(Pos0(beg), end).into()
 }
 
 #[unsafe(no_mangle)]
 pub extern "C" fn cigar_bin_from_raw_bam(rec: &[u8]) -> ToldCount
     ensures { result ≡ count_of (tell_nat (record_bin rec.now)) }
 {
-    border::told_nat(bin::bin_from_raw_bam(rec))
+    bin::bin_from_raw_bam(rec).into()
 }
 
 #[unsafe(no_mangle)]
 pub extern "C" fn cigar_set_bin_from_raw_bam(rec: &mut [u8]) -> ToldCount
     ensures { Settled (across count_of tell_nat (set_bin rec.old)) result rec.new }
 {
-    border::told_nat(bin::set_bin_from_raw_bam(rec))
+    bin::set_bin_from_raw_bam(rec).into()
 }
 
 #[unsafe(no_mangle)]
 pub extern "C" fn cigar_csi_reg2bin(beg: i64, end: i64, min_shift: u32, depth: u32) -> ToldCount
     ensures { result ≡ count_of (tell_nat (csi_bin beg end min_shift depth)) }
 {
-    border::told_nat(csi::csi_reg2bin(beg, end, min_shift, depth))
+    csi::csi_reg2bin(beg, end, min_shift, depth).into()
 }
 
 #[unsafe(no_mangle)]
@@ -47,5 +47,5 @@ pub extern "C" fn cigar_csi_reg2bins(
 ) -> ToldCount
     ensures { Settled (across count_of tell_count (csi_bins beg end min_shift depth out.old)) result out.new }
 {
-    border::told_count(csi::csi_reg2bins(beg, end, min_shift, depth, out))
+    csi::csi_reg2bins(beg, end, min_shift, depth, out).into()
 }

@@ -13,79 +13,76 @@ use fields::Area;
 pub extern "C" fn cigar_ref_id(rec: &[u8]) -> ToldInt
     ensures { result ≡ int_of (tell_int (int_field ref_id_of rec.now)) }
 {
-    border::told_int(fields::ref_id(rec))
+    fields::ref_id(rec).into()
 }
 
 #[unsafe(no_mangle)]
 pub extern "C" fn cigar_pos(rec: &[u8]) -> ToldInt
     ensures { result ≡ int_of (tell_place0 (pos_field pos_of rec.now)) }
 {
-    border::told_int(answers::bare0(fields::pos(rec)))
+    fields::pos(rec).into()
 }
 
 #[unsafe(no_mangle)]
 pub extern "C" fn cigar_l_read_name(rec: &[u8]) -> ToldCount
     ensures { result ≡ count_of (tell_nat (nat_field name_len_of rec.now)) }
 {
-    border::told_nat(fields::l_read_name(rec))
+    fields::l_read_name(rec).into()
 }
 
 #[unsafe(no_mangle)]
 pub extern "C" fn cigar_bin(rec: &[u8]) -> ToldCount
     ensures { result ≡ count_of (tell_nat (nat_field stored_bin_of rec.now)) }
 {
-    border::told_nat(fields::bin(rec))
+    fields::bin(rec).into()
 }
 
 #[unsafe(no_mangle)]
 pub extern "C" fn cigar_n_cigar_op(rec: &[u8]) -> ToldCount
     ensures { result ≡ count_of (tell_nat (nat_field op_count_of rec.now)) }
 {
-    border::told_nat(fields::n_cigar_op(rec))
+    fields::n_cigar_op(rec).into()
 }
 
 #[unsafe(no_mangle)]
 pub extern "C" fn cigar_flags(rec: &[u8]) -> ToldCount
     ensures { result ≡ count_of (tell_nat (nat_field flags_of rec.now)) }
 {
-    border::told_nat(fields::flags(rec))
+    fields::flags(rec).into()
 }
 
 #[unsafe(no_mangle)]
 pub extern "C" fn cigar_l_seq(rec: &[u8]) -> ToldCount
     ensures { result ≡ count_of (tell_nat (nat_field seq_len_of rec.now)) }
 {
-    border::told_nat(fields::l_seq(rec))
+    fields::l_seq(rec).into()
 }
 
 #[unsafe(no_mangle)]
 pub extern "C" fn cigar_mate_ref_id(rec: &[u8]) -> ToldInt
     ensures { result ≡ int_of (tell_int (int_field mate_ref_id_of rec.now)) }
 {
-    border::told_int(fields::mate_ref_id(rec))
+    fields::mate_ref_id(rec).into()
 }
 
 #[unsafe(no_mangle)]
 pub extern "C" fn cigar_mate_pos(rec: &[u8]) -> ToldInt
     ensures { result ≡ int_of (tell_place0 (pos_field mate_pos_of rec.now)) }
 {
-    border::told_int(answers::bare0(fields::mate_pos(rec)))
+    fields::mate_pos(rec).into()
 }
 
 #[unsafe(no_mangle)]
 pub extern "C" fn cigar_template_length(rec: &[u8]) -> ToldInt
     ensures { result ≡ int_of (tell_int (int_field template_len_of rec.now)) }
 {
-    border::told_int(fields::template_length(rec))
+    fields::template_length(rec).into()
 }
 
 fn told_area(answer: Answer<Area>) -> ToldTwo
     ensures { result ≡ two_of (tell_area answer) }
 {
-    match answer {
-        Ok(Area { start, size }) => border::two(start, size),
-        Err(why) => border::refused_two(why),
-    }
+    answer.map(|area| (area.start, area.size)).into()
 }
 
 #[unsafe(no_mangle)]

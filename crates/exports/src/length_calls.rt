@@ -10,42 +10,42 @@ use border::{ToldCount, ToldInt, ToldLengths};
 pub extern "C" fn cigar_reference_length_from_cigar(ops: &[u32]) -> ToldInt
     ensures { result ≡ int_of (tell_int (ref_length ops.now)) }
 {
-    border::told_int(lengths::reference_length_from_cigar(ops))
+    lengths::reference_length_from_cigar(ops).into()
 }
 
 #[unsafe(no_mangle)]
 pub extern "C" fn cigar_query_length_from_cigar(ops: &[u32]) -> ToldCount
     ensures { result ≡ count_of (tell_count (query_length ops.now)) }
 {
-    border::told_count(lengths::query_length_from_cigar(ops))
+    lengths::query_length_from_cigar(ops).into()
 }
 
 #[unsafe(no_mangle)]
 pub extern "C" fn cigar_saturating_reference_length(ops: &[u32]) -> ToldInt
     ensures { result ≡ int_of (tell_int (saturated_length ops.now)) }
 {
-    border::told_int(lengths::saturating_reference_length(ops))
+    lengths::saturating_reference_length(ops).into()
 }
 
 #[unsafe(no_mangle)]
 pub extern "C" fn cigar_reference_length_from_raw_bam(rec: &[u8]) -> ToldInt
     ensures { result ≡ int_of (tell_int (checked_ref_length rec.now)) }
 {
-    border::told_int(lengths::reference_length_from_raw_bam(rec))
+    lengths::reference_length_from_raw_bam(rec).into()
 }
 
 #[unsafe(no_mangle)]
 pub extern "C" fn cigar_reference_length_from_raw_bam_checked(rec: &[u8]) -> ToldInt
     ensures { result ≡ int_of (tell_int (checked_ref_length rec.now)) }
 {
-    border::told_int(lengths::reference_length_from_raw_bam_checked(rec))
+    lengths::reference_length_from_raw_bam_checked(rec).into()
 }
 
 #[unsafe(no_mangle)]
 pub extern "C" fn cigar_query_length(rec: &[u8]) -> ToldCount
     ensures { result ≡ count_of (tell_count (record_query_length rec.now)) }
 {
-    border::told_count(lengths::query_length(rec))
+    lengths::query_length(rec).into()
 }
 
 #[unsafe(no_mangle)]

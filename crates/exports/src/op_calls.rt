@@ -17,7 +17,7 @@ use kinds::{CigarKind, CigarOp};
 pub extern "C" fn cigar_get_cigar_ops(rec: &[u8], out: &mut [u32]) -> ToldCount
     ensures { Settled (across count_of tell_count (get_ops rec.now out.old)) result out.new }
 {
-    border::told_count(copied_ops::get_cigar_ops(rec, out))
+    copied_ops::get_cigar_ops(rec, out).into()
 }
 
 #[unsafe(no_mangle)]
@@ -45,10 +45,9 @@ pub extern "C" fn cigar_consumes_read(code: u32) -> bool
 pub extern "C" fn cigar_from_op_type(code: u32) -> ToldFound
     ensures { result ≡ found_of (tell_kind (from_op_type code)) }
 {
-    match CigarKind::from_op_type(code) {
-        Some(kind) => border::found(kind.code() as u64),
-        None => border::nothing(),
-    }
+    CigarKind::from_op_type(code)
+        .map(|k| u64::from(k.code()))
+        .into()
 }
 
 // A kind is given by its code; there is none above 8.
@@ -56,10 +55,9 @@ pub extern "C" fn cigar_from_op_type(code: u32) -> ToldFound
 pub extern "C" fn cigar_as_char(kind: u32) -> ToldFound
     ensures { result ≡ found_of (char_of (from_op_type kind)) }
 {
-    match CigarKind::from_op_type(kind) {
-        Some(k) => border::found(k.as_char() as u64),
-        None => border::nothing(),
-    }
+    CigarKind::from_op_type(kind)
+        .map(|k| u64::from(k.as_char()))
+        .into()
 }
 
 #[unsafe(no_mangle)]
@@ -68,17 +66,14 @@ pub extern "C" fn cigar_op_new(kind: u32, length: u32) -> ToldFound
 {
     match CigarKind::from_op_type(kind) {
         Some(k) => told_op(CigarOp::new(k, length)),
-        None => border::nothing(),
+        None => ToldFound::from(None),
     }
 }
 
 fn told_op(answer: Answer<CigarOp>) -> ToldFound
     ensures { result ≡ found_of (op_or_none answer) }
 {
-    match answer {
-        Ok(op) => border::found(op.raw() as u64),
-        Err(why) => border::refused_found(why),
-    }
+    answer.map(|op| Some(u64::from(op.raw()))).into()
 }
 
 #[unsafe(no_mangle)]

@@ -13,14 +13,14 @@ use border::{ToldCount, ToldInt, ToldLookup, ToldTwo};
 pub extern "C" fn cigar_long_reference_length_from_cigar(ops: &[u32]) -> ToldInt
     ensures { result ≡ int_of (tell_int (long_ref_length ops.now)) }
 {
-    border::told_int(lengths::long_reference_length_from_cigar(ops))
+    lengths::long_reference_length_from_cigar(ops).into()
 }
 
 #[unsafe(no_mangle)]
 pub extern "C" fn cigar_long_query_length_from_cigar(ops: &[u32]) -> ToldCount
     ensures { result ≡ count_of (tell_count (long_query_length ops.now)) }
 {
-    border::told_count(lengths::long_query_length_from_cigar(ops))
+    lengths::long_query_length_from_cigar(ops).into()
 }
 
 #[unsafe(no_mangle)]
@@ -59,5 +59,5 @@ pub extern "C" fn cigar_long_clip_cigar_end_raw(
 ) -> ToldCount
     ensures { Settled (across count_of tell_count (long_end ops.now amount out.old)) result out.new }
 {
-    border::told_count(clip::long_clip_cigar_end_raw(ops, amount, out))
+    clip::long_clip_cigar_end_raw(ops, amount, out).into()
 }

@@ -16,10 +16,9 @@ use oplist::Area;
 fn told_true_list(answer: Answer<Area>) -> ToldTwo
     ensures { result ≡ two_of (tell_true_list answer) }
 {
-    match answer {
-        Ok(Area { at, n }) => border::two(at as u64, 4 * (n as u64)),
-        Err(why) => border::refused_two(why),
-    }
+    answer
+        .map(|area| (area.at as u64, 4 * u64::from(area.n)))
+        .into()
 }
 
 #[unsafe(no_mangle)]
@@ -33,7 +32,7 @@ pub extern "C" fn cigar_true_cigar_raw_bytes(rec: &[u8]) -> ToldTwo
 pub extern "C" fn cigar_true_cigar_ops(rec: &[u8], out: &mut [u32]) -> ToldCount
     ensures { Settled (across count_of tell_count (true_ops rec.now out.old)) result out.new }
 {
-    border::told_count(true_cigar::true_cigar_ops(rec, out))
+    true_cigar::true_cigar_ops(rec, out).into()
 }
 
 #[unsafe(no_mangle)]
@@ -47,7 +46,7 @@ pub extern "C" fn cigar_true_cigar_lengths(rec: &[u8]) -> ToldLengths
 pub extern "C" fn cigar_true_cigar_to_bytes_into(rec: &[u8], out: &mut [u8]) -> ToldCount
     ensures { Settled (across count_of tell_count (true_printed rec.now out.old)) result out.new }
 {
-    border::told_count(true_cigar::true_cigar_to_bytes_into(rec, out))
+    true_cigar::true_cigar_to_bytes_into(rec, out).into()
 }
 
 #[unsafe(no_mangle)]
@@ -68,5 +67,5 @@ pub extern "C" fn cigar_true_clip_cigar_start(rec: &[u8], amount: u64, out: &mut
 pub extern "C" fn cigar_true_clip_cigar_end(rec: &[u8], amount: u64, out: &mut [u32]) -> ToldCount
     ensures { Settled (across count_of tell_count (true_end rec.now amount out.old)) result out.new }
 {
-    border::told_count(true_ends::true_clip_cigar_end(rec, amount, out))
+    true_ends::true_clip_cigar_end(rec, amount, out).into()
 }

@@ -17,7 +17,7 @@ pub extern "C" fn cigar_clip_cigar_start_raw(ops: &[u32], amount: u64, out: &mut
 pub extern "C" fn cigar_clip_cigar_end_raw(ops: &[u32], amount: u64, out: &mut [u32]) -> ToldCount
     ensures { Settled (across count_of tell_count (clipped_end ops.now amount out.old)) result out.new }
 {
-    border::told_count(clip::clip_cigar_end_raw(ops, amount, out))
+    clip::clip_cigar_end_raw(ops, amount, out).into()
 }
 
 #[unsafe(no_mangle)]
@@ -31,5 +31,5 @@ pub extern "C" fn cigar_clip_cigar_start(rec: &[u8], amount: u64, out: &mut [u32
 pub extern "C" fn cigar_clip_cigar_end(rec: &[u8], amount: u64, out: &mut [u32]) -> ToldCount
     ensures { Settled (across count_of tell_count (record_end rec.now amount out.old)) result out.new }
 {
-    border::told_count(clip::clip_cigar_end(rec, amount, out))
+    clip::clip_cigar_end(rec, amount, out).into()
 }

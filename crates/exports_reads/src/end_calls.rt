@@ -4,18 +4,8 @@ ghost use Rattle.answers.specs.Answers.{tell_place0, tell_place1};
 ghost use Rattle.ends_rules.specs.Ends.{unclipped_of, tell_unclipped, unclipped_from, alignment_start, alignment_end};
 ghost use Rattle.border.specs.Border.{int_of, found_of, position_of, flagged};
 
-use answers::{Answer, Pos0, Pos1};
+use answers::Pos0;
 use border::{ToldFound, ToldInt, ToldPosition};
-
-fn told_place1(answer: Answer<Option<Pos1>>) -> ToldFound
-    ensures { result ≡ found_of (tell_place1 answer) }
-{
-    match answer {
-        Ok(Some(p)) => border::found(signed::natural_of(p.0)),
-        Ok(None) => border::nothing(),
-        Err(why) => border::refused_found(why),
-    }
-}
 
 #[unsafe(no_mangle)]
 pub extern "C" fn cigar_unclipped_5prime_from_raw_bam(rec: &[u8]) -> ToldPosition
@@ -28,23 +18,23 @@ pub extern "C" fn cigar_unclipped_5prime_from_raw_bam(rec: &[u8]) -> ToldPositio
 pub extern "C" fn cigar_unclipped_5prime_raw(rec: &[u8], position: i32, reverse: u8) -> ToldInt
     ensures { result ≡ int_of (tell_place0 (unclipped_from rec.now (record { 0 = position }) (flagged reverse))) }
 {
-    border::told_int(answers::bare0(unclipped::unclipped_5prime_raw(
+    unclipped::unclipped_5prime_raw(
         rec,
         Pos0(position),
         border::flag(reverse),
-    )))
+    ).into()
 }
 
 #[unsafe(no_mangle)]
 pub extern "C" fn cigar_alignment_start_from_raw(rec: &[u8]) -> ToldFound
     ensures { result ≡ found_of (tell_place1 (alignment_start rec.now)) }
 {
-    told_place1(ends::alignment_start_from_raw(rec))
+    ends::alignment_start_from_raw(rec).into()
 }
 
 #[unsafe(no_mangle)]
 pub extern "C" fn cigar_alignment_end_from_raw(rec: &[u8]) -> ToldFound
     ensures { result ≡ found_of (tell_place1 (alignment_end rec.now)) }
 {
-    told_place1(ends::alignment_end_from_raw(rec))
+    ends::alignment_end_from_raw(rec).into()
 }

@@ -10,5 +10,5 @@ use border::ToldCount;
 pub extern "C" fn cigar_match_ops_from_md(ops: &[u32], text: &[u8], out: &mut [u32]) -> ToldCount
     ensures { Settled (across count_of tell_count (match_ops ops.now text.now out.old)) result out.new }
 {
-    border::told_count(md::match_ops_from_md(ops, text, out))
+    md::match_ops_from_md(ops, text, out).into()
 }

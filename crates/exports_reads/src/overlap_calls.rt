@@ -14,21 +14,21 @@ use border::{ToldCount, ToldFlag, ToldTwo};
 pub extern "C" fn cigar_is_mapped_opposite_strand_pair_raw(rec: &[u8]) -> ToldFlag
     ensures { result ≡ flag_of (tell_flag (opposite_pair rec.now)) }
 {
-    border::told_flag(pairs::is_mapped_opposite_strand_pair_raw(rec))
+    pairs::is_mapped_opposite_strand_pair_raw(rec).into()
 }
 
 #[unsafe(no_mangle)]
 pub extern "C" fn cigar_is_fr_pair_raw(rec: &[u8]) -> ToldFlag
     ensures { result ≡ flag_of (tell_flag (fr_pair rec.now)) }
 {
-    border::told_flag(pairs::is_fr_pair_raw(rec))
+    pairs::is_fr_pair_raw(rec).into()
 }
 
 #[unsafe(no_mangle)]
 pub extern "C" fn cigar_is_primary_fr_pair_raw(rec: &[u8], mate: &[u8]) -> ToldFlag
     ensures { result ≡ flag_of (tell_flag (primary_fr_pair rec.now mate.now)) }
 {
-    border::told_flag(pairs::is_primary_fr_pair_raw(rec, mate))
+    pairs::is_primary_fr_pair_raw(rec, mate).into()
 }
 
 #[unsafe(no_mangle)]
@@ -41,13 +41,13 @@ pub extern "C" fn cigar_bases_extending_past_mate_ops(
 ) -> ToldCount
     ensures { result ≡ count_of (tell_count (bases_extending (flagged reverse) position ops.now mate_position mate_ops.now)) }
 {
-    border::told_count(overhang::bases_extending_past_mate_ops(
+    overhang::bases_extending_past_mate_ops(
         border::flag(reverse),
         Pos1(position),
         ops,
         Pos1(mate_position),
         mate_ops,
-    ))
+    ).into()
 }
 
 #[unsafe(no_mangle)]
@@ -57,7 +57,7 @@ pub extern "C" fn cigar_num_bases_extending_past_mate_cigar_raw(
 ) -> ToldCount
     ensures { result ≡ count_of (tell_count (past_mate_cigar rec.now mate_ops.now)) }
 {
-    border::told_count(overlap::num_bases_extending_past_mate_cigar_raw(rec, mate_ops))
+    overlap::num_bases_extending_past_mate_cigar_raw(rec, mate_ops).into()
 }
 
 #[unsafe(no_mangle)]
@@ -67,7 +67,7 @@ pub extern "C" fn cigar_num_bases_extending_past_mate_vs_mate_raw(
 ) -> ToldCount
     ensures { result ≡ count_of (tell_count (past_mate_record rec.now mate.now)) }
 {
-    border::told_count(overlap::num_bases_extending_past_mate_vs_mate_raw(rec, mate))
+    overlap::num_bases_extending_past_mate_vs_mate_raw(rec, mate).into()
 }
 
 #[unsafe(no_mangle)]

@@ -13,19 +13,19 @@ use border::{ToldCount, ToldFlag};
 pub extern "C" fn cigar_cigar_to_bytes_into(rec: &[u8], out: &mut [u8]) -> ToldCount
     ensures { Settled (across count_of tell_count (printed rec.now out.old)) result out.new }
 {
-    border::told_count(print::cigar_to_bytes_into(rec, out))
+    print::cigar_to_bytes_into(rec, out).into()
 }
 
 #[unsafe(no_mangle)]
 pub extern "C" fn cigar_parse_cigar_string_ops(text: &[u8], out: &mut [u32]) -> ToldCount
     ensures { Settled (across count_of tell_count (parsed text.now out.old)) result out.new }
 {
-    border::told_count(strict_text::parse_cigar_string_ops(text, out))
+    strict_text::parse_cigar_string_ops(text, out).into()
 }
 
 #[unsafe(no_mangle)]
 pub extern "C" fn cigar_is_valid_mapped_cigar(ops: &[u32]) -> ToldFlag
     ensures { result ≡ flag_of (tell_flag (validity ops.now)) }
 {
-    border::told_flag(validity::is_valid_mapped_cigar(ops))
+    validity::is_valid_mapped_cigar(ops).into()
 }

@@ -22,7 +22,7 @@ pub extern "C" fn cigar_clip_record_start(rec: &[u8], amount: u64, out: &mut [u8
 pub extern "C" fn cigar_clip_record_end(rec: &[u8], amount: u64, out: &mut [u8]) -> ToldCount
     ensures { Settled (across count_of tell_count (clipped_record_end rec.now amount out.old)) result out.new }
 {
-    border::told_count(record_write::clip_record_end(rec, amount, out))
+    record_write::clip_record_end(rec, amount, out).into()
 }
 
 #[unsafe(no_mangle)]

@@ -175,13 +175,13 @@ pub fn cigar_area(bam: &[u8]) -> Answer<Area>
     ensures { result ≡ cigar_area bam.now }
 {
     whole(bam)?;
-    let list = oplist::of_record(bam);
-    if !oplist::inside(bam, list) {
+    let area = oplist::area_of(bam);
+    if !oplist::inside(bam, area) {
         return Ok(Area { start: 0, size: 0 });
     }
     Ok(Area {
-        start: list.at as u64,
-        size: 4 * (list.n as u64),
+        start: area.at as u64,
+        size: 4 * (area.n as u64),
     })
 }
 
@@ -192,13 +192,12 @@ fn op_bytes(bam: &[u8]) -> &[u8]
     if bam.len() < 32 {
         return &bam[..0];
     }
-    let list = oplist::of_record(bam);
-    if !oplist::inside(bam, list) {
+    let area = oplist::area_of(bam);
+    if !oplist::inside(bam, area) {
         return &bam[..0];
     }
-    let start = list.at;
-    let end = start + 4 * (list.n as usize);
-    &bam[start..end]
+    let end = area.at + 4 * (area.n as usize);
+    &bam[area.at..end]
 }
 
 // The number that stands beside that part: 1 under 32 bytes.
