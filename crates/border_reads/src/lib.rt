@@ -1,4 +1,5 @@
 // How the answers of the unclipped position, clipping, lookup, the overhang by text and the blocks cross the C border. An inner crate of the static library `exports_reads`.
+// Functions and no `From`: an answer and its struct are both of other crates, and an impl of std's trait between the two is refused (`orphan-impl`).
 #![tactic(auto)]
 
 ghost use Rattle.std.specs.Prelude.{◌≡◌};
@@ -23,24 +24,20 @@ pub fn told_unclipped(answer: Answer<Unclipped>) -> ToldPosition
 {
     match answer {
         Ok(Unclipped::At(p)) => ToldPosition {
-            refusal: 0,
-            which: 0,
             value: p.0,
+            ..Default::default()
         },
         Ok(Unclipped::Unmapped) => ToldPosition {
-            refusal: 0,
             which: 1,
-            value: 0,
+            ..Default::default()
         },
         Ok(Unclipped::NoOps) => ToldPosition {
-            refusal: 0,
             which: 2,
-            value: 0,
+            ..Default::default()
         },
         Err(why) => ToldPosition {
             refusal: answers::number(why),
-            which: 0,
-            value: 0,
+            ..Default::default()
         },
     }
 }
@@ -49,10 +46,7 @@ pub fn told_unclipped(answer: Answer<Unclipped>) -> ToldPosition
 pub fn told_clipped(answer: Answer<Clipped>) -> ToldTwo
     ensures { result ≡ two_of (tell_clipped answer) }
 {
-    match answer {
-        Ok(Clipped { written: n, lost: count }) => border::two(n, count),
-        Err(why) => border::refused_two(why),
-    }
+    answer.map(|c| (c.written, c.lost)).into()
 }
 
 // A place or none, and how many ops were examined.
@@ -68,9 +62,7 @@ pub fn told_found(answer: Answer<Found>) -> ToldLookup
         },
         Err(why) => ToldLookup {
             refusal: border::short_number(why),
-            found: false,
-            examined: 0,
-            value: 0,
+            ..Default::default()
         },
     }
 }
@@ -79,10 +71,7 @@ pub fn told_found(answer: Answer<Found>) -> ToldLookup
 pub fn told_overhang(answer: Answer<Overhang>) -> ToldTwo
     ensures { result ≡ two_of (tell_overhang answer) }
 {
-    match answer {
-        Ok(Overhang { bases, written }) => border::two(bases, written),
-        Err(why) => border::refused_two(why),
-    }
+    answer.map(|o| (o.bases, o.written)).into()
 }
 
 // chromStart, chromEnd and blockCount.
@@ -90,17 +79,15 @@ pub fn told_blocks(answer: Answer<Bed>) -> ToldBlocks
     ensures { result ≡ blocks_of (tell_bed answer) }
 {
     match answer {
-        Ok(Bed { chrom_start: start, chrom_end: end, block_count: n }) => ToldBlocks {
+        Ok(bed) => ToldBlocks {
             refusal: 0,
-            chrom_start: start,
-            chrom_end: end,
-            block_count: n,
+            chrom_start: bed.chrom_start,
+            chrom_end: bed.chrom_end,
+            block_count: bed.block_count,
         },
         Err(why) => ToldBlocks {
             refusal: answers::number(why),
-            chrom_start: 0,
-            chrom_end: 0,
-            block_count: 0,
+            ..Default::default()
         },
     }
 }

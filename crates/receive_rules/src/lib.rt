@@ -3,15 +3,15 @@
 
 use answers::Refusal;
 
-// The parts of a record, in the order in which they are compared.
+// The parts of a record, in the order in which they are compared, with their numbers.
 #[derive(Clone, Copy)]
 pub enum Part {
-    Header,
-    Name,
-    Ops,
-    Bases,
-    Qualities,
-    Tags,
+    Header = 1,
+    Name = 2,
+    Ops = 3,
+    Bases = 4,
+    Qualities = 5,
+    Tags = 6,
 }
 
 // Accepted, or the first part that differs, or the refusal.

@@ -10,7 +10,7 @@ unfolding cigar_area
 returns-then-not-inside c =
     let b = c.args.bam.now in
     let h : 32 ≤ length b = search rules in
-    let over : length b < ops_end b = overruns b c.of_record-list.result c.of_record-list.ensures.at_value _ c.inside.ensures c.if-not-inside.true in
+    let over : length b < ops_end b = overruns b c.area_of-area.result c.area_of-area.ensures _ c.inside.ensures c.if-not-inside.true in
     simp (le-ltb _ _ h, lt-ltb _ _ over)
 
 pub returns : goal.returns
@@ -18,6 +18,6 @@ unfolding cigar_area
 returns c =
     let b = c.args.bam.now in
     let h : 32 ≤ length b = search rules in
-    let within : ops_end b ≤ length b = lies b c.of_record-list.result c.of_record-list.ensures.at_value _ c.inside.ensures c.if-not-inside.false in
-    let l = c.of_record-list.ensures.at_value in
+    let within : ops_end b ≤ length b = lies b c.area_of-area.result c.area_of-area.ensures _ c.inside.ensures c.if-not-inside.false in
+    let l = c.area_of-area.ensures in
     simp (le-ltb _ _ h, le-ltb _ _ within) (rw (l.0, l.1))

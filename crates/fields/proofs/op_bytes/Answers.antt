@@ -13,15 +13,15 @@ pub returns-then-not-inside : goal.returns-then-not-inside
 unfolding cigar_part
 returns-then-not-inside c =
     let b = c.args.bam.now in
-    let over : length b < ops_end b = overruns b c.of_record-list.result c.of_record-list.ensures.at_value _ c.inside.ensures c.if-not-inside.true in
+    let over : length b < ops_end b = overruns b c.area_of-area.result c.area_of-area.ensures _ c.inside.ensures c.if-not-inside.true in
     simp (le-ltb _ _ c.if-bam-lt32.false, lt-ltb _ _ over)
 
 pub returns : goal.returns
 unfolding cigar_part
 returns c =
     let b = c.args.bam.now in
-    let list = c.of_record-list.result in
-    let l = c.of_record-list.ensures.at_value in
+    let list = c.area_of-area.result in
+    let l = c.area_of-area.ensures in
     let within : ops_end b ≤ length b = lies b list l _ c.inside.ensures c.if-not-inside.false in
     simp (le-ltb _ _ c.if-bam-lt32.false, le-ltb _ _ within)
     (ap (λ (k : ℕ). take k (drop list.at b)) {x = list.at + 4 * list.n - list.at} {y = 4 * op_count_of b} (omega (arith, l.1))
