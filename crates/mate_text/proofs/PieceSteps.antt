@@ -1,22 +1,21 @@
 -- What a piece does to the scans, case by case: each is the definition at a test's two answers; and a letter's class, which antt computes from its entry for every byte.
-use mathlib.Core.Path.{◌≡◌, refl, ap, ◌∙◌}
+use Rattle.std.specs.Prelude.{Option, Some, None}
+use mathlib.Core.Path.{◌≡◌, refl, sym, ap, ◌∙◌}
 use mathlib.Core.Bool.{Bool, true, false}
 use mathlib.Core.List.{List, [], ◌∷◌}
 use Prim.Native.Nat.{ℕ, ◌<◌}
 use lib.IntN.{ℤ, pos, ◌+ℤ◌}
-use lib.Dec.{eqb}
 use Rattle.lists.proofs.Tables.{below_same}
 use Rattle.signed.specs.Whole.{clamp32}
 use Rattle.sam.specs.Op.{code_of, is_ref, index_of, letter_code}
 use Rattle.sam.specs.Text.{is_digit}
 use Rattle.ops.specs.Ops.{is_clip}
 use Rattle.letters.specs.Letters.{entry_of}
-use Rattle.mate_rules.specs.Run.{counts_as, push_of}
+use Rattle.mate_rules.specs.Run.{counts_as}
 use Rattle.mate_rules.specs.Pieces.{is_ref_letter, is_clip_letter}
 use Rattle.mate_rules.specs.InnerScan.{run_after, found_after, scan}
 use Rattle.mate_rules.proofs.Steps.{found_digit, found_letter}
-use Rattle.mate_text.specs.InnerPiece.{ended_after, opened, lead_piece, trail_piece}
-use Rattle.mate_text.specs.declared.Lead.{Lead}
+use Rattle.mate_text.specs.InnerPiece.{Lead, with_clip, lead_piece, trail_piece}
 use Rattle.mate_text.specs.declared.Trail.{Trail}
 
 -- a letter's class is that of its entry in the table, whose mark is of none
@@ -29,22 +28,13 @@ module _ (b : ℕ) (h : b < 256) where
   unfolding is_clip_letter is_clip entry_of letter_code index_of
   clip_entry = below_same (λ d. is_clip (code_of (entry_of d))) is_clip_letter 256 b refl h
 
-module _ (a b c : ℕ) where
-  pub opened_0 : is_digit a ≡ false → opened a b c ≡ ended_after 0 0
-  unfolding opened
-  opened_0 e = rw e
+  -- and so is what was asked of the code that was read there
+  module _ (code : ℕ) (r : Bool) (read : code ≡ entry_of b) where
+    pub ref_class : r ≡ is_ref (code_of code) → is_ref_letter b ≡ r
+    ref_class e = sym (e ∙ ap (λ (n : ℕ). is_ref (code_of n)) read ∙ ref_entry)
 
-  pub opened_1 : is_digit a ≡ true → is_digit b ≡ false → opened a b c ≡ ended_after 1 (push_of 0 a)
-  unfolding opened
-  opened_1 e f = rw (e, f)
-
-  pub opened_2 : is_digit a ≡ true → is_digit b ≡ true → is_digit c ≡ false → opened a b c ≡ ended_after 2 (push_of (push_of 0 a) b)
-  unfolding opened
-  opened_2 e f g = rw (e, f, g)
-
-  pub opened_3 : is_digit a ≡ true → is_digit b ≡ true → is_digit c ≡ true → opened a b c ≡ record { digits = 3; number = pos 0; run = push_of (push_of (push_of 0 a) b) c }
-  unfolding opened
-  opened_3 e f g = rw (e, f, g)
+    pub clip_class : r ≡ is_clip (code_of code) → is_clip_letter b ≡ r
+    clip_class e = sym (e ∙ ap (λ (n : ℕ). is_clip (code_of n)) read ∙ clip_entry)
 
 module _ (s : Lead) (n : ℤ) (b : ℕ) where
   pub lead_off : s.on ≡ false → lead_piece s n b ≡ s
@@ -60,7 +50,7 @@ module _ (s : Lead) (n : ℤ) (b : ℕ) where
   lead_clip e f = rw (e, f)
 
 module _ (s : Trail) (n : ℤ) (b : ℕ) where
-  pub trail_ref : is_ref_letter b ≡ true → trail_piece s n b ≡ record { refs = clamp32 (s.refs +ℤ n); clips = pos 0; seen = 1 }
+  pub trail_ref : is_ref_letter b ≡ true → trail_piece s n b ≡ record { refs = clamp32 (s.refs +ℤ n); clips = Some (pos 0) }
   unfolding trail_piece
   trail_ref e = rw e
 
@@ -68,13 +58,13 @@ module _ (s : Trail) (n : ℤ) (b : ℕ) where
   unfolding trail_piece
   trail_other e f = rw (e, f)
 
-  pub trail_early : is_ref_letter b ≡ false → is_clip_letter b ≡ true → eqb s.seen 0 ≡ true → trail_piece s n b ≡ s
+  pub trail_early : is_ref_letter b ≡ false → is_clip_letter b ≡ true → s.clips ≡ None → trail_piece s n b ≡ s
   unfolding trail_piece
-  trail_early e f g = rw (e, f, g)
+  trail_early e f g = rw (e, f) (ap (λ (x : Option ℤ). record { refs = s.refs; clips = with_clip x n }) g ∙ ap (λ (x : Option ℤ). record { refs = s.refs; clips = x }) (sym g))
 
-  pub trail_clip : is_ref_letter b ≡ false → is_clip_letter b ≡ true → eqb s.seen 0 ≡ false → trail_piece s n b ≡ record { refs = s.refs; clips = clamp32 (s.clips +ℤ n); seen = 1 }
+  pub trail_clip : (c : ℤ) → is_ref_letter b ≡ false → is_clip_letter b ≡ true → s.clips ≡ Some c → trail_piece s n b ≡ record { refs = s.refs; clips = Some (clamp32 (c +ℤ n)) }
   unfolding trail_piece
-  trail_clip e f g = rw (e, f, g)
+  trail_clip c e f g = rw (e, f) (ap (λ (x : Option ℤ). record { refs = s.refs; clips = with_clip x n }) g)
 
 -- once another letter than a clip was met, nothing more is found
 found_off : (x : ℕ) (s : Lead) (b : ℕ) → s.on ≡ false → found_after lead_piece x s b ≡ s

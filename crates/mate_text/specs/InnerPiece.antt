@@ -1,38 +1,31 @@
 -- What the two scans take in of a piece: its number, and the letter that ends it; and how the second goes on, piece by piece.
-use Rattle.std.specs.Prelude.{ℕ, ◌≤◌, ◌<◌, ◌≡◌, true, false, cond, List, ℤ, pos, ◌+ℤ◌, eqb, length, drop}
+use Rattle.std.specs.Prelude.{ℕ, ◌≤◌, ◌<◌, ◌≡◌, Bool, true, false, cond, Option, Some, None, List, ℤ, pos, ◌+ℤ◌, length, drop}
 use Rattle.signed.specs.Whole.{clamp32}
-use Rattle.sam.specs.Text.{is_digit}
-use Rattle.mate_rules.specs.Run.{counts_as, push_of}
 use Rattle.mate_rules.specs.Pieces.{is_ref_letter, is_clip_letter}
 use Rattle.mate_rules.specs.InnerScan.{scan}
-use Rattle.mate_text.specs.declared.Opening.{Opening}
-use Rattle.mate_text.specs.declared.Lead.{Lead}
 use Rattle.mate_text.specs.declared.Trail.{Trail}
 use Rattle.mate_text.specs.declared.Ahead.{Ahead}
 
--- so many digits, which the next byte ends, and whose number is x
-abbrev pub ended_after : ℕ → ℕ → Opening
-ended_after n x = record { digits = n; number = pos (counts_as x); run = 0 }
+-- the leading clips, and whether no other letter was met
+pub record Lead : Type 0 where
+  pub clips : ℤ
+  pub on : Bool
 
--- the first three bytes of a piece, pushed to an empty run up to the first that is no digit
-unfoldable pub opened : ℕ → ℕ → ℕ → Opening
-opened a b c =
-    cond (is_digit a)
-    (cond (is_digit b)
-    (cond (is_digit c) (record { digits = 3; number = pos 0; run = push_of (push_of (push_of 0 a) b) c }) (ended_after 2 (push_of (push_of 0 a) b)))
-    (ended_after 1 (push_of 0 a)))
-    (ended_after 0 0)
-
--- the leading clips: up to the first letter that is no clip
+-- they go up to the first letter that is no clip
 unfoldable pub lead_piece : Lead → ℤ → ℕ → Lead
 lead_piece s n b =
     cond s.on (cond (is_clip_letter b) (record { clips = clamp32 (s.clips +ℤ n); on = true }) (record { clips = s.clips; on = false })) s
 
--- the reference length, the clips since its last letter, and 1 where there was one
+-- the clips behind a reference letter with one clip more: none are counted before the first
+abbrev pub with_clip : Option ℤ → ℤ → Option ℤ
+with_clip None n = None
+with_clip (Some c) n = Some (clamp32 (c +ℤ n))
+
+-- the reference length, and the clips since its last letter
 unfoldable pub trail_piece : Trail → ℤ → ℕ → Trail
 trail_piece s n b =
-    cond (is_ref_letter b) (record { refs = clamp32 (s.refs +ℤ n); clips = pos 0; seen = 1 })
-    (cond (is_clip_letter b) (cond (eqb s.seen 0) s (record { refs = s.refs; clips = clamp32 (s.clips +ℤ n); seen = 1 })) s)
+    cond (is_ref_letter b) (record { refs = clamp32 (s.refs +ℤ n); clips = Some (pos 0) })
+    (cond (is_clip_letter b) (record { refs = s.refs; clips = with_clip s.clips n }) s)
 
 -- from a run that holds x, with s found before the place i, to r: what was found before a place further on, at which a piece begins or the text ends. What is left of the text
 -- comes to the same from there

@@ -1,38 +1,26 @@
 // Document 01, module 6: the mate's unclipped 5' end from text. Reads any bytes, refuses none; each step saturates.
 #![tactic(auto)]
 
-ghost use Rattle.std.specs.Prelude.{◌≡◌, ◌≤◌, ◌<◌, pos, length};
+ghost use Rattle.std.specs.Prelude.{◌≡◌, ◌≤◌, ◌<◌, pos, length, unwrap_or};
 ghost use Rattle.sam.specs.Text.{is_digit};
 ghost use Rattle.mate_rules.specs.Run.{counts_as, push_of};
 ghost use Rattle.mate_rules.specs.Pieces.{mate_leading, mate_reference, mate_trailing, capped};
 ghost use Rattle.mate_text.specs.Mate.{mate_start, mate_end, saturated_one_based, mate_unclipped, mate_unclipped1};
-ghost use Rattle.mate_text.specs.InnerPiece.{opened, lead_piece, trail_piece, GoesOn};
+ghost use Rattle.mate_text.specs.InnerPiece.{trail_piece, GoesOn};
 
 use answers::{Pos0, Pos1};
-
-fn is_digit(b: u8) -> bool
-    ensures { result ≡ is_digit b }
-{
-    if b < 48 { false } else { b <= 57 }
-}
-
-fn wide(b: u8) -> u64
-    ensures { result ≡ b }
-{
-    b as u64
-}
 
 // The digits so far, then one more byte; as they were where the byte is no digit. A number above 2^31 - 1 counts 0, however many digits follow: it is held at 2^31.
 fn pushed(x: u64, b: u8) -> u64
     ensures { result ≡ push_of x b }
 {
-    if !is_digit(b) {
+    if !b.is_ascii_digit() {
         return x;
     }
     if 214748364 < x {
         return 2147483648;
     }
-    x * 10 + wide(b) - 48
+    x * 10 + (b - b'0') as u64
 }
 
 // What a number counts: 0 above 2^31 - 1.
@@ -60,9 +48,8 @@ impl DigitRun {
     pub fn push(&mut self, byte: u8) -> bool
         ensures { (result ≡ is_digit byte) × (self.new.0 ≡ push_of self.old.0 byte) }
     {
-        let x = pushed(self.0, byte);
-        self.0 = x;
-        is_digit(byte)
+        self.0 = pushed(self.0, byte);
+        byte.is_ascii_digit()
     }
 
     // What the run counts; the run is empty afterwards.
@@ -75,99 +62,29 @@ impl DigitRun {
     }
 }
 
-// The first three bytes of a piece: how many digits they begin with; what these count, where a letter ends them; and their number, where all three are digits.
-#[derive(Drop)]
-struct Opening {
-    digits: u32,
-    number: i32,
-    run: u64,
-}
-
-// Reads them: the run is this scan's own, which lends it for each byte.
-fn first_three(a: u8, b: u8, c: u8) -> Opening
-    ensures { result ≡ opened a b c }
-{
-    let mut run = DigitRun(0);
-    if !run.push(a) {
-        return Opening {
-            digits: 0,
-            number: run.take(),
-            run: 0,
-        };
-    }
-    if !run.push(b) {
-        return Opening {
-            digits: 1,
-            number: run.take(),
-            run: 0,
-        };
-    }
-    if !run.push(c) {
-        return Opening {
-            digits: 2,
-            number: run.take(),
-            run: 0,
-        };
-    }
-    Opening {
-        digits: 3,
-        number: 0,
-        run: run.0,
-    }
-}
-
-// The leading clips, and whether no other letter was met.
-#[derive(Drop)]
-struct Lead {
-    clips: i32,
-    on: bool,
-}
-
-fn lead_piece(s: Lead, number: i32, letter: u8) -> Lead
-    ensures { result ≡ lead_piece s number letter }
-{
-    if !s.on {
-        return s;
-    }
-    if !ops::is_clip(letters::code_at(letter)) {
-        return Lead {
-            clips: s.clips,
-            on: false,
-        };
-    }
-    Lead {
-        clips: signed::saturating_add(s.clips, number),
-        on: true,
-    }
-}
-
 // The total of the leading S and H.
 fn parse_leading_clips(text: &[u8]) -> i32
     ensures { result ≡ capped (mate_leading text.now) }
 {
     let mut run = DigitRun::new();
-    let mut found = Lead { clips: 0, on: true };
-    let mut i = 0;
-    while i < text.len() {
-        let b = text[i];
-        if !run.push(b) {
+    let mut clips = 0;
+    for b in text {
+        if !run.push(*b) {
             let number = run.take();
-            found = lead_piece(found, number, b);
-            if !found.on {
-                return found.clips;
+            if !ops::is_clip(letters::code_at(*b)) {
+                return clips;
             }
+            clips = signed::saturating_add(clips, number);
         }
-        i += 1;
     }
-    found.clips
+    clips
 }
 
-// The reference length, the clips since its last letter, and 1 where there was one: a number, as a bool would leave three bytes that each copy moves, too.
-#[derive(Drop)]
+// The reference length, and the clips since its last letter, where there was one.
+#[derive(Clone, Copy)]
 struct Trail {
     refs: i32,
-    clips: i32,
-    seen: u32,
+    clips: Option<i32>,
 }
 
 fn trail_piece(s: Trail, number: i32, letter: u8) -> Trail
@@ -177,25 +94,23 @@ fn trail_piece(s: Trail, number: i32, letter: u8) -> Trail
     if ops::consumes_ref(code) {
         return Trail {
             refs: signed::saturating_add(s.refs, number),
-            clips: 0,
-            seen: 1,
+            clips: Some(0),
         };
     }
     if !ops::is_clip(code) {
         return s;
     }
-    if s.seen == 0 {
+    let Some(clips) = s.clips else {
         return s;
-    }
+    };
     Trail {
-        refs: s.refs,
-        clips: signed::saturating_add(s.clips, number),
-        seen: 1,
+        clips: Some(signed::saturating_add(clips, number)),
+        ..s
     }
 }
 
 // What was found of a text, and the place where the next piece begins.
-#[derive(Drop)]
+#[derive(Clone, Copy)]
 struct Ahead {
     found: Trail,
     at: usize,
@@ -211,22 +126,22 @@ fn taken(found: Trail, number: i32, letter: u8, at: usize) -> Ahead
     }
 }
 
-// Takes in the rest of a piece, after digits whose number is known: the run is this scan's own, which lends it for each byte.
-fn trail_rest(found: Trail, digits: u64, text: &[u8], from: usize) -> Ahead
+// Takes in the rest of a piece, after the digits of a run.
+fn trail_rest(found: Trail, mut run: DigitRun, text: &[u8], from: usize) -> Ahead
     requires { from ≤ length text.now }
-    ensures { GoesOn text.now digits found from result }
+    ensures { GoesOn text.now run.0 found from result }
 {
-    let mut run = DigitRun(digits);
-    let mut i = from;
-    while i < text.len() {
+    for i in from..text.len() {
         let b = text[i];
         if !run.push(b) {
             let number = run.take();
             return taken(found, number, b, i + 1);
         }
-        i += 1;
     }
-    Ahead { found, at: i }
+    Ahead {
+        found,
+        at: text.len(),
+    }
 }
 
 // Takes in the piece at a place. A piece of up to two digits is taken in by itself: so nothing waits for how many there are.
@@ -234,30 +149,35 @@ fn trail_at(found: Trail, text: &[u8], at: usize) -> Ahead
     requires { at < length text.now }
     ensures { GoesOn text.now 0 found at result }
 {
+    let mut run = DigitRun::new();
     if text.len() - at < 3 {
-        return trail_rest(found, 0, &*text, at);
+        return trail_rest(found, run, &*text, at);
     }
     let a = text[at];
     let b = text[at + 1];
     let c = text[at + 2];
-    let o = first_three(a, b, c);
-    let digits = o.digits;
-    match digits {
-        0 => taken(found, o.number, a, at + 1),
-        1 => taken(found, o.number, b, at + 2),
-        2 => taken(found, o.number, c, at + 3),
-        _ => trail_rest(found, o.run, &*text, at + 3),
+    if !run.push(a) {
+        let number = run.take();
+        return taken(found, number, a, at + 1);
     }
+    if !run.push(b) {
+        let number = run.take();
+        return taken(found, number, b, at + 2);
+    }
+    if !run.push(c) {
+        let number = run.take();
+        return taken(found, number, c, at + 3);
+    }
+    trail_rest(found, run, &*text, at + 3)
 }
 
 // The reference length, and the total of the S and H after its last letter.
 fn parse_ref_len_and_trailing_clips(text: &[u8]) -> Trail
-    ensures { (result.refs ≡ capped (mate_reference text.now)) × (result.clips ≡ capped (mate_trailing text.now)) }
+    ensures { (result.refs ≡ capped (mate_reference text.now)) × (unwrap_or result.clips (pos 0) ≡ capped (mate_trailing text.now)) }
 {
     let mut found = Trail {
         refs: 0,
-        clips: 0,
-        seen: 0,
+        clips: None,
     };
     let mut i = 0;
     while i < text.len() {
@@ -281,7 +201,7 @@ fn unclipped_other_end(position: i32, text: &[u8]) -> i32
     let t = parse_ref_len_and_trailing_clips(&*text);
     signed::saturating_add(
         signed::saturating_add(signed::saturating_sub(position, 1), t.refs),
-        t.clips,
+        t.clips.unwrap_or(0),
     )
 }
 

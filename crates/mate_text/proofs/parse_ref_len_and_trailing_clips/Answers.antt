@@ -1,3 +1,5 @@
+use lib.IntN.{pos}
+use Rattle.std.specs.Prelude.{unwrap_or}
 use mathlib.Core.Path.{◌≡◌, sym, ap, ◌∙◌}
 use borrow.Author.Rules.{rules}
 use Rattle.mate_rules.specs.InnerScan.{scan}
@@ -13,4 +15,4 @@ returns c =
     let text = c.args.text.now in
     let l = c.loop-i in
     let e : l.found ≡ scan trail_piece 0 start text = sym (scan-end trail_piece text l.i 0 l.found (search rules)) ∙ l.invariant.1 in
-    (ap (λ (t : Trail). t.refs) e ∙ reference_is text, ap (λ (t : Trail). t.clips) e ∙ trailing_is text)
+    (ap (λ (t : Trail). t.refs) e ∙ reference_is text, ap (λ (t : Trail). unwrap_or t.clips (pos 0)) e ∙ trailing_is text)

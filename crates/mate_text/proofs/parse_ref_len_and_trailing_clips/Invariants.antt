@@ -1,6 +1,7 @@
 -- `mate_text::parse_ref_len_and_trailing_clips` meets its contract: piece by piece, what is found is what the scan of the whole text finds.
 use mathlib.Core.Path.{◌≡◌}
 use Prim.Native.Nat.{◌-◌, ◌≤◌}
+use Rattle.std.specs.Prelude.{None}
 use lib.IntN.{pos}
 use lib.ListN.{length, drop}
 use Rattle.mate_rules.specs.InnerScan.{scan}
@@ -10,7 +11,7 @@ use Rattle.mate_text.proofs.parse_ref_len_and_trailing_clips.Given as goal
 
 -- nothing was found yet
 abbrev pub start : Trail
-start = record { refs = pos 0; clips = pos 0; seen = 0 }
+start = record { refs = pos 0; clips = None }
 
 abbrev pub invariant-loop-i : goal.invariant-loop-i
 invariant-loop-i l =

@@ -23,18 +23,15 @@ returns-then-not-push c =
     let na : is_digit b ≡ false = sym c.push.ensures.0 ∙ c.if-not-push.true in
     let n : to_z w32 (of_z w32 c.take-number.result) ≡ c.take-number.result = search rules in
     let g : c.taken.result.found ≡ trail_piece a.found c.take-number.result b = simp n at c.taken.ensures.0 in
-    on_letter text a.found a.digits a.from c.loop-i.run.0 c.loop-i.i c.loop-i.invariant.2 (search rules) c.taken.result c.take-number.result na
-    (c.take-number.ensures.0 ∙ ap (λ (m : ℕ). pos (counts_as m)) (c.push.ensures.1 ∙ push_letter c.loop-i.run.0 b na)) g c.taken.ensures.1 c.loop-i.invariant.0
+    on_letter text a.found a.run.0 a.from c.loop-i.run.0 c.loop-i.i c.loop-i.invariant (search rules) c.taken.result c.take-number.result na
+    (c.take-number.ensures.0 ∙ ap (λ (m : ℕ). pos (counts_as m)) (c.push.ensures.1 ∙ push_letter c.loop-i.run.0 b na)) g c.taken.ensures.1 (omega arith)
 
 pub loop-i-preserved : goal.loop-i-preserved
 loop-i-preserved c =
-    let a = c.args in (
-      omega (arith, c.loop-i.invariant.0),
-      omega arith,
-      on_digit a.text.now a.found a.digits a.from c.loop-i.run.0 c.loop-i.i c.loop-i.invariant.2 (search rules) (c.loop-i.i + 1) c.push.new.self.0 refl (sym c.push.ensures.0 ∙ c.if-not-push.false) c.push.ensures.1,
-    )
+    let a = c.args in
+    on_digit a.text.now a.found a.run.0 a.from c.loop-i.run.0 c.loop-i.i c.loop-i.invariant (search rules) (c.loop-i.i + 1) c.push.new.self.0 refl (sym c.push.ensures.0 ∙ c.if-not-push.false) c.push.ensures.1
 
 pub returns : goal.returns
 returns c =
     let a = c.args in
-    at-end a.text.now a.found a.digits a.from c.loop-i.run.0 c.loop-i.i c.loop-i.invariant.2 _ (search rules) refl refl c.loop-i.invariant.0 c.loop-i.invariant.1
+    at-end a.text.now a.found a.run.0 a.from c.loop-i.run.0 c.loop-i.i c.loop-i.invariant _ (omega arith) refl (omega arith) (omega arith) (omega arith)
