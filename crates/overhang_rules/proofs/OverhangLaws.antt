@@ -13,7 +13,7 @@ use Rattle.lists.specs.Lists.{facing, sum_of}
 use Rattle.signed.specs.Whole.{raised}
 use Rattle.sam.specs.Op.{ref_len}
 use Rattle.overhang_rules.specs.Reach.{soft_clip, up_to}
-use Rattle.overhang_rules.specs.Overhang.{end_of, soft_start, soft_end, later_of, forward_overhang, reverse_overhang, overhang_of}
+use Rattle.overhang_rules.specs.Overhang.{end_at, end_of, soft_start, soft_end, later_of, forward_overhang, reverse_overhang, overhang_of}
 use Rattle.overhang_rules.specs.InnerSides.{short_of, clip_gap, meet_at, past_of, room_past, Free}
 use Rattle.overhang_rules.proofs.Places.{raised_lt}
 use Rattle.overhang_rules.proofs.Mirror.{past_left, past_right}
@@ -24,6 +24,10 @@ differ e p q = cc
 -- of equal positions
 pub of_places : (b : Bool) (xs ys : List ℕ) {p q m l : ℤ} {n : ℕ} → n ≡ overhang_of b p xs m ys → p ≡ q → m ≡ l → n ≡ overhang_of b q xs l ys
 of_places b xs ys e f g = cc
+
+-- the extent of a list from p on, by its n reference bases
+pub lies : {p q e : ℤ} {n : ℕ} (xs : List ℕ) → q ≡ p → e ≡ end_at p n → n ≡ sum_of ref_len xs → e ≡ end_of q xs
+lies xs f g h = rw (f, g, h) refl
 
 -- the later of two positions is at or after each
 later_over : (p m t : ℤ) → SFits w32 p → SFits w32 m → t ≡ later_of p m → (raised p ≤ raised t) × (raised m ≤ raised t)
