@@ -21,7 +21,7 @@ returns-then-is_unmapped c =
 pub returns : goal.returns
 returns c =
     c.unclipped_by.ensures
-    ∙ ap (λ xs. unclipped_by xs c.own_place.result c.is_reverse.result) (c.of_record-list.ensures.by_index _)
+    ∙ ap (λ xs. unclipped_by xs c.own_place.result c.is_reverse.result) c.of_record.ensures
     ∙ ap (λ (z : ℤ). unclipped_by (record_ops c.args.bam.now) (record { 0 = z }) c.is_reverse.result) c.own_place.ensures
     ∙ ap (λ (t : Bool). unclipped_by (record_ops c.args.bam.now) (record { 0 = pos_of c.args.bam.now }) t) (c.is_reverse.ensures ∙ ap is_reverse c.u16_at-flags.ensures.0)
     ∙ is_mapped c.args.bam.now c.if-bam-lt32.false (ap is_unmapped (sym c.u16_at-flags.ensures.0) ∙ sym c.is_unmapped.ensures ∙ c.if-is_unmapped.false)
