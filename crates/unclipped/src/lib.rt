@@ -29,7 +29,11 @@ pub fn unclipped_5prime_from_raw_bam(bam: &[u8]) -> Answer<Unclipped>
     if fields::is_unmapped(flags) {
         return Ok(Unclipped::Unmapped);
     }
-    unclipped_by(oplist::of_record(bam), fields::own_place(bam), fields::is_reverse(flags))
+    unclipped_by(
+        oplist::of_record(bam),
+        fields::own_place(bam),
+        fields::is_reverse(flags),
+    )
 }
 
 // The 5' position by an op list aligned at `pos`, or that it has no ops. Refusal 4.

@@ -2,7 +2,6 @@
 use mathlib.Core.Path.{◌≡◌, ap, sym, ◌∙◌}
 use Rattle.std.specs.Prelude.{Err, None, Some}
 use Rattle.answers.specs.declared.Refusal.TheVariants.{Overflow}
-use mathlib.Core.List.{[]}
 use mir.Syntax.{w32}
 use mir.Val.{to_z, of_z}
 use Rattle.oplist.specs.Ops.{ops_in_bytes}
