@@ -20,7 +20,7 @@ use Rattle.oplist.specs.Ops.{record_ops}
 use Rattle.answers.specs.Answers.{number_of, tell_count, tell_int, tell_nat}
 use Rattle.answers.specs.Settled.{Settled}
 use Rattle.answers.specs.declared.Refusal.{Refusal}
-use Rattle.answers.specs.declared.Refusal.TheVariants.{ShortRecord, AreaOverrun, Overflow}
+use Rattle.answers.specs.declared.Refusal.TheVariants.{ShortRecord, AreaOverrun}
 use Rattle.answers.specs.declared.Pos1.{Pos1}
 use Rattle.decimal.specs.Decimal.{decimal}
 use Rattle.print_rules.specs.Text.{text_of, printed}
@@ -154,13 +154,9 @@ module _ (b : List ℕ) (h : 32 ≤ length b) where
   unfolding checked_ref_length
   refs_overrun k = simp (le-ltb _ _ h, lt-ltb (length b) (ops_end b) k)
 
-  pub refs_over : ops_end b ≤ length b → 2147483647 < sum_of ref_len (record_ops b) → checked_ref_length b ≡ Err Overflow
-  unfolding checked_ref_length as_int
-  refs_over k o = simp (le-ltb _ _ h, le-ltb (length b) (ops_end b) k, lt-ltb 2147483647 (sum_of ref_len (record_ops b)) o)
-
-  pub refs_are : ops_end b ≤ length b → sum_of ref_len (record_ops b) ≤ 2147483647 → checked_ref_length b ≡ Ok (pos (sum_of ref_len (record_ops b)))
-  unfolding checked_ref_length as_int
-  refs_are k o = simp (le-ltb _ _ h, le-ltb (length b) (ops_end b) k, le-ltb 2147483647 (sum_of ref_len (record_ops b)) o)
+  pub refs_within : ops_end b ≤ length b → as_int (sum_of ref_len (record_ops b)) ≡ checked_ref_length b
+  unfolding checked_ref_length
+  refs_within k = simp (le-ltb _ _ h, le-ltb (length b) (ops_end b) k)
 
 pub figures_are : (b : List ℕ) (i : Answer ℤ) (q : ℕ) (u : Answer Unclipped) (k : Answer ℕ) (l : ℕ) → checked_ref_length b ≡ i → sum_of query_len (record_ops b) ≡ q → unclipped_of b ≡ u → record_bin b ≡ k → seq_len_of b ≡ l
     → figures_of b ≡ row_of i q u k (length_mark q l)

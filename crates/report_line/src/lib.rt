@@ -18,19 +18,16 @@ fn row_of(rec: &[u8]) -> Answer<LineRow>
     requires { 32 ≤ length rec.now }
     ensures { result ≡ figures_of rec.now }
 {
-    let list = oplist::of_record(rec);
-    if !oplist::inside(rec, list) {
+    if !oplist::inside(rec, oplist::area_of(rec)) {
         return Err(Refusal::AreaOverrun);
     }
-    let total = op_sums::sums(&[], rec, list);
-    if 2147483647 < total.refs {
-        return Err(Refusal::Overflow);
-    }
+    let total = op_sums::sums(oplist::of_record(rec));
+    let refs = op_sums::as_int(total.refs)?;
     let five = unclipped::unclipped_5prime_from_raw_bam(rec)?;
     let bin = bin::bin_from_raw_bam(rec)?;
     let mark = report_fields::length_mark(total.query, little_endian::u32_at(rec, 16));
     Ok(LineRow {
-        refs: total.refs as i32,
+        refs,
         query: total.query,
         five,
         bin,
