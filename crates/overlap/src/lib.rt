@@ -2,11 +2,10 @@
 #![tactic(auto)]
 
 ghost use Rattle.std.specs.Prelude.{◌≡◌, ◌≤◌, Ok, length};
-ghost use Rattle.oplist.specs.Ops.{ops_of};
 ghost use Rattle.overlap_rules.specs.Overlap.{placed_pair, bases_at, pair_overhang, past_mate_cigar, past_mate_record};
 
 use answers::{Answer, Pos0, Pos1, Refusal};
-use oplist::Ops;
+use oplist::{Lent, OpList};
 use overlap_rules::PairPlaces;
 
 // Where a record and its mate lie, with the mate's place as a record has it; none where they are no FR pair. Refusal 4.
@@ -23,47 +22,24 @@ pub fn placed_pair(fr: bool, bam: &[u8], mate: Pos0) -> Answer<Option<PairPlaces
 }
 
 // The overhang of a record that lies so to its mate; 0 of no FR pair.
-pub fn bases_at(
-    placed: Option<PairPlaces>,
-    bam: &[u8],
-    words: &[u32],
-    rec: &[u8],
-    list: Ops,
-) -> u64
+pub fn bases_at<L: OpList>(placed: Option<PairPlaces>, bam: &[u8], mate_list: L) -> u64
     requires { 32 ≤ length bam.now }
-    ensures { result ≡ bases_at (Ok placed) bam.now (ops_of words.now rec.now list) }
+    ensures { result ≡ bases_at (Ok placed) bam.now (L.ops mate_list) }
 {
     let Some(places) = placed else {
         return 0;
     };
     let reverse = fields::is_reverse(little_endian::u16_at(bam, 14));
-    overhang::overhang(
-        reverse,
-        places.own,
-        &[],
-        bam,
-        oplist::of_record(bam),
-        places.mate,
-        words,
-        rec,
-        list,
-    )
+    overhang::overhang(reverse, places.own, oplist::of_record(bam), places.mate, mate_list)
 }
 
 // The overhang by the answer of the pair test. Refusal 4.
-fn pair_overhang(
-    fr: bool,
-    bam: &[u8],
-    mate: Pos0,
-    words: &[u32],
-    rec: &[u8],
-    list: Ops,
-) -> Answer<u64>
+fn pair_overhang<L: OpList>(fr: bool, bam: &[u8], mate: Pos0, mate_list: L) -> Answer<u64>
     requires { 32 ≤ length bam.now }
-    ensures { result ≡ pair_overhang (Ok fr) bam.now mate.0 (ops_of words.now rec.now list) }
+    ensures { result ≡ pair_overhang (Ok fr) bam.now mate.0 (L.ops mate_list) }
 {
     let placed = placed_pair(fr, bam, mate)?;
-    Ok(bases_at(placed, bam, words, rec, list))
+    Ok(bases_at(placed, bam, mate_list))
 }
 
 // The query bases past the mate, whose ops are given. Refusals 1, 3, 2 and 4.
@@ -73,19 +49,16 @@ pub fn num_bases_extending_past_mate_cigar_raw(bam: &[u8], mate_ops: &[u32]) -> 
     if bam.len() < 32 {
         return Err(Refusal::ShortRecord);
     }
-    if oplist::MOST_OPS < mate_ops.len() {
-        return Err(Refusal::TooManyOps);
-    }
-    let list = oplist::lent(mate_ops);
-    let total = op_sums::sums(mate_ops, &[], list);
+    let list = Lent::new(mate_ops, oplist::MOST_OPS).ok_or(Refusal::TooManyOps)?;
+    let total = op_sums::sums(list);
     let fr = pairs::fr_with_mate(bam, op_sums::saturated(total.refs));
     if let Ok(false) = fr {
         return Ok(0);
     }
-    if !validity::valid(mate_ops, &[], list.inside, list.at, list.n) {
+    if !validity::valid(list) {
         return Ok(0);
     }
-    pair_overhang(fr?, bam, fields::mate_place(bam), mate_ops, &[], list)
+    pair_overhang(fr?, bam, fields::mate_place(bam), list)
 }
 
 // The query bases past the mate, whose record is given. Refusals 1, 2 and 4.
@@ -99,5 +72,5 @@ pub fn num_bases_extending_past_mate_vs_mate_raw(rec: &[u8], mate: &[u8]) -> Ans
         return Err(Refusal::ShortRecord);
     }
     let fr = pairs::primary_fr(rec, mate)?;
-    pair_overhang(fr, rec, fields::own_place(mate), &[], mate, oplist::of_record(mate))
+    pair_overhang(fr, rec, fields::own_place(mate), oplist::of_record(mate))
 }

@@ -9,7 +9,7 @@ ghost use Rattle.text_rules.specs.Text.{text_ops};
 ghost use Rattle.overlap_rules.specs.Overlap.{placed_pair, list_left, past_mate_text};
 
 use answers::{Answer, Refusal};
-use oplist::Ops;
+use oplist::Lent;
 use overlap_rules::Overhang;
 use parsed_rules::Measured;
 
@@ -18,20 +18,13 @@ fn list_left(fr: bool, bam: &[u8], text: &[u8], n: u64, out: &mut [u32]) -> Answ
     requires { (32 ≤ length bam.now) × (length (text_ops text.now) ≡ n) × (n ≤ most_ops) }
     ensures { Settled (list_left (placed_pair fr bam.now (mate_pos_of bam.now)) bam.now (text_ops text.now) out.old) result out.new }
 {
-    let placed = overlap::placed_pair(fr, bam, fields::mate_place(bam));
-    if overlap::is_over(placed) {
-        return Err(Refusal::Overflow);
-    }
+    let placed = overlap::placed_pair(fr, bam, fields::mate_place(bam))?;
     if (out.len() as u64) < n {
         return Err(Refusal::NoRoom);
     }
     measure_text::write_ops(text, out);
-    let list = Ops {
-        inside: false,
-        at: 0,
-        n: n as u32,
-    };
-    Ok(Overhang { bases: overlap::bases_at(placed, bam, out, &[], list), written: n })
+    let list = Lent::new(&out[..n as usize], oplist::MOST_OPS).unwrap();
+    Ok(Overhang { bases: overlap::bases_at(placed, bam, list), written: n })
 }
 
 // The query bases past the mate, whose ops are given as text; the ops go to the first places of out. A text that the strict reader refuses by 5 counts 0 and
@@ -48,8 +41,6 @@ pub fn num_bases_extending_past_mate_text_raw(bam: &[u8], text: &[u8], out: &mut
     if (oplist::MOST_OPS as u64) < n {
         return Err(Refusal::TooManyOps);
     }
-    match pairs::fr_with_mate(bam, span) {
-        Ok(fr) => list_left(fr, bam, text, n, out),
-        Err(why) => Err(why),
-    }
+    let fr = pairs::fr_with_mate(bam, span)?;
+    list_left(fr, bam, text, n, out)
 }
