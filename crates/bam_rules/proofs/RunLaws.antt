@@ -11,7 +11,7 @@ use borrow.Author.Tests.{le-ltb, ltb-false}
 use Rattle.lists.proofs.Absurd.{never}
 use Rattle.lists.proofs.Walks.{done}
 use Rattle.sam.specs.Record.{byte_at}
-use Rattle.blocks.specs.Fill.{First}
+use Rattle.blocks.specs.Fill.{is_over, First}
 use Rattle.blocks.specs.declared.Read.{Read}
 use Rattle.blocks.proofs.BlockLaws.{drop-take, fill_behind, fill_grows, gathered}
 use Rattle.bam_header.specs.Header.{Head.Records, Head.CutShort, is_bam, texted, head_of}
@@ -88,7 +88,7 @@ module _ {s r : BamState} {block block' : List ℕ} (t : BamTurn s block r block
           never (cc)
 
 -- the state behind the writes
-relieved_begun : (r : BamState) → is_begun r.place ≡ true → behind_all r ≡ record { place = r.place; have = r.have; used = r.have; failed = r.failed; ended = r.ended; marked = true }
+relieved_begun : (r : BamState) → is_begun r.place ≡ true → behind_all r ≡ record { place = r.place; have = r.have; used = r.have; source = r.source; marked = true }
 relieved_begun r e = simp e
 
 pub relieved_not : (r : BamState) → is_begun r.place ≡ false → behind_all r ≡ r
@@ -98,7 +98,7 @@ relieved_not r e = simp e
 
 -- In the head nothing is written, and whatever follows the stream comes to what the bytes that are left come to from the place reached; behind it all records so far are written.
 data Stands (read written : List ℕ) (s : BamState) (block : List ℕ) : Type 0 where
-  inside : written ≡ [] → s.marked ≡ false → ((ys : List ℕ) → head_of (read ++ ys) ≡ from_place s.place (left s block ++ ys)) → (s.ended ≡ true → head_of read ≡ CutShort) → Stands read written s block
+  inside : written ≡ [] → s.marked ≡ false → ((ys : List ℕ) → head_of (read ++ ys) ≡ from_place s.place (left s block ++ ys)) → (is_over s.source ≡ true → head_of read ≡ CutShort) → Stands read written s block
   behind : (records : List ℕ) → written ≡ cgr_mark ++ records → s.marked ≡ true → is_begun s.place ≡ true → left s block ≡ [] → ((ys : List ℕ) → head_of (read ++ ys) ≡ Records (records ++ ys))
       → Stands read written s block
 
@@ -152,14 +152,14 @@ stands (turns {read} {written} {block} {block'} {s} {r} ran on t) = go (stands r
 
 -- ---- a whole stream
 
-ends : {read written block : List ℕ} {s : BamState} → Stands read written s block → s.ended ≡ true → converted (head_of read) ≡ written
+ends : {read written block : List ℕ} {s : BamState} → Stands read written s block → is_over s.source ≡ true → converted (head_of read) ≡ written
 ends (inside w m h c) e = ap converted (c e) ∙ sym w
 ends {read} (behind records w m b none h) e = ap (λ (l : List ℕ). converted (head_of l)) (sym (append-nil read)) ∙ ap converted (h []) ∙ ap (λ (l : List ℕ). cgr_mark ++ l) (append-nil records) ∙ sym w
 
 -- what is written of a stream is what it converts to
 pub converts : {stream written : List ℕ} → Wrote stream written → converted (head_of stream) ≡ written
 converts (ended ran e) = ends (stands ran) e
-converts (refused {block} {r} ys f m none) = other f.read ys (go r.none refl ∙ same)
+converts (refused {block} {r} ys f m none) = other f.read ys (go (is_over r.source) refl ∙ same)
   where
     same : is_bam f.read ≡ false
     same = ap is_bam (sym (gathered f.gathers)) ∙ m
@@ -167,7 +167,7 @@ converts (refused {block} {r} ys f m none) = other f.read ys (go r.none refl ∙
     size : length f.read ≡ r.have
     size = ap length (sym (gathered f.gathers)) ∙ length-take-le r.have block f.within
 
-    go : (b : Bool) → r.none ≡ b → is_bam (f.read ++ ys) ≡ is_bam f.read
+    go : (b : Bool) → is_over r.source ≡ b → is_bam (f.read ++ ys) ≡ is_bam f.read
     go true e = ap is_bam (ap (λ (l : List ℕ). f.read ++ l) (none e) ∙ append-nil f.read)
     go false e = same_magic f.read ys (omega (arith, size, f.enough e))
 
@@ -178,7 +178,7 @@ pub record BamAlong (turns : ℕ) (s : BamState) (block : List ℕ) : Type 0 whe
   pub read : List ℕ
   pub written : List ℕ
   pub ran : BamRan read written s block
-  pub on : s.ended ≡ false
+  pub on : is_over s.source ≡ false
   pub paid : turns ≤ length read
   pub within : s.used ≤ s.have
   pub fits : s.have ≤ 65536
@@ -193,7 +193,7 @@ along_start {r} {block = block} f h m next =
 
 -- the writes leave the rest of the state as it was, and room for a read
 pub record Relieved (r q : BamState) : Type 0 where
-  pub ended : q.ended ≡ r.ended
+  pub ended : is_over q.source ≡ is_over r.source
   pub have : q.have ≡ r.have
   pub within : q.used ≤ q.have
   pub room : q.have < q.used + 65536
@@ -206,7 +206,7 @@ relieved r block short low high = go (is_begun r.place) refl
     go false e = subst (λ (q : BamState). Relieved r q) (sym (relieved_not r e)) (record { ended = refl; have = refl; within = low; room = omega (arith, short e, length-take-le r.have block high) })
 
 module _ {s s₁ s₂ : BamState} {block block₁ : List ℕ} (n : ℕ) (a : BamAlong n s block) (t : BamTurn s block s₁ block₁) (e : s₂ ≡ behind_all s₁) (low : s₁.used ≤ s₁.have) (high : s₁.have ≤ 65536) (within : s₁.have ≤ length block₁) where
-  unfoldable pub along_on : s₂.ended ≡ false → BamAlong (n + 1) s₂ block₁
+  unfoldable pub along_on : is_over s₂.source ≡ false → BamAlong (n + 1) s₂ block₁
   along_on on =
       let k : Relieved s₁ s₂ = subst (λ (q : BamState). Relieved s₁ q) (sym e) (relieved s₁ block₁ t.went.short low within) in
       let g = fill_grows t.filled (sym k.ended ∙ on) in
@@ -222,7 +222,7 @@ module _ {s s₁ s₂ : BamState} {block block₁ : List ℕ} (n : ℕ) (a : Bam
         room = k.room;
       }
 
-  unfoldable pub along_off : s₂.ended ≡ true → BamCame s₂ block₁
+  unfoldable pub along_off : is_over s₂.source ≡ true → BamCame s₂ block₁
   along_off off = record {
     read = a.read ++ read_in s s₁ block₁;
     written = a.written ++ due_bytes s₁ block₁;

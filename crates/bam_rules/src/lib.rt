@@ -2,14 +2,14 @@
 #![tactic(auto)]
 
 use bam_header::HeadPlace;
+use blocks::Source;
 
-// Where a stream was left: the place in its head, the bytes at hand and how many of them are used, whether a read failed or gave none, and whether the mark is written.
+// Where a stream was left: the place in its head, the bytes at hand and how many of them are used, what is known of the input, and whether the mark is written.
 #[derive(Clone, Copy)]
 pub struct BamState {
     pub place: HeadPlace,
     pub have: usize,
     pub used: usize,
-    pub failed: bool,
-    pub ended: bool,
+    pub source: Source,
     pub marked: bool,
 }

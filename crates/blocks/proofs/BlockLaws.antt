@@ -10,10 +10,10 @@ use lib.ListN.{length, take, drop, length-drop, take-append-drop}
 use lib.Seq.{take-take, take-append-le, take_at, drop_at, length-take-le, take-nil}
 use borrow.Author.Tests.{ne_eqb}
 use Rattle.lists.proofs.Absurd.{never}
-use Rattle.blocks.specs.Fill.{is_over, source_of, clamp_len, Filled, given, Gathers, Gathers.starts, Gathers.reads}
+use Rattle.blocks.specs.Fill.{is_over, is_failed, source_of, clamp_len, Filled, given, Gathers, Gathers.starts, Gathers.reads}
 use Rattle.blocks.specs.declared.Read.{Read}
 use Rattle.blocks.specs.declared.Source.{Source}
-use Rattle.blocks.specs.declared.Source.TheVariants.{Open}
+use Rattle.blocks.specs.declared.Source.TheVariants.{Open, Ended, Failed}
 
 -- ---- bytes that are moved to the front
 
@@ -31,6 +31,12 @@ moved block u n h =
     take_at (take n (drop u block)) (drop (0 + n) block) n l
 
 -- ---- a read
+
+-- a read that gave none and did not fail found the end of the input
+pub ended_is : (s : Source) → is_over s ≡ true → is_failed s ≡ false → s ≡ Ended
+ended_is Open o f = never (cc)
+ended_is Ended o f = refl
+ended_is Failed o f = never (cc)
 
 filled : (block block' : List ℕ) (have : ℕ) (got : ℤ) (n room : ℕ) → n ≡ clamp_len got room → room ≡ length block - have → length block' ≡ length block → take have block' ≡ take have block
     → Filled block have (record { have = have + n; source = source_of got n }) block'
