@@ -1,11 +1,11 @@
 -- The stages of the walk are those of the clips: its last stage accepts just what `is_valid_mapped_cigar` takes.
-use Prim.Native.Nat.{ℕ, ◌≤◌, ◌<◌}
+use Prim.Native.Nat.{ℕ, ◌+◌, ◌≤◌, ◌<◌}
 use mathlib.Core.Path.{◌≡◌, refl, sym, ap, ◌∙◌}
 use mathlib.Core.Bool.{Bool, true, false, cond, not, ◌&&◌, ◌||◌, and-true, and-false}
 use mathlib.Core.List.{List, [], ◌∷◌, ◌++◌}
 use native.Mathlib.Omega.{arith}
 use lib.Dec.{ltb, eqb}
-use lib.ListN.{get_or}
+use lib.ListN.{get_or, drop}
 use borrow.Author.Tests.{lt-ltb, le-ltb, ltb-true, ltb-false, eqb-true}
 use Rattle.lists.proofs.Absurd.{never}
 use Rattle.lists.proofs.Tables.{below_same}
@@ -283,6 +283,16 @@ states (o ∷ xs) e =
     (class_known (code_of o) c ∙ le-ltb 8 (code_of o) (omega arith))
 
 -- the last stage accepts just what the rules take
+-- a turn of the walk at op o, which stands at i
+module _ (xs : List ℕ) (i o : ℕ) (p : Stage) (left : drop i xs ≡ o ∷ drop (i + 1) xs) where
+  pub valid_short : o < 16 → false ≡ accept_of (stage_after p (drop i xs))
+  valid_short h = sym (ap (λ (l : List ℕ). accept_of (stage_after p l)) left ∙ unknown_run p o (drop (i + 1) xs) (short_class o (omega arith)))
+
+  pub valid_turn : 16 ≤ o → (q : Stage) → q ≡ step_of p (code_class (code_of o)) → accept_of (stage_after q (drop (i + 1) xs)) ≡ accept_of (stage_after p (drop i xs))
+  valid_turn h q e =
+      let ys = drop (i + 1) xs in
+      ap (λ (s : Stage). accept_of (stage_after s ys)) e ∙ sym (long_run p o ys h) ∙ ap (λ (l : List ℕ). accept_of (stage_after p l)) (sym left)
+
 pub valid_run : (xs : List ℕ) → accept_of (stage_after Start xs) ≡ valid_mapped xs
 unfolding stage_after is_empty plain placed_from any_ref
 valid_run [] = sym (valid-is [])

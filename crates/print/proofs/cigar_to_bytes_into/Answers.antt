@@ -14,5 +14,5 @@ returns-then-bam-lt32 c =
 pub returns : goal.returns
 returns c =
     resettled
-    (of-ops c.args.bam.now c.args.out.now c.if-bam-lt32.false ∙ ap (λ (l : List ℕ). printed_ops l c.args.out.now) (sym (c.of_record.ensures.by_index _)))
+    (of-ops c.args.bam.now c.args.out.now c.if-bam-lt32.false ∙ ap (λ (l : List ℕ). printed_ops l c.args.out.now) (sym c.of_record.ensures))
     c.print_ops.ensures

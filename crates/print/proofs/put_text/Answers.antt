@@ -4,28 +4,26 @@ use mathlib.Core.Path.{sym, ap, ◌∙◌}
 use native.Mathlib.Omega.{arith}
 use lib.ListN.{length}
 use lib.Seq.{sets}
-use Rattle.oplist.specs.Ops.{ops_of}
 use Rattle.print_rules.proofs.PrintLaws.{length_step, text_turn, text_done}
 use Rattle.print.proofs.put_text.Goals as goal
 
 pub put_op-at-requires : goal.put_op-at-requires
-put_op-at-requires c =
-    let xs = ops_of c.args.words.now c.args.rec.now c.args.list in
-    let n = length_step xs c.loop-i.i c.op_at.result c.op_at.ensures (omega (arith, c.count-count.ensures)) in
+put_op-at-requires g c =
+    let xs = g.L.OpList.ops c.args.list in
+    let n = length_step xs c.loop-i.i c.op.result c.op.ensures (omega arith) in
     omega (arith, c.loop-i.invariant)
 
 pub loop-i-preserved : goal.loop-i-preserved
-loop-i-preserved c =
-    let xs = ops_of c.args.words.now c.args.rec.now c.args.list in
-    let h : c.loop-i.i < length xs = omega (arith, c.count-count.ensures) in
-    let n = length_step xs c.loop-i.i c.op_at.result c.op_at.ensures h in (
-      omega arith,
-      c.put_op-at.auto.out ∙ c.loop-i.invariant.1,
+loop-i-preserved g c =
+    let xs = g.L.OpList.ops c.args.list in
+    let h : c.loop-i.i < length xs = omega arith in
+    let n = length_step xs c.loop-i.i c.op.result c.op.ensures h in (
+      c.put_op-at.auto.out ∙ c.loop-i.invariant.0,
       omega (arith, c.put_op-at.ensures.value, c.loop-i.invariant),
-      cc (text_turn xs c.loop-i.i c.op_at.result c.op_at.ensures h c.loop-i.out c.loop-i.at, c.put_op-at.ensures.value, c.put_op-at.ensures.out_after, c.loop-i.invariant.3),
+      cc (text_turn xs c.loop-i.i c.op.result c.op.ensures h c.loop-i.out c.loop-i.at, c.put_op-at.ensures.value, c.put_op-at.ensures.out_after, c.loop-i.invariant.2),
     )
 
 pub returns : goal.returns
-returns c =
-    let xs = ops_of c.args.words.now c.args.rec.now c.args.list in
-    ap (sets c.loop-i.out c.loop-i.at) (sym (text_done xs c.loop-i.i (omega (arith, c.count-count.ensures)))) ∙ c.loop-i.invariant.3
+returns g c =
+    let xs = g.L.OpList.ops c.args.list in
+    ap (sets c.loop-i.out c.loop-i.at) (sym (text_done xs c.loop-i.i (omega arith))) ∙ c.loop-i.invariant.2

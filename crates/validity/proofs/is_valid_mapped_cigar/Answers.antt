@@ -1,18 +1,22 @@
 -- The walk decides, over the whole list.
-use mathlib.Core.Path.{ap, ◌∙◌}
-use Rattle.std.specs.Prelude.{Ok}
-use borrow.Author.Tests.{lt-ltb, le-ltb}
+use Rattle.std.proofs.Common.{◌≡◌, sym, ap, ◌∙◌, Some, None, Ok, Err, rules, arith, lt-ltb, le-ltb}
+use Rattle.std.proofs.lemmas.Option.{MatchOption-at_some, MatchOption-at_none}
+use Rattle.answers.specs.declared.Refusal.TheVariants.{TooManyOps}
 use Rattle.oplist.specs.Ops.{most_ops}
 use Rattle.text_rules.specs.Valid.{valid_mapped}
 use Rattle.validity.specs.Validity.{validity}
 use Rattle.validity.proofs.is_valid_mapped_cigar.Goals as goal
 
-pub returns-then-ops-gt-MOST_OPS : goal.returns-then-ops-gt-MOST_OPS
+pub returns-in_err-list : goal.returns-in_err-list
 unfolding validity
-returns-then-ops-gt-MOST_OPS c =
-    rw (lt-ltb most_ops _ c.if-ops-gt-MOST_OPS.true)
+returns-in_err-list c =
+    let none : c.new.result ≡ None = grind arith in
+    let passed : c.from_residual.result ≡ Err TooManyOps = search rules in
+    passed ∙ sym (simp (lt-ltb most_ops _ (MatchOption-at_none _ _ none c.new.ensures)))
 
 pub returns : goal.returns
 unfolding validity
 returns c =
-    rw (le-ltb most_ops _ c.if-ops-gt-MOST_OPS.false) (ap Ok (c.valid.ensures ∙ ap valid_mapped (c.lent-list.ensures _)))
+    let some : c.new.result ≡ Some c.in_ok-list.list = grind arith in
+    let l = MatchOption-at_some _ _ _ some c.new.ensures in
+    rw (le-ltb most_ops _ l.0) (ap Ok (c.valid.ensures ∙ ap valid_mapped l.1))
