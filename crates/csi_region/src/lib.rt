@@ -7,30 +7,11 @@ ghost use Rattle.csi_rules.specs.Csi.{served, inside, region_of};
 use answers::{Answer, Refusal};
 use csi_rules::Region;
 
-fn power(k: u32) -> u64
-    requires { k < 64 }
-    ensures { result ≡ 2 ^ k }
-{
-    1u64 << k
-}
-
 // Min_shift 10 to 20 and depth 1 to 8.
 fn is_served(shift: u32, depth: u32) -> bool
     ensures { result ≡ served shift depth }
 {
-    if shift < 10 {
-        return false;
-    }
-    if 20 < shift {
-        return false;
-    }
-    if depth < 1 {
-        return false;
-    }
-    if 8 < depth {
-        return false;
-    }
-    true
+    (10..=20).contains(&shift) && (1..=8).contains(&depth)
 }
 
 // 0 ≤ beg < end ≤ 2^(shift + 3 * depth).
@@ -38,16 +19,7 @@ fn is_inside(beg: i64, end: i64, shift: u32, depth: u32) -> bool
     requires { shift + 3 * depth < 64 }
     ensures { result ≡ inside shift depth beg end }
 {
-    if beg < 0 {
-        return false;
-    }
-    if end <= beg {
-        return false;
-    }
-    if power(shift + 3 * depth) < signed::natural64(end) {
-        return false;
-    }
-    true
+    0 <= beg && beg < end && signed::natural64(end) <= 1u64 << (shift + 3 * depth)
 }
 
 // The region's first and last place. Refusals 17 and 18.
@@ -60,5 +32,8 @@ pub fn region_of(beg: i64, end: i64, shift: u32, depth: u32) -> Answer<Region>
     if !is_inside(beg, end, shift, depth) {
         return Err(Refusal::BadRegion);
     }
-    Ok(Region { first: signed::natural64(beg), last: signed::natural64(end) - 1 })
+    Ok(Region {
+        first: signed::natural64(beg),
+        last: signed::natural64(end) - 1,
+    })
 }

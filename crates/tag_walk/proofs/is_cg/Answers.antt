@@ -13,8 +13,8 @@ unfolding is_cg tag_at
 returns-else-b-at-eq67 c =
     simp (byte c.args.b.now c.args.at 0 c.args.at (omega arith), ne_eqb _ 67 c.if-b-at-eq67.false)
 
-pub bounds-b-at-2 : goal.bounds-b-at-2
-bounds-b-at-2 c =
+pub bounds-b-at-then-b-at-eq67 : goal.bounds-b-at-then-b-at-eq67
+bounds-b-at-then-b-at-eq67 c =
     let w = whole (drop c.args.at c.args.b.now) c.requires.nonzero in
     omega (arith, w.0, c.requires.b_in_bounds)
 
