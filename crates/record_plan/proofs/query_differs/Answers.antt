@@ -1,19 +1,12 @@
--- By the tests.
+-- By the test.
 use borrow.Author.Tests.{eq-eqb, ne_eqb}
 use Rattle.record_rules.specs.Clipping.{differs}
 use Rattle.record_plan.proofs.query_differs.Goals as goal
 
-pub returns-then-len-eq0 : goal.returns-then-len-eq0
+pub returns-then-len-ne0 : goal.returns-then-len-ne0
 unfolding differs
-returns-then-len-eq0 c =
-    simp (eq-eqb _ _ c.if-len-eq0.true)
+returns-then-len-ne0 c = simp (ne_eqb _ _ c.if-len-ne0.true)
 
-pub returns-then-query-len : goal.returns-then-query-len
+pub returns-else-len-ne0 : goal.returns-else-len-ne0
 unfolding differs
-returns-then-query-len c =
-    simp (ne_eqb _ _ c.if-len-eq0.false, eq-eqb _ _ c.if-query-len.true)
-
-pub returns : goal.returns
-unfolding differs
-returns c =
-    simp (ne_eqb _ _ c.if-len-eq0.false, ne_eqb _ _ c.if-query-len.false)
+returns-else-len-ne0 c = simp (eq-eqb _ _ c.if-len-ne0.false)
