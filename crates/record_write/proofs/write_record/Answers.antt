@@ -17,9 +17,9 @@ put_ops-requires-clause-skip_in_bounds c =
 
 pub put_tail-requires-clause-rec_in_bounds_2 : goal.put_tail-requires-clause-rec_in_bounds_2
 put_tail-requires-clause-rec_in_bounds_2 c =
-    tail_room c.args.rec.now c.args.start c.args.p c.requires.fits c.args.out.now _ _ (32 + c.u8_at.result) c.u16_at-n.result (omega arith) (omega arith) c.requires.p_in_bounds c.put_front.ensures c.put_ops.ensures
+    tail_room c.args.rec.now c.args.start c.args.p c.requires.fits c.args.out.now _ _ (32 + c.u8_at.result) c.u16_at-n.result (omega arith) (omega arith) c.requires.p_in_bounds (c.put_front.ensures c.args.start) c.put_ops.ensures
 
 pub returns : goal.returns
 returns c =
     record_is c.args.rec.now c.args.start c.args.p c.requires.fits c.args.out.now _ _ _ (32 + c.u8_at.result) c.u16_at-n.result (omega arith) (omega arith) c.requires.p_in_bounds
-    c.put_front.ensures c.put_ops.ensures c.put_tail.ensures
+    (c.put_front.ensures c.args.start) c.put_ops.ensures c.put_tail.ensures
