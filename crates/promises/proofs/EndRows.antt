@@ -27,6 +27,7 @@ use Rattle.promises.specs.Table.{◌when◌, only, Gives}
 use Rattle.promises.specs.Rows.{over, refs_of, end_sums, place_rows, unclipped_rows, unclipped_from_rows, start_rows, end_rows, bad_start, lookup_rows}
 use Rattle.promises.proofs.RowLaws.{number_alone, answer, row, row-past, row_either, row_unless, row_sum}
 use Rattle.promises.proofs.LengthRows.{passes_on, length-rows}
+use Rattle.ends_rules.specs.declared.Unclipped.TheVariants as Unclipped
 
 module _ {A : Type 0} (tell : A → Told) (to : Option ℤ → A) (stops : tell (to None) ≡ number_alone 4) (goes : (z : ℤ) → (tell (to (Some z))).number ≡ 0) where
   -- the sums of an unclipped end

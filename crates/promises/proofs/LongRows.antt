@@ -32,6 +32,7 @@ use Rattle.promises.proofs.RowLaws.{number_alone, refusal, answer, like, row, ro
 use Rattle.promises.proofs.LeafRows.{total_rows, reference_length_up_to, query-length-up-to}
 use Rattle.promises.proofs.EndRows.{unclipped-by, read_pos_up_to}
 use Rattle.promises.proofs.ClipRows.{into_rows, list_rows, uncounted_rows}
+use Rattle.ends_rules.specs.declared.Unclipped.TheVariants as Unclipped
 
 -- ---- the reader
 

@@ -5,12 +5,12 @@ ghost use Rattle.std.specs.Prelude.{◌≡◌, cond, [], ◌∷◌, ◌+◌, ◌
 ghost use Rattle.lists.specs.Lists.{facing, sum_of};
 ghost use Rattle.sam.specs.Op.{query_len};
 ghost use Rattle.sam.specs.Record.{seq_len_of, op_count_of, tags_start};
-ghost use Rattle.oplist.specs.Ops.{ops_of, record_ops};
+ghost use Rattle.oplist.specs.Ops.{record_ops};
 ghost use Rattle.record_rules.specs.Clipping.{new_len, first_kept};
 ghost use Rattle.record_rules.specs.InnerPlan.{planned_ops};
 
 use clip_rules::Plan;
-use oplist::Ops;
+use oplist::{Facing, OpList};
 
 // How many ops a plan leaves of a record's.
 pub fn count_of(bam: &[u8], p: Plan) -> u32
@@ -22,15 +22,14 @@ pub fn count_of(bam: &[u8], p: Plan) -> u32
     (p.heads + (little_endian::u16_at(bam, 12) as usize - p.skip)) as u32
 }
 
-// The query bases of the first n ops, as seen from the chosen end.
-fn first_query(words: &[u32], rec: &[u8], list: Ops, start: bool, n: usize) -> u64
-    requires { n ≤ length (ops_of words.now rec.now list) }
-    ensures { (result ≡ sum_of query_len (take n (facing start (ops_of words.now rec.now list)))) × (result ≤ 1152921504606846976) }
+// The query bases of the first n ops of a list.
+fn first_query<L: OpList>(list: L, n: usize) -> u64
+    requires { n ≤ length (L.ops list) }
+    ensures { (result ≡ sum_of query_len (take n (L.ops list))) × (result ≤ 1152921504606846976) }
 {
-    let count = oplist::count(words, rec, list);
     let mut query: u64 = 0;
     for i in 0..n {
-        query += ops::query_len(oplist::op_from(words, rec, list, count, start, i));
+        query += ops::query_len(list.op(i));
     }
     query
 }
@@ -56,7 +55,7 @@ pub fn new_len(bam: &[u8], p: Plan, start: bool) -> u32
     requires skip_bound { p.skip ≤ op_count_of bam.now }
     ensures { (result ≡ new_len bam.now (planned_ops start (record_ops bam.now) p)) × (result ≤ seq_len_of bam.now) }
 {
-    let gone = first_query(&[], bam, oplist::of_record(bam), start, p.skip);
+    let gone = first_query(Facing::new(oplist::of_record(bam), start), p.skip);
     let put = heads_query(p.heads, p.first, p.second);
     let len = little_endian::u32_at(bam, 16) as u64;
     len.saturating_sub(gone.saturating_sub(put)) as u32

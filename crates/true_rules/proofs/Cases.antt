@@ -16,6 +16,7 @@ use Rattle.ends_rules.specs.Ends.{unclipped_by, unclipped_of}
 use Rattle.ends_rules.proofs.CaseLaws as Own
 use Rattle.clip_rules.specs.Answer.{clipped_into, clipped_record}
 use Rattle.true_rules.specs.True.{stop_kept, true_unclipped, true_clipped, HandsBack}
+use Rattle.ends_rules.specs.declared.Unclipped.TheVariants as Unclipped
 
 pub is_short : (b : List ℕ) → length b < 32 → Err ShortRecord ≡ true_unclipped b
 unfolding true_unclipped
