@@ -48,9 +48,8 @@ fn take_op(seen: SoFar, len: u32, code: u32) -> Option<SoFar>
     requires { (seen.n < 18446744073709551615) × (seen.refs ≤ 2147483647) × (len ≤ 268435455) × (code < 16) }
     ensures { result ≡ took_of seen len (code_class code) }
 {
-    let p = seen.stage;
-    let q = validity::step(p, code);
-    if validity::is_wrong(q) {
+    let q = seen.stage.step(code);
+    if q.is_wrong() {
         return None;
     }
     Some(SoFar {
@@ -64,8 +63,7 @@ fn ending(seen: SoFar) -> Option<Measured>
     requires { seen.refs ≤ 2147483647 }
     ensures { result ≡ ending_of seen }
 {
-    let p = seen.stage;
-    if validity::accept(p) {
+    if seen.stage.accept() {
         return Some(Measured { ops: seen.n, refs: signed::of_bits(seen.refs) });
     }
     None

@@ -67,8 +67,8 @@ fn stretch(text: &[u8], seen: Reached, out: &mut [u32]) -> Option<Reached>
         else {
             return None;
         };
-        p = validity::step(p, code);
-        if validity::is_wrong(p) {
+        p = p.step(code);
+        if p.is_wrong() {
             return None;
         }
         put(out, n, len * 16 + code);
@@ -120,8 +120,7 @@ pub fn read_ops(text: &[u8], out: &mut [u32]) -> Option<usize>
         };
         seen = run_on(text, after, digits_of(after.at - seen.at), out);
     }
-    let p = seen.stage;
-    if validity::accept(p) {
+    if seen.stage.accept() {
         return Some(seen.n);
     }
     None
