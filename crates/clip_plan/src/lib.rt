@@ -5,87 +5,64 @@ ghost use Rattle.std.specs.Prelude.{◌≡◌, true, List, ℕ, ◌+◌, ◌-◌
 ghost use Rattle.lists.specs.Lists.{sum_of};
 ghost use Rattle.sam.specs.Op.{len_of, code_of, op_of};
 ghost use Rattle.ops.specs.Ops.{read_len};
-ghost use Rattle.oplist.specs.Ops.{ops_of};
 ghost use Rattle.clip_rules.specs.Clipping.{upgraded};
 ghost use Rattle.clip_rules.specs.InnerPlan.{MadeIs, PlannedIs, cut_of};
 
 use answers::{Answer, Refusal};
 use clip_rules::Plan;
-use oplist::Ops;
+use oplist::{Facing, OpList};
 
 // The longest total that clipping takes: 28 bits, as one op holds.
 pub const MOST_BASES: u64 = 268435455;
 
 // What a clip does, as seen from the chosen end, to an op list of at most `limit` ops. Refusals 3, 8, 19. Where `quick` is true a clip that ends within the first op is looked for
 // at once, since most clips of a read do; where lists begin with any op the processor does not foresee it, and looking costs more than it saves. No answer rests on it.
-pub fn plan_clip(
-    words: &[u32],
-    rec: &[u8],
-    list: Ops,
+pub fn plan_clip<L: OpList>(
+    list: L,
     limit: usize,
     amount: u64,
     start: bool,
     quick: bool,
 ) -> Answer<Plan>
-    ensures { PlannedIs limit (ops_of words.now rec.now list) amount start result }
+    ensures { PlannedIs limit (L.ops list) amount start result }
 {
-    if limit < oplist::count(words, rec, list) {
+    if limit < list.count() {
         return Err(Refusal::TooManyOps);
     }
-    if is_too_long(words, rec, list) {
+    if is_too_long(list) {
         return Err(Refusal::TooLong);
     }
-    make_plan(words, rec, list, amount, start, quick)
+    make_plan(list, amount, start, quick)
 }
 
 // Whether the lengths sum to more than clipping takes. The longest length that all ops' bits could make bounds the sum, and costs less to find.
-fn is_too_long(words: &[u32], rec: &[u8], list: Ops) -> bool
-    ensures { result ≡ ltb 268435455 (sum_of len_of (ops_of words.now rec.now list)) }
+fn is_too_long<L: OpList>(list: L) -> bool
+    ensures { result ≡ ltb 268435455 (sum_of len_of (L.ops list)) }
 {
-    let n = oplist::count(words, rec, list) as u64;
-    let most = ops::length_of(all_bits(words, rec, list));
-    if n * most <= MOST_BASES {
-        return false;
-    }
-    if MOST_BASES < total(words, rec, list) {
-        return true;
-    }
-    false
+    let most = ops::length_of(all_bits(list));
+    MOST_BASES < list.count() as u64 * most && MOST_BASES < total(list)
 }
 
 // The bits that any op has.
-fn all_bits(words: &[u32], rec: &[u8], list: Ops) -> u32
-    ensures { sum_of len_of (ops_of words.now rec.now list) ≤ length (ops_of words.now rec.now list) * (result / 16) }
+fn all_bits<L: OpList>(list: L) -> u32
+    ensures { sum_of len_of (L.ops list) ≤ length (L.ops list) * (result / 16) }
 {
-    let n = oplist::count(words, rec, list);
     let mut bits: u32 = 0;
-    let mut i: usize = 0;
-    while i < n {
-        bits = bits | oplist::op_at(words, rec, list, i);
-        i += 1;
+    for i in 0..list.count() {
+        bits |= list.op(i);
     }
     bits
 }
 
 // The sum of the lengths of all ops.
-fn total(words: &[u32], rec: &[u8], list: Ops) -> u64
-    ensures { result ≡ sum_of len_of (ops_of words.now rec.now list) }
+fn total<L: OpList>(list: L) -> u64
+    ensures { result ≡ sum_of len_of (L.ops list) }
 {
-    let n = oplist::count(words, rec, list);
     let mut sum: u64 = 0;
-    let mut i: usize = 0;
-    while i < n {
-        sum += ops::length_of(oplist::op_at(words, rec, list, i));
-        i += 1;
+    for i in 0..list.count() {
+        sum += ops::length_of(list.op(i));
     }
     sum
-}
-
-// a - b, or 0 where that is below 0.
-fn saturating_sub(a: u64, b: u64) -> u64
-    ensures { result ≡ a - b }
-{
-    if b < a { a - b } else { 0 }
 }
 
 // An amount within the clips, of which h are hard and then s soft.
@@ -94,10 +71,10 @@ fn upgrade(h: u64, s: u64, amount: u64, skip: usize) -> Plan
     ensures by_index { (xs : List ℕ) → cut_of xs result.skip result.heads result.first result.second result.lost ≡ upgraded h s amount (drop skip xs) }
     ensures skip_value { (result.skip ≡ skip) × (result.heads ≤ 2) }
 {
-    let u = saturating_sub(amount, h);
+    let u = amount.saturating_sub(h);
     if s <= u {
         return Plan {
-            skip: skip,
+            skip,
             heads: 1,
             first: clip_taking::encode_op(5, h + s),
             second: 0,
@@ -105,7 +82,7 @@ fn upgrade(h: u64, s: u64, amount: u64, skip: usize) -> Plan
         };
     }
     Plan {
-        skip: skip,
+        skip,
         heads: 2,
         first: clip_taking::encode_op(5, h + u),
         second: clip_taking::encode_op(4, s - u),
@@ -130,16 +107,7 @@ fn unchanged() -> Plan
 fn ends_within(quick: bool, op: u32, amount: u64) -> bool
     ensures { result ≡ true → (code_of op ≡ 1 → ⊥) × (amount < read_len op) }
 {
-    if !quick {
-        return false;
-    }
-    if op % 16 == 1 {
-        return false;
-    }
-    if ops::read_len(op) <= amount {
-        return false;
-    }
-    true
+    quick && op % 16 != 1 && amount < ops::read_len(op)
 }
 
 // A clip that ends within the first op: one H, and what is left of the op.
@@ -159,28 +127,28 @@ fn cut_first(op: u32, amount: u64) -> Plan
 
 // The plan of a list that is not too long. A clip that ends within the first op may be made at once, and any other goes through the runs of clips and takes bases. Refusal 19: the taking goes through
 // every op inside, so it falls short exactly where the amount is beyond what can be clipped.
-fn make_plan(words: &[u32], rec: &[u8], list: Ops, amount: u64, start: bool, quick: bool) -> Answer<Plan>
-    requires { sum_of len_of (ops_of words.now rec.now list) < 2 ^ 28 }
-    ensures { MadeIs (ops_of words.now rec.now list) amount start result }
+fn make_plan<L: OpList>(list: L, amount: u64, start: bool, quick: bool) -> Answer<Plan>
+    requires { sum_of len_of (L.ops list) < 2 ^ 28 }
+    ensures { MadeIs (L.ops list) amount start result }
 {
     if amount == 0 {
         return Ok(unchanged());
     }
-    let count = oplist::count(words, rec, list);
-    if count == 0 {
+    if list.count() == 0 {
         return Ok(unchanged());
     }
-    let op = oplist::op_from(words, rec, list, count, start, 0);
+    let seen = Facing::new(list, start);
+    let op = seen.op(0);
     if ends_within(quick, op, amount) {
         return Ok(cut_first(op, amount));
     }
-    let clips = clip_runs::leading_clips(words, rec, list, start);
-    let outer = clip_runs::outer_runs(words, rec, list, start);
+    let clips = clip_runs::leading_clips(seen);
+    let outer = clip_runs::outer_runs(seen);
     if amount <= clips {
         return Ok(upgrade(outer.hard, outer.soft, amount, outer.next));
     }
     let n = amount - clips;
-    let t = clip_taking::take_bases(words, rec, list, start, outer.next, n);
+    let t = clip_taking::take_bases(seen, outer.next, n);
     if t.bases < n {
         return Err(Refusal::AmountBeyond);
     }
