@@ -14,24 +14,26 @@ use Rattle.signed.specs.Whole.{natural}
 use Rattle.answers.specs.Settled.{keeps}
 use Rattle.answers.specs.declared.Refusal.TheVariants.{NoRoom}
 use Rattle.answers.proofs.Unique.{outcome}
-use Rattle.csi_rules.specs.Csi.{served, inside, region_of, filled}
+use Rattle.csi_rules.specs.declared.Region.{Region}
+use Rattle.csi_rules.specs.Csi.{served, inside, region_of, last_place, filled}
 use Rattle.csi_rules.proofs.Ranges.{levels, within}
 use Rattle.csi_rules.proofs.Cases.{levels_first, region_next, taken}
 use Rattle.csi_levels.specs.InnerLevels.{Sound}
 
 -- a region that is taken
-pub found : (beg end : ℤ) (s d first last : ℕ) → region_of beg end s d ≡ Ok (record { first = first; last = last }) → Sound d s first last
-found beg end s d first last e = go (served s d) refl (inside s d beg end) refl
+pub found : (beg end : ℤ) (s d : ℕ) (r : Region) → region_of beg end s d ≡ Ok r → Sound d s r.first r.last
+found beg end s d r e = go (served s d) refl (inside s d beg end) refl
   where
-    go : (t : Bool) → served s d ≡ t → (u : Bool) → inside s d beg end ≡ u → Sound d s first last
+    go : (t : Bool) → served s d ≡ t → (u : Bool) → inside s d beg end ≡ u → Sound d s r.first r.last
     go true p true q =
         let f = sym (taken beg end s d p q) ∙ e in
-        let x : natural beg ≡ first = cc in
-        let y : natural end - 1 ≡ last = cc in
+        let g : ◌≡◌ {A = Region} (record { first = natural beg; last = last_place end }) r = cc in
+        let x : natural beg ≡ r.first = ap (λ (k : Region). k.first) g in
+        let y : natural end - 1 ≡ r.last = ap (λ (k : Region). k.last) g in
         let v = levels s d p in
         let w = within s d beg end q in
         let k : s + 3 * d ≡ 3 * d + s = omega arith in
-        let g : natural end ≤ 2 ^ (3 * d + s) = subst (λ (n : ℕ). natural end ≤ 2 ^ n) k w.1 in
+        let t : natural end ≤ 2 ^ (3 * d + s) = subst (λ (n : ℕ). natural end ≤ 2 ^ n) k w.1 in
         record { few = v.shallow; bits = omega arith; order = omega arith; whole = omega arith }
     go true p false q = let f = sym (region_next beg end s d p q) ∙ e in never cc
     go false p u q = let f = sym (levels_first beg end s d p) ∙ e in never cc

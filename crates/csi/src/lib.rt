@@ -12,25 +12,19 @@ use csi_rules::Region;
 pub fn csi_reg2bin(beg: i64, end: i64, min_shift: u32, depth: u32) -> Answer<u32>
     ensures { result ≡ csi_bin beg end min_shift depth }
 {
-    match csi_region::region_of(beg, end, min_shift, depth) {
-        Ok(Region { first, last }) => Ok(csi_levels::bin_up(depth, min_shift, first, last)),
-        Err(why) => Err(why),
-    }
+    let Region { first, last } = csi_region::region_of(beg, end, min_shift, depth)?;
+    Ok(csi_levels::bin_up(depth, min_shift, first, last))
 }
 
 // All bins that may overlap the region, into the first places of out; how many they are. Refusals 17, 18 and 6.
 pub fn csi_reg2bins(beg: i64, end: i64, min_shift: u32, depth: u32, out: &mut [u32]) -> Answer<u64>
     ensures { Settled (csi_bins beg end min_shift depth out.old) result out.new }
 {
-    match csi_region::region_of(beg, end, min_shift, depth) {
-        Ok(Region { first, last }) => {
-            let n = csi_levels::count_up(depth, min_shift, first, last);
-            if out.len() < n {
-                return Err(Refusal::NoRoom);
-            }
-            csi_levels::put_up(depth, min_shift, first, last, out);
-            Ok(n as u64)
-        }
-        Err(why) => Err(why),
+    let Region { first, last } = csi_region::region_of(beg, end, min_shift, depth)?;
+    let n = csi_levels::count_up(depth, min_shift, first, last);
+    if out.len() < n {
+        return Err(Refusal::NoRoom);
     }
+    csi_levels::put_up(depth, min_shift, first, last, out);
+    Ok(n as u64)
 }

@@ -45,10 +45,8 @@ fn put_numbers(bin: u32, n: usize, out: &mut [u32], at: usize)
     requires { (at + n ≤ length out.old) × (bin + n < 4294967296) }
     ensures { out.new ≡ splice out.old at (numbers_from bin n) }
 {
-    let mut j: usize = 0;
-    while j < n {
+    for j in 0..n {
         out[at + j] = bin + j as u32;
-        j += 1;
     }
 }
 
