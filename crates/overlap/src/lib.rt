@@ -18,7 +18,10 @@ pub fn placed_pair(fr: bool, bam: &[u8], mate: Pos0) -> Answer<Option<PairPlaces
     }
     let own = ends::plus_one(fields::own_place(bam)).ok_or(Refusal::Overflow)?;
     let other = ends::plus_one(mate).ok_or(Refusal::Overflow)?;
-    Ok(Some(PairPlaces { own: Pos1(own), mate: Pos1(other) }))
+    Ok(Some(PairPlaces {
+        own: Pos1(own),
+        mate: Pos1(other),
+    }))
 }
 
 // The overhang of a record that lies so to its mate; 0 of no FR pair.
@@ -30,7 +33,13 @@ pub fn bases_at<L: OpList>(placed: Option<PairPlaces>, bam: &[u8], mate_list: L)
         return 0;
     };
     let reverse = fields::is_reverse(little_endian::u16_at(bam, 14));
-    overhang::overhang(reverse, places.own, oplist::of_record(bam), places.mate, mate_list)
+    overhang::overhang(
+        reverse,
+        places.own,
+        oplist::of_record(bam),
+        places.mate,
+        mate_list,
+    )
 }
 
 // The overhang by the answer of the pair test. Refusal 4.

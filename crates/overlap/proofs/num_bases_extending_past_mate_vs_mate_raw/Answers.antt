@@ -1,6 +1,5 @@
 -- One test after another, and then the overhang by the pair test.
 use mathlib.Core.Path.{◌≡◌, refl, sym, ◌∙◌}
-use mathlib.Core.List.{[]}
 use Rattle.std.specs.Prelude.{Err, Ok}
 use borrow.Author.Rules.{rules}
 use Rattle.overlap_rules.proofs.CallLaws.{record_short, mate_short, record_is}
@@ -24,4 +23,4 @@ pub returns : goal.returns
 returns c =
     let told : c.primary_fr.result ≡ Ok c.in_ok-fr.fr = search rules in
     record_is c.args.rec.now c.args.mate.now c.if-rec-lt32.false c.if-mate-lt32.false (sym told ∙ c.primary_fr.ensures) c.own_place.ensures
-    (c.of_record.ensures.by_index []) c.pair_overhang.ensures
+    c.of_record.ensures c.pair_overhang.ensures

@@ -5,7 +5,6 @@ use lib.IntN.{ℤ}
 use mir.Syntax.{w32}
 use mir.Val.{to_z, of_z}
 use Rattle.answers.specs.declared.Refusal.TheVariants.{Overflow}
-use Rattle.sam.specs.Record.{pos_of}
 use Rattle.ends_rules.specs.Ends.{plus_one}
 use Rattle.overlap_rules.proofs.CallLaws.{apart, together}
 use borrow.Author.Rules.{rules}
