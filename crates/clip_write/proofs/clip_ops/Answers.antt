@@ -7,6 +7,8 @@ use Prim.Native.Nat.{ℕ}
 use Rattle.answers.proofs.Unique.{settled}
 use Rattle.clip_rules.specs.InnerPlan.{PlannedIs}
 use Rattle.clip_rules.proofs.AnswerLaws.{within, no_room, plan_length, done-start, done_end, unplanned}
+use Rattle.std.specs.Prelude.{Err}
+use Rattle.std.proofs.Common.{◌≡◌, rules}
 use Rattle.clip_write.proofs.clip_ops.Goals as goal
 
 pub returns-then-out-n : goal.returns-then-out-n
@@ -25,8 +27,8 @@ returns-then-start g c =
     rw (within (g.L.OpList.ops c.args.list) c.args.amount c.args.start c.args.out.now made.0)
     (done-start (g.L.OpList.ops c.args.list) c.args.start made.2.1 c.args.out.now _ _ made.1 made.2.0 c.if-out-n.false (ap (λ (k : ℕ). c.in_ok-p.p.heads + (k - c.in_ok-p.p.skip)) c.count.ensures.value) c.if-start.true c.write_start.ensures)
 
-pub returns-else-start : goal.returns-else-start
-returns-else-start g c =
+pub returns : goal.returns
+returns g c =
     let made : PlannedIs c.args.limit (g.L.OpList.ops c.args.list) c.args.amount c.args.start (Ok c.in_ok-p.p) =
     c.in_ok-p.ensures
     in
@@ -35,4 +37,5 @@ returns-else-start g c =
 
 pub returns-in_err-p : goal.returns-in_err-p
 returns-in_err-p g c =
-    settled (unplanned c.args.limit (g.L.OpList.ops c.args.list) c.args.amount c.args.start c.args.out.now c.in_err-p.ensures)
+    let passed : c.from_residual.result ≡ Err c.in_err-p.field-0.0 = search rules in
+    rw passed (settled (unplanned c.args.limit (g.L.OpList.ops c.args.list) c.args.amount c.args.start c.args.out.now c.in_err-p.ensures))
