@@ -80,10 +80,7 @@ fn whole(n: u64) -> Option<i32>
 pub fn start_from(at: i32, clips: u64) -> Option<i32>
     ensures { result ≡ Some at ⊖ summed clips }
 {
-    let Some(n) = whole(clips) else {
-        return None;
-    };
-    signed::checked_sub(at, n)
+    signed::checked_sub(at, whole(clips)?)
 }
 
 // The clips after the last reference op, where the Rust's sum of clips gets so far.
@@ -102,17 +99,7 @@ pub fn end_from(at: i32, w: Tail) -> Option<i32>
     requires { w.clips ≤ w.most }
     ensures { result ≡ Some at ⊕ summed w.refs ⊕ provided (summed w.most) (Some (pos w.clips)) ⊖ Some (pos 1) }
 {
-    let Some(refs) = whole(w.refs) else {
-        return None;
-    };
-    let Some(end) = signed::checked_add(at, refs) else {
-        return None;
-    };
-    let Some(clips) = trailing(w.clips, w.most) else {
-        return None;
-    };
-    let Some(clipped) = signed::checked_add(end, clips) else {
-        return None;
-    };
+    let end = signed::checked_add(at, whole(w.refs)?)?;
+    let clipped = signed::checked_add(end, trailing(w.clips, w.most)?)?;
     signed::checked_sub(clipped, 1)
 }

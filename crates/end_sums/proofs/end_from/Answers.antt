@@ -1,87 +1,65 @@
--- The chain of sums, each by `signed` where both operands are numbers.
-use mathlib.Core.Path.{◌≡◌, ap, sym, ◌∙◌}
-use Rattle.std.specs.Prelude.{Option, Some, ℤ}
-use lib.IntN.{pos}
-use mir.Syntax.{w32}
-use mir.Val.{to_z, of_z}
-use Rattle.ends_rules.specs.declared.Tail.{Tail}
-use Rattle.ends_rules.specs.Sums.{both, ◌⊕◌, ◌⊖◌, summed}
-use Rattle.ends_rules.specs.Ends.{provided}
-use borrow.Author.Rules.{rules}
+-- The sums one by one, each where those before it are there.
+use Rattle.std.proofs.Common.{◌≡◌, sym, ◌∙◌, Some, None, rules, w32, to_z, of_z}
+use Rattle.end_sums.proofs.Steps.{no_refs, no_end, no_clips, no_clipped, clipped}
 use Rattle.end_sums.proofs.end_from.Goals as goal
 
-abbrev clips-of : Tail → Option ℤ
-clips-of w = provided (summed w.most) (Some (pos w.clips))
+pub returns-in_err-whole : goal.returns-in_err-whole
+returns-in_err-whole c =
+    let none : c.whole.result ≡ None = search rules in
+    let passed : c.from_residual.result ≡ None = search rules in
+    passed ∙ no_refs c.args.at _ _ (sym c.whole.ensures ∙ none)
 
-abbrev last-of : Option ℤ → Option ℤ
-last-of s = s ⊖ Some (pos 1)
-
-abbrev from_end : Tail → Option ℤ → Option ℤ
-from_end w s = last-of (s ⊕ clips-of w)
-
-pub returns-in_default : goal.returns-in_default
-unfolding both
-returns-in_default c =
-    sym (ap (λ (s : Option ℤ). from_end c.args.w (Some c.args.at ⊕ s)) (sym c.whole.ensures ∙ c.in_default.is))
-
-pub returns-in_default-checked_add : goal.returns-in_default-checked_add
-unfolding both
-returns-in_default-checked_add c =
-    let at-end : from_end c.args.w (Some c.args.at ⊕ summed c.args.w.refs) ≡ from_end c.args.w c.checked_add.result =
+pub returns-in_err-end : goal.returns-in_err-end
+returns-in_err-end c =
+    let r = c.in_ok-whole.field-0 in
+    let refs : c.whole.result ≡ Some r = search rules in
     let x : to_z w32 (of_z w32 c.args.at) ≡ c.args.at = search rules in
-    let y : to_z w32 (of_z w32 c.in-Some.refs) ≡ c.in-Some.refs = search rules in
-    ap (λ (s : Option ℤ). from_end c.args.w (Some c.args.at ⊕ s)) (sym c.whole.ensures ∙ c.in-Some.is)
-    ∙ ap (from_end c.args.w) (sym (simp (x, y) at c.checked_add.ensures))
-    in
-    sym (at-end ∙ ap (from_end c.args.w) c.in_default-checked_add.is)
+    let y : to_z w32 (of_z w32 r) ≡ r = search rules in
+    let none : c.checked_add.result ≡ None = search rules in
+    let passed : c.from_residual-in_err-end.result ≡ None = search rules in
+    passed ∙ no_end c.args.at _ _ r (sym c.whole.ensures ∙ refs) (sym (simp (x, y) at c.checked_add.ensures) ∙ none)
 
-pub returns-in_default-trailing : goal.returns-in_default-trailing
-unfolding both
-returns-in_default-trailing c =
-    let at-end : from_end c.args.w (Some c.args.at ⊕ summed c.args.w.refs) ≡ from_end c.args.w c.checked_add.result =
+pub returns-in_err-trailing : goal.returns-in_err-trailing
+returns-in_err-trailing c =
+    let r = c.in_ok-whole.field-0 in
+    let refs : c.whole.result ≡ Some r = search rules in
     let x : to_z w32 (of_z w32 c.args.at) ≡ c.args.at = search rules in
-    let y : to_z w32 (of_z w32 c.in-Some.refs) ≡ c.in-Some.refs = search rules in
-    ap (λ (s : Option ℤ). from_end c.args.w (Some c.args.at ⊕ s)) (sym c.whole.ensures ∙ c.in-Some.is)
-    ∙ ap (from_end c.args.w) (sym (simp (x, y) at c.checked_add.ensures))
-    in
-    sym (at-end
-    ∙ ap (from_end c.args.w) c.in-Some-checked_add.is
-    ∙ ap (λ (s : Option ℤ). last-of (Some c.in-Some-checked_add.end ⊕ s)) (sym c.trailing.ensures ∙ c.in_default-trailing.is))
+    let y : to_z w32 (of_z w32 r) ≡ r = search rules in
+    let end : c.checked_add.result ≡ Some c.in_ok-end.end = search rules in
+    let none : c.trailing.result ≡ None = search rules in
+    let passed : c.from_residual-in_err-trailing.result ≡ None = search rules in
+    passed ∙ no_clips c.args.at _ _ r (sym c.whole.ensures ∙ refs) _ (sym (simp (x, y) at c.checked_add.ensures) ∙ end) (sym c.trailing.ensures ∙ none)
 
-pub returns-in_default-checked_add-2 : goal.returns-in_default-checked_add-2
-unfolding both
-returns-in_default-checked_add-2 c =
-    let at-end : from_end c.args.w (Some c.args.at ⊕ summed c.args.w.refs) ≡ from_end c.args.w c.checked_add.result =
+pub returns-in_err-clipped : goal.returns-in_err-clipped
+returns-in_err-clipped c =
+    let r = c.in_ok-whole.field-0 in
+    let refs : c.whole.result ≡ Some r = search rules in
     let x : to_z w32 (of_z w32 c.args.at) ≡ c.args.at = search rules in
-    let y : to_z w32 (of_z w32 c.in-Some.refs) ≡ c.in-Some.refs = search rules in
-    ap (λ (s : Option ℤ). from_end c.args.w (Some c.args.at ⊕ s)) (sym c.whole.ensures ∙ c.in-Some.is)
-    ∙ ap (from_end c.args.w) (sym (simp (x, y) at c.checked_add.ensures))
-    in
-    let at-clipped : from_end c.args.w c.checked_add.result ≡ last-of c.checked_add-2.result =
-    let x : to_z w32 (of_z w32 c.in-Some-checked_add.end) ≡ c.in-Some-checked_add.end = search rules in
-    let y : to_z w32 (of_z w32 c.in-Some-trailing.clips) ≡ c.in-Some-trailing.clips = search rules in
-    ap (from_end c.args.w) c.in-Some-checked_add.is
-    ∙ ap (λ (s : Option ℤ). last-of (Some c.in-Some-checked_add.end ⊕ s)) (sym c.trailing.ensures ∙ c.in-Some-trailing.is)
-    ∙ ap last-of (sym (simp (x, y) at c.checked_add-2.ensures))
-    in
-    sym (at-end ∙ at-clipped ∙ ap last-of c.in_default-checked_add-2.is)
+    let y : to_z w32 (of_z w32 r) ≡ r = search rules in
+    let end : c.checked_add.result ≡ Some c.in_ok-end.end = search rules in
+    let k = c.in_ok-trailing.field-0 in
+    let clips : c.trailing.result ≡ Some k = search rules in
+    let z : to_z w32 (of_z w32 c.in_ok-end.end) ≡ c.in_ok-end.end = search rules in
+    let u : to_z w32 (of_z w32 k) ≡ k = search rules in
+    let none : c.checked_add-2.result ≡ None = search rules in
+    let passed : c.from_residual-in_err-clipped.result ≡ None = search rules in
+    passed
+    ∙ no_clipped c.args.at _ _ r (sym c.whole.ensures ∙ refs) _ (sym (simp (x, y) at c.checked_add.ensures) ∙ end) k (sym c.trailing.ensures ∙ clips)
+    (sym (simp (z, u) at c.checked_add-2.ensures) ∙ none)
 
 pub returns : goal.returns
-unfolding both
 returns c =
-    let at-end : from_end c.args.w (Some c.args.at ⊕ summed c.args.w.refs) ≡ from_end c.args.w c.checked_add.result =
+    let r = c.in_ok-whole.field-0 in
+    let refs : c.whole.result ≡ Some r = search rules in
     let x : to_z w32 (of_z w32 c.args.at) ≡ c.args.at = search rules in
-    let y : to_z w32 (of_z w32 c.in-Some.refs) ≡ c.in-Some.refs = search rules in
-    ap (λ (s : Option ℤ). from_end c.args.w (Some c.args.at ⊕ s)) (sym c.whole.ensures ∙ c.in-Some.is)
-    ∙ ap (from_end c.args.w) (sym (simp (x, y) at c.checked_add.ensures))
-    in
-    let at-clipped : from_end c.args.w c.checked_add.result ≡ last-of c.checked_add-2.result =
-    let x : to_z w32 (of_z w32 c.in-Some-checked_add.end) ≡ c.in-Some-checked_add.end = search rules in
-    let y : to_z w32 (of_z w32 c.in-Some-trailing.clips) ≡ c.in-Some-trailing.clips = search rules in
-    ap (from_end c.args.w) c.in-Some-checked_add.is
-    ∙ ap (λ (s : Option ℤ). last-of (Some c.in-Some-checked_add.end ⊕ s)) (sym c.trailing.ensures ∙ c.in-Some-trailing.is)
-    ∙ ap last-of (sym (simp (x, y) at c.checked_add-2.ensures))
-    in
-    let x : to_z w32 (of_z w32 c.in-Some-checked_add-2.clipped) ≡ c.in-Some-checked_add-2.clipped = search rules in
-    simp x at c.checked_sub.ensures
-    ∙ sym (at-end ∙ at-clipped ∙ ap last-of c.in-Some-checked_add-2.is)
+    let y : to_z w32 (of_z w32 r) ≡ r = search rules in
+    let end : c.checked_add.result ≡ Some c.in_ok-end.end = search rules in
+    let k = c.in_ok-trailing.field-0 in
+    let clips : c.trailing.result ≡ Some k = search rules in
+    let z : to_z w32 (of_z w32 c.in_ok-end.end) ≡ c.in_ok-end.end = search rules in
+    let u : to_z w32 (of_z w32 k) ≡ k = search rules in
+    let all : c.checked_add-2.result ≡ Some c.in_ok-clipped.clipped = search rules in
+    let v : to_z w32 (of_z w32 c.in_ok-clipped.clipped) ≡ c.in_ok-clipped.clipped = search rules in
+    (simp v at c.checked_sub.ensures)
+    ∙ clipped c.args.at _ _ r (sym c.whole.ensures ∙ refs) _ (sym (simp (x, y) at c.checked_add.ensures) ∙ end) k (sym c.trailing.ensures ∙ clips) _
+    (sym (simp (z, u) at c.checked_add-2.ensures) ∙ all)
