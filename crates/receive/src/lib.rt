@@ -32,10 +32,8 @@ pub fn check_clipped_end(sent: &[u8], amount: u64, received: &[u8]) -> Answer<Re
 fn check_clipped(sent: &[u8], amount: u64, start: bool, received: &[u8]) -> Answer<Received>
     ensures { result ≡ received_as received.now sent.now (clipped_fate sent.now amount start) }
 {
-    match record_plan::plan_record(&*sent, amount, start) {
-        Ok(p) => weigh(&*received, &*sent, p, start),
-        Err(why) => Err(why),
-    }
+    let p = record_plan::plan_record(&*sent, amount, start)?;
+    weigh(&*received, &*sent, p, start)
 }
 
 // A received record beside the plan of the one that was sent. Refusals 23, 24.

@@ -18,7 +18,7 @@ fn same_front(got: &[u8], rec: &[u8], place: u32) -> bool
     let reference = receive_parts::same_bytes(got, 0, rec, 0, 4);
     let position = little_endian::u32_at(got, 4) == place;
     let name = receive_parts::same_bytes(got, 8, rec, 8, 2);
-    receive_parts::both(reference, receive_parts::both(position, name))
+    reference & position & name
 }
 
 // The bin, or 0.
@@ -27,10 +27,7 @@ fn same_bin(got: &[u8], bin: u32) -> bool
     ensures { result ≡ (same (part got.now 10 2) (uint16 bin) || same (part got.now 10 2) (uint16 0)) }
 {
     let stored = little_endian::u16_at(got, 10);
-    if stored == 0 {
-        return true;
-    }
-    stored == bin % 65536
+    stored == 0 || stored == bin % 65536
 }
 
 // The number of ops, the flags, l_seq, and the mate's fields.
@@ -44,10 +41,7 @@ fn same_back(got: &[u8], rec: &[u8], n: u32, len: u32) -> bool
     let flags = receive_parts::same_bytes(got, 14, rec, 14, 2);
     let bases = little_endian::u32_at(got, 16) == len;
     let mate = receive_parts::same_bytes(got, 20, rec, 20, 12);
-    receive_parts::both(
-        count,
-        receive_parts::both(flags, receive_parts::both(bases, mate)),
-    )
+    count & flags & bases & mate
 }
 
 // The whole header.
@@ -60,5 +54,5 @@ pub fn same_header(got: &[u8], rec: &[u8], p: RecordPlan) -> bool
     let front = same_front(got, rec, signed::bits32(p.place));
     let bin = same_bin(got, p.bin);
     let back = same_back(got, rec, p.n, p.len);
-    receive_parts::both(front, receive_parts::both(bin, back))
+    front & bin & back
 }

@@ -1,7 +1,7 @@
 // Comparing a stretch of a received record with what would be written there: by walks of the shape of those that write. An inner crate of the receiving check.
 #![tactic(auto)]
 
-ghost use Rattle.std.specs.Prelude.{◌≡◌, ◌&&◌, [], ◌∷◌, ◌++◌, reverse, ◌+◌, ◌-◌, ◌*◌, ◌/◌, ◌%◌, ◌≤◌, eqb, length, take, drop};
+ghost use Rattle.std.specs.Prelude.{◌≡◌, [], ◌∷◌, ◌+◌, ◌-◌, ◌*◌, ◌/◌, ◌%◌, ◌≤◌, length, take, drop};
 ghost use Rattle.sam.specs.Bases.{bases_of, packed};
 ghost use Rattle.sam.specs.Record.{ops_in, op_bytes};
 ghost use Rattle.record_rules.specs.InnerPlan.{planned_ops};
@@ -9,33 +9,13 @@ ghost use Rattle.receive_rules.specs.Receiving.{same};
 
 use clip_rules::Plan;
 
-// Whether all was the same so far, and two bytes are.
-fn still(ok: bool, x: u8, y: u8) -> bool
-    ensures { result ≡ (ok && eqb x y) }
-{
-    if ok { x == y } else { false }
-}
-
-// Two tests, of which the second is made whatever the first says: no branch.
-pub fn both(p: bool, q: bool) -> bool
-    ensures { result ≡ (p && q) }
-{
-    if p { q } else { false }
-}
-
-// Whether the n bytes of got from place `at` on are those of rec from place `from` on. All are looked at, so that many are compared at a time.
+// Whether the n bytes of got from place `at` on are those of rec from place `from` on.
 pub fn same_bytes(got: &[u8], at: usize, rec: &[u8], from: usize, n: usize) -> bool
     requires n_in_bounds { at + n ≤ length got.now }
     requires n_in_bounds_2 { from + n ≤ length rec.now }
     ensures { result ≡ same (take n (drop at got.now)) (take n (drop from rec.now)) }
 {
-    let mut ok = true;
-    let mut j: usize = 0;
-    while j < n {
-        ok = still(ok, got[at + j], rec[from + j]);
-        j += 1;
-    }
-    ok
+    got[at..at + n] == rec[from..from + n]
 }
 
 // Whether got from place `at` on, to its end, is rec from place `from` on.
@@ -44,14 +24,10 @@ pub fn same_rest(got: &[u8], at: usize, rec: &[u8], from: usize) -> bool
     requires from_in_bounds { from ≤ length rec.now }
     ensures { result ≡ same (drop at got.now) (drop from rec.now) }
 {
-    let n = rec.len() - from;
-    if got.len() - at != n {
-        return false;
-    }
-    same_bytes(got, at, rec, from, n)
+    got[at..] == rec[from..]
 }
 
-// k bytes of bases from an odd base on.
+// k bytes of bases from an odd base on. All are looked at, with no branch, so that many are compared at a time.
 fn same_shifted(got: &[u8], at: usize, rec: &[u8], area: usize, from: usize, k: usize) -> bool
     requires from_value { from % 2 ≡ 1 }
     requires k_in_bounds { at + k ≤ length got.now }
@@ -60,10 +36,8 @@ fn same_shifted(got: &[u8], at: usize, rec: &[u8], area: usize, from: usize, k: 
 {
     let first = area + from / 2;
     let mut ok = true;
-    let mut j: usize = 0;
-    while j < k {
-        ok = still(ok, got[at + j], record_bases::straddled(rec, first + j));
-        j += 1;
+    for i in 0..k {
+        ok &= got[at + i] == record_bases::straddled(rec, first + i);
     }
     ok
 }
@@ -90,11 +64,7 @@ pub fn same_bases(got: &[u8], at: usize, rec: &[u8], area: usize, from: usize, n
     if n % 2 == 0 {
         return pairs;
     }
-    still(
-        pairs,
-        got[at + n / 2],
-        record_bases::alone(rec, area, from + n - 1),
-    )
+    pairs & (got[at + n / 2] == record_bases::alone(&rec[area..], from + n - 1))
 }
 
 // The first `heads` of two ops.
@@ -115,42 +85,7 @@ fn same_heads(got: &[u8], at: usize, heads: usize, a: u32, b: u32) -> bool
     little_endian::u32_at(got, at + 4) == b
 }
 
-// A clip at the start: the ops put in place, then those from place `skip` on, of n ops from place `area` on.
-fn same_ops_start(got: &[u8], at: usize, rec: &[u8], area: usize, n: usize, p: Plan) -> bool
-    requires heads_bound { p.heads ≤ 2 }
-    requires skip_le_n { p.skip ≤ n }
-    requires n_in_bounds { area + 4 * n ≤ length rec.now }
-    requires skip_in_bounds { at + 4 * (p.heads + (n - p.skip)) ≤ length got.now }
-    ensures { result ≡ same (take (4 * (p.heads + (n - p.skip))) (drop at got.now)) (op_bytes (take p.heads (p.first ∷ (p.second ∷ [])) ++ drop p.skip (ops_in rec.now area n))) }
-{
-    let heads = same_heads(got, at, p.heads, p.first, p.second);
-    let rest = same_bytes(
-        got,
-        at + 4 * p.heads,
-        rec,
-        area + 4 * p.skip,
-        4 * (n - p.skip),
-    );
-    both(heads, rest)
-}
-
-// A clip at the end: the ops but for the last `skip`, then the ops put in place, the first of them last.
-fn same_ops_end(got: &[u8], at: usize, rec: &[u8], area: usize, n: usize, p: Plan) -> bool
-    requires heads_bound { p.heads ≤ 2 }
-    requires skip_le_n { p.skip ≤ n }
-    requires n_in_bounds { area + 4 * n ≤ length rec.now }
-    requires skip_in_bounds { at + 4 * (p.heads + (n - p.skip)) ≤ length got.now }
-    ensures { result ≡ same (take (4 * (p.heads + (n - p.skip))) (drop at got.now)) (op_bytes (reverse (take p.heads (p.first ∷ (p.second ∷ [])) ++ drop p.skip (reverse (ops_in rec.now area n))))) }
-{
-    let kept = 4 * (n - p.skip);
-    let rest = same_bytes(got, at, rec, area, kept);
-    if p.heads == 2 {
-        return both(rest, same_heads(got, at + kept, p.heads, p.second, p.first));
-    }
-    both(rest, same_heads(got, at + kept, p.heads, p.first, p.second))
-}
-
-// Whether got, from place `at` on, holds the ops that a plan leaves, of n ops from place `area` of rec on.
+// Whether got, from place `at` on, holds the ops that a plan leaves, of n ops from place `area` of rec on. At the start those put in place stand first; at the end they stand last, the first of them behind the other.
 pub fn same_ops(
     got: &[u8],
     at: usize,
@@ -166,8 +101,14 @@ pub fn same_ops(
     requires skip_in_bounds { at + 4 * (p.heads + (n - p.skip)) ≤ length got.now }
     ensures { result ≡ same (take (4 * (p.heads + (n - p.skip))) (drop at got.now)) (op_bytes (planned_ops start (ops_in rec.now area n) p)) }
 {
+    let kept = 4 * (n - p.skip);
     if start {
-        return same_ops_start(got, at, rec, area, n, p);
+        let behind = at + 4 * p.heads;
+        return same_heads(got, at, p.heads, p.first, p.second) & same_bytes(got, behind, rec, area + 4 * p.skip, kept);
     }
-    same_ops_end(got, at, rec, area, n, p)
+    let rest = same_bytes(got, at, rec, area, kept);
+    if p.heads == 2 {
+        return rest & same_heads(got, at + kept, p.heads, p.second, p.first);
+    }
+    rest & same_heads(got, at + kept, p.heads, p.first, p.second)
 }

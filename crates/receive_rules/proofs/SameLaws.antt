@@ -9,6 +9,7 @@ use borrow.Author.Tests.{eqb-true, eqb-false, eq-eqb}
 use lib.Dec.{eqb}
 use lib.ListN.{length, get_or, take, drop, length-drop}
 use lib.Seq.{take-add, length-take-le, drop-drop, take-suc}
+use Rattle.std.specs.Cmp.Lexicographic.{pointwise}
 use Rattle.lists.proofs.Absurd.{false_true}
 use Rattle.sam.specs.Record.{le32, uint32}
 use Rattle.receive_rules.specs.Receiving.{same}
@@ -17,6 +18,14 @@ pub same_refl : (xs : List ℕ) → same xs xs ≡ true
 unfolding same
 same_refl [] = refl
 same_refl (x ∷ xs) = simp (eq-eqb x x refl, same_refl xs)
+
+-- what == of two slices answers
+pub pointwise_same : (xs ys : List ℕ) → pointwise eqb xs ys ≡ same xs ys
+unfolding same
+pointwise_same [] [] = refl
+pointwise_same [] (y ∷ ys) = refl
+pointwise_same (x ∷ xs) [] = refl
+pointwise_same (x ∷ xs) (y ∷ ys) = ap (λ (t : Bool). eqb x y && t) (pointwise_same xs ys)
 
 and-true : (p q : Bool) → (p && q) ≡ true → (p ≡ true) × (q ≡ true)
 and-true true q h = (refl, h)
@@ -43,7 +52,7 @@ lengths_differ xs ys h = go (same xs ys) refl
     go true e = absurd (h (ap length (same_equal xs ys e)))
     go false e = refl
 
-and_assoc : (p q r : Bool) → (p && (q && r)) ≡ ((p && q) && r)
+pub and_assoc : (p q r : Bool) → (p && (q && r)) ≡ ((p && q) && r)
 and_assoc true q r = refl
 and_assoc false q r = refl
 

@@ -1,10 +1,7 @@
 -- The ops of a clipped record, as the writers leave them.
 use Prim.Native.Nat.{ℕ, ◌+◌, ◌-◌, ◌*◌, ◌≤◌, ◌<◌}
-use mathlib.Core.Path.{◌≡◌, refl, sym, ap, ◌∙◌}
-use mathlib.Core.Bool.{Bool, true, false}
-use Rattle.clip_rules.specs.declared.Plan.{Plan}
-use Rattle.record_rules.specs.InnerPlan.{planned_ops}
-use mathlib.Core.List.{List, [], ◌∷◌, ◌++◌, reverse, reverse-append}
+use mathlib.Core.Path.{◌≡◌, sym, ap, ◌∙◌}
+use mathlib.Core.List.{List, ◌++◌, reverse, reverse-append}
 use native.Mathlib.Omega.{arith}
 use lib.ListN.{length, get_or, take, drop}
 use Rattle.lists.specs.Lists.{splice}
@@ -12,14 +9,6 @@ use Rattle.lists.proofs.ListLaws.{two_parts, reverse_drop}
 use Rattle.sam.specs.Record.{ops_in, op_bytes}
 use Rattle.sam.proofs.PartLaws.{length_op_bytes, ops_append, ops_stand, drop_ops, take_ops}
 use Rattle.oplist.specs.Few.{length_ops_in}
-
--- what a plan leaves, by the end
-pub planned_start : (start : Bool) (xs : List ℕ) (p : Plan) → start ≡ true → take p.heads (p.first ∷ (p.second ∷ [])) ++ drop p.skip xs ≡ planned_ops start xs p
-planned_start start xs p e = rw e refl
-
-pub planned_end : (start : Bool) (xs : List ℕ) (p : Plan) → start ≡ false
-    → reverse (take p.heads (p.first ∷ (p.second ∷ [])) ++ drop p.skip (reverse xs)) ≡ planned_ops start xs p
-planned_end start xs p e = rw e refl
 
 module _ (b d d₁ d₂ : List ℕ) (area n skip at : ℕ) (vs : List ℕ) (w : (i : ℕ) → get_or b i 0 < 256) (s : skip ≤ n) (f : area + 4 * n ≤ length b) where
   -- heads, then the ops from place skip on

@@ -8,7 +8,7 @@ returns-then-stored-eq0 c =
     no_bin c.args.got.now c.args.got.now (λ i. omega (arith, c.type_inv.got i)) (omega arith) (omega arith) c.args.bin c.u16_at-stored.result c.u16_at-stored.ensures.0
     c.if-stored-eq0.true
 
-pub returns : goal.returns
-returns c =
+pub returns-else-stored-eq0 : goal.returns-else-stored-eq0
+returns-else-stored-eq0 c =
     a_bin c.args.got.now c.args.got.now (λ i. omega (arith, c.type_inv.got i)) (omega arith) (omega arith) c.args.bin c.u16_at-stored.result c.u16_at-stored.ensures.0
     c.if-stored-eq0.false

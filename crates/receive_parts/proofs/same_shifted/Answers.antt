@@ -11,23 +11,18 @@ use Rattle.receive_rules.proofs.SameLaws.{same_refl}
 use Rattle.receive_rules.proofs.WalkLaws.{shifted_turn, shifted_whole}
 use Rattle.receive_parts.proofs.same_shifted.Goals as goal
 
-pub loop-j-init : goal.loop-j-init
-loop-j-init c =
-    (omega arith, sym (same_refl _))
+pub loop-i-init : goal.loop-i-init
+loop-i-init c = sym (same_refl _)
 
-pub loop-j-preserved : goal.loop-j-preserved
-loop-j-preserved c = (
-  omega arith,
-  c.still-ok.ensures
-      ∙ ap (λ (t : Bool). t && eqb (get_or c.args.got.now (c.args.at + c.loop-j.j) 0) c.straddled.result) c.loop-j.invariant.1
-      ∙ shifted_turn c.args.got.now c.args.rec.now c.args.at c.args.area c.args.from c.args.k c.loop-j.j c.straddled.result c.requires.from_value (omega arith) (omega arith) (omega arith)
-      c.straddled.ensures,
-)
+pub loop-i-preserved : goal.loop-i-preserved
+loop-i-preserved c =
+    ap (λ (t : Bool). t && eqb (get_or c.args.got.now (c.args.at + c.loop-i.i) 0) c.straddled.result) c.loop-i.invariant
+    ∙ shifted_turn c.args.got.now c.args.rec.now c.args.at c.args.area c.args.from c.args.k c.loop-i.i c.straddled.result c.requires.from_value (omega arith) (omega arith) (omega arith) c.straddled.ensures
 
 pub returns : goal.returns
 returns c =
     let bs = bases_of (drop c.args.area c.args.rec.now) in
-    let e : c.loop-j.j ≡ c.args.k = omega arith in
-    c.loop-j.invariant.1
+    let e : c.loop-i.i ≡ c.args.k = omega arith in
+    c.loop-i.invariant
     ∙ ap (λ (n : ℕ). same (take n (drop c.args.at c.args.got.now)) (take n (packed (take (2 * c.args.k) (drop c.args.from bs))))) e
     ∙ shifted_whole c.args.got.now c.args.rec.now c.args.at c.args.area c.args.from c.args.k (omega arith)

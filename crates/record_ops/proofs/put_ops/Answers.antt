@@ -7,7 +7,8 @@ use native.Mathlib.Omega.{arith}
 use lib.Seq.{length-take-le}
 use Rattle.clip_write.proofs.WriteLaws.{few_reverse, two_reverse}
 use Rattle.record_parts.proofs.PutLaws.{part_copied}
-use Rattle.record_ops.proofs.OpLaws.{planned_start, planned_end, ops_start, ops_end}
+use Rattle.record_rules.proofs.PlanLaws.{planned_start, planned_end}
+use Rattle.record_ops.proofs.OpLaws.{ops_start, ops_end}
 use Rattle.record_ops.proofs.put_ops.Goals as goal
 
 pub returns-then-start : goal.returns-then-start
