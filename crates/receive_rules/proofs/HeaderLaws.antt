@@ -17,7 +17,7 @@ use Rattle.sam.specs.Parts.{part, header_part, uint16}
 use Rattle.record_rules.specs.Written.{Change, new_header, new_name, new_ops, new_bases, new_quals, new_tags, new_record}
 use Rattle.record_rules.proofs.PartLaws.{bytes_from, part_bytes, header_size}
 use Rattle.receive_rules.specs.Receiving.{same, binless, same_header}
-use Rattle.receive_rules.proofs.SameLaws.{same_equal, same_parts}
+use Rattle.receive_rules.proofs.SameLaws.{and_assoc, same_equal, same_parts}
 use Rattle.receive_rules.proofs.OpLaws.{number_at}
 
 -- a record's header with four numbers in place of its own
@@ -100,20 +100,27 @@ number16_at g w i n h =
 
 module _ (g b : List ℕ) (w : (i : ℕ) → get_or g i 0 < 256) (h : 32 ≤ length g) (k : 32 ≤ length b) where
   pub front_is : (place : ℕ) → place < 4294967296
-      → (same (take 4 (drop 0 g)) (take 4 (drop 0 b)) && (eqb (le32 g 4) place && same (take 2 (drop 8 g)) (take 2 (drop 8 b))))
+      → ((same (take 4 (drop 0 g)) (take 4 (drop 0 b)) && eqb (le32 g 4) place) && same (take 2 (drop 8 g)) (take 2 (drop 8 b)))
       ≡ same (part g 0 10) (part b 0 4 ++ (uint32 place ++ part b 8 2))
-  front_is place u = sym
+  front_is place u =
+      sym (and_assoc (same (take 4 (drop 0 g)) (take 4 (drop 0 b))) (eqb (le32 g 4) place) (same (take 2 (drop 8 g)) (take 2 (drop 8 b))))
+      ∙ sym
       (same_parts g 0 4 6 (part b 0 4) (uint32 place ++ part b 8 2) (length-take-le 4 b (omega arith)) (omega arith)
       ∙ ap (λ (t : Bool). same (take 4 (drop 0 g)) (take 4 (drop 0 b)) && t)
       (same_parts g 4 4 2 (uint32 place) (part b 8 2) refl (omega arith)
       ∙ ap (λ (t : Bool). t && same (take 2 (drop 8 g)) (take 2 (drop 8 b))) (number_at g w 4 place u (omega arith))))
 
   pub back_is : (n len : ℕ) → n < 65536 → len < 4294967296
-      → (eqb (le16 g 12) n && (same (take 2 (drop 14 g)) (take 2 (drop 14 b)) && (eqb (le32 g 16) len && same (take 12 (drop 20 g)) (take 12 (drop 20 b)))))
+      → (((eqb (le16 g 12) n && same (take 2 (drop 14 g)) (take 2 (drop 14 b))) && eqb (le32 g 16) len) && same (take 12 (drop 20 g)) (take 12 (drop 20 b)))
       ≡ same (part g 12 20) (uint16 n ++ (part b 14 2 ++ (uint32 len ++ part b 20 12)))
   back_is n len u v =
       let d = length-drop 14 b in
-      sym
+      let count : Bool = eqb (le16 g 12) n in
+      let flags : Bool = same (take 2 (drop 14 g)) (take 2 (drop 14 b)) in
+      let bases : Bool = eqb (le32 g 16) len in
+      let mate : Bool = same (take 12 (drop 20 g)) (take 12 (drop 20 b)) in
+      sym (and_assoc count flags (bases && mate) ∙ and_assoc (count && flags) bases mate)
+      ∙ sym
       (same_parts g 12 2 18 (uint16 n) (part b 14 2 ++ (uint32 len ++ part b 20 12)) refl (omega arith)
       ∙ ap (λ (t : Bool). t && same (part g 14 18) (part b 14 2 ++ (uint32 len ++ part b 20 12)))
       (number16_at g w 12 n (omega arith) ∙ ap (eqb (le16 g 12)) {x = n % 65536} {y = n} (omega arith))
@@ -153,8 +160,9 @@ module _ (g b : List ℕ) (w : (i : ℕ) → get_or g i 0 < 256) (h : 32 ≤ len
 
   -- of one bin or another
   pub whole_header : (c : Change) (place bin n len : ℕ) → place ≡ bits32 c.place → bin ≡ c.bin → n ≡ length c.ops → len ≡ c.len
-      → (same (part g 0 10) (part b 0 4 ++ (uint32 place ++ part b 8 2))
-      && ((same (part g 10 2) (uint16 bin) || same (part g 10 2) (uint16 0)) && same (part g 12 20) (uint16 n ++ (part b 14 2 ++ (uint32 len ++ part b 20 12)))))
+      → ((same (part g 0 10) (part b 0 4 ++ (uint32 place ++ part b 8 2))
+      && (same (part g 10 2) (uint16 bin) || same (part g 10 2) (uint16 0)))
+      && same (part g 12 20) (uint16 n ++ (part b 14 2 ++ (uint32 len ++ part b 20 12))))
       ≡ same_header g b c
   whole_header c place bin n len e₁ e₂ e₃ e₄ =
       let F : Bool = same (part g 0 10) (part b 0 4 ++ (uint32 (bits32 c.place) ++ part b 8 2)) in
@@ -167,7 +175,7 @@ module _ (g b : List ℕ) (w : (i : ℕ) → get_or g i 0 < 256) (h : 32 ≤ len
       ∙ ap (λ (t : Bool). (F && (X && R)) || t) (header_parts (bits32 c.place) 0 (length c.ops) c.len)
       ∙ shared F X O R))
     where
-      shared : (f x y r : Bool) → ((f && (x && r)) || (f && (y && r))) ≡ (f && ((x || y) && r))
+      shared : (f x y r : Bool) → ((f && (x && r)) || (f && (y && r))) ≡ ((f && (x || y)) && r)
       shared true true y true = refl
       shared true true true false = refl
       shared true true false false = refl
