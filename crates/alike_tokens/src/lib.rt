@@ -10,7 +10,7 @@ use tokens::Token;
 fn is_first(b: u8) -> bool
     ensures { result ≡ true → (48 < b) × (b ≤ 57) }
 {
-    if b < 49 { false } else { b <= 57 }
+    matches!(b, b'1'..=b'9')
 }
 
 // An op whose number was read, by its letter.
@@ -34,30 +34,30 @@ pub fn alike_token(text: &[u8], at: usize, digits: usize) -> Option<Token>
     if !is_first(first) {
         return None;
     }
-    let a = tokens::wide(first);
+    let a = first as u32;
     let second = text[at + 1];
     if digits == 1 {
         return lettered(a - 48, second, at + 2);
     }
-    if !tokens::is_digit(second) {
+    if !second.is_ascii_digit() {
         return None;
     }
-    let b = a * 10 + tokens::wide(second);
+    let b = a * 10 + second as u32;
     let third = text[at + 2];
     if digits == 2 {
         return lettered(b - 528, third, at + 3);
     }
-    if !tokens::is_digit(third) {
+    if !third.is_ascii_digit() {
         return None;
     }
-    let c = b * 10 + tokens::wide(third);
+    let c = b * 10 + third as u32;
     let fourth = text[at + 3];
     if digits == 3 {
         return lettered(c - 5328, fourth, at + 4);
     }
-    if !tokens::is_digit(fourth) {
+    if !fourth.is_ascii_digit() {
         return None;
     }
-    let d = c * 10 + tokens::wide(fourth);
+    let d = c * 10 + fourth as u32;
     lettered(d - 53328, text[at + 4], at + 5)
 }

@@ -150,7 +150,7 @@ module _ (s : SoFar) (len code : ℕ) (some : 0 < len) (few : code < 9) (row : B
   unfolding left_of
   left_stop e = ap (λ (m : Option Measured). cond row m None) (walk_stop s (op_of len code) xs (sym same_took ∙ e)) ∙ go row
     where
-      go : (t : Bool) → cond t None None ≡ None
+      go : (t : Bool) → cond {A = Option Measured} t None None ≡ None
       go true = refl
       go false = refl
 

@@ -9,7 +9,6 @@ ghost use Rattle.validity.specs.InnerStages.{code_class};
 ghost use Rattle.measure_text.specs.InnerPass.{ref_bases_of, took_of, ending_of};
 
 use parsed_rules::Measured;
-use tokens::Token;
 use validity::Stage;
 
 // The ops so far: their stage, how many they are, and their reference bases, at most 2^31 - 1.
@@ -25,10 +24,7 @@ fn ref_bases(code: u32, len: u32) -> u32
     requires { code < 16 }
     ensures { (result ≡ ref_bases_of (code_class code) len) × (result ≤ len) }
 {
-    if ops::consumes_ref(code) {
-        return len;
-    }
-    0
+    if ops::consumes_ref(code) { len } else { 0 }
 }
 
 // The reference bases with an op more.
@@ -36,11 +32,7 @@ fn further(refs: u32, code: u32, len: u32) -> u32
     requires { (refs ≤ 2147483647) × (len ≤ 268435455) × (code < 16) }
     ensures { result ≡ min (refs + ref_bases_of (code_class code) len) 2147483647 }
 {
-    let sum = refs + ref_bases(code, len);
-    if 2147483647 < sum {
-        return 2147483647;
-    }
-    sum
+    (refs + ref_bases(code, len)).min(2147483647)
 }
 
 // One op more.
@@ -48,12 +40,12 @@ fn take_op(seen: SoFar, len: u32, code: u32) -> Option<SoFar>
     requires { (seen.n < 18446744073709551615) × (seen.refs ≤ 2147483647) × (len ≤ 268435455) × (code < 16) }
     ensures { result ≡ took_of seen len (code_class code) }
 {
-    let q = seen.stage.step(code);
-    if q.is_wrong() {
+    let stage = seen.stage.step(code);
+    if stage.is_wrong() {
         return None;
     }
     Some(SoFar {
-        stage: q,
+        stage,
         n: seen.n + 1,
         refs: further(seen.refs, code, len),
     })
@@ -64,7 +56,10 @@ fn ending(seen: SoFar) -> Option<Measured>
     ensures { result ≡ ending_of seen }
 {
     if seen.stage.accept() {
-        return Some(Measured { ops: seen.n, refs: signed::of_bits(seen.refs) });
+        return Some(Measured {
+            ops: seen.n,
+            refs: signed::of_bits(seen.refs),
+        });
     }
     None
 }
@@ -80,15 +75,9 @@ pub fn measure(text: &[u8]) -> Option<Measured>
     };
     let mut i: usize = 0;
     while i < text.len() {
-        let Some(Token { len, code, next }) = tokens::token_at(tokens::short_token(text, i), text, i)
-        else {
-            return None;
-        };
-        let Some(more) = take_op(seen, len, code) else {
-            return None;
-        };
-        seen = more;
-        i = next;
+        let token = tokens::token_at(tokens::short_token(text, i), text, i)?;
+        seen = take_op(seen, token.len, token.code)?;
+        i = token.next;
     }
     ending(seen)
 }
@@ -100,15 +89,14 @@ pub fn write_ops(text: &[u8], out: &mut [u32])
     let mut at: usize = 0;
     let mut i: usize = 0;
     while i < text.len() {
-        let Some(Token { len, code, next }) = tokens::token_at(tokens::short_token(text, i), text, i)
-        else {
+        let Some(token) = tokens::token_at(tokens::short_token(text, i), text, i) else {
             return;
         };
         if out.len() <= at {
             return;
         }
-        out[at] = len * 16 + code;
+        out[at] = token.len * 16 + token.code;
         at += 1;
-        i = next;
+        i = token.next;
     }
 }

@@ -2,7 +2,7 @@
 use Prim.Native.Nat.{ℕ, ◌≤◌, ◌<◌}
 use Rattle.std.specs.Prelude.{Some, None, Option}
 use Rattle.std.specs.Prelude.{Err, Ok}
-use mathlib.Core.Path.{◌≡◌, refl}
+use mathlib.Core.Path.{◌≡◌, refl, ap}
 use mathlib.Core.Bool.{Bool, true, false, cond, ◌&&◌}
 use mathlib.Core.List.{List}
 use lib.IntN.{ℤ, pos}
@@ -58,10 +58,12 @@ row_measured s = go (is_row s)
 
 -- ---- which case a measured list or text is
 
-pub ops_bad : (b : Bool) (n : ℕ) (z : ℤ) → cond b (Some (record { ops = n; refs = z })) None ≡ None → b ≡ false
+pub ops_bad : (b : Bool) (n : ℕ) (z : ℤ) → cond {A = Option Measured} b (Some (record { ops = n; refs = z })) None ≡ None → b ≡ false
 ops_bad true n z e = never (cc)
 ops_bad false n z e = refl
 
-pub ops_some : (b : Bool) (n m : ℕ) (z w : ℤ) → cond b (Some (record { ops = n; refs = z })) None ≡ Some (record { ops = m; refs = w }) → (b ≡ true) × (n ≡ m) × (z ≡ w)
-ops_some true n m z w e = (refl, cc, cc)
+pub ops_some : (b : Bool) (n m : ℕ) (z w : ℤ) → cond {A = Option Measured} b (Some (record { ops = n; refs = z })) None ≡ Some (record { ops = m; refs = w }) → (b ≡ true) × (n ≡ m) × (z ≡ w)
+ops_some true n m z w e =
+    let q : ◌≡◌ {A = Measured} (record { ops = n; refs = z }) (record { ops = m; refs = w }) = cc in
+    (refl, ap (λ (v : Measured). v.ops) q, ap (λ (v : Measured). v.refs) q)
 ops_some false n m z w e = never (cc)

@@ -5,7 +5,6 @@ ghost use Rattle.std.specs.Prelude.{◌≡◌, ◌*◌, ◌≤◌, length, set};
 ghost use Rattle.validity.specs.declared.Stage.TheVariants.{Good};
 ghost use Rattle.read_text.specs.InnerRead.{Onward, Stretched, ReadTo};
 
-use tokens::Token;
 use validity::Stage;
 
 // The ops read so far: their stage, how many they are, and the place after them.
@@ -33,15 +32,15 @@ fn alike(text: &[u8], from: usize, had: usize, digits: usize, out: &mut [u32]) -
     let mut n = had;
     let mut i = from;
     while 5 <= text.len() - i {
-        let Some(Token { len, code, next }) = alike_tokens::alike_token(text, i, digits) else {
+        let Some(token) = alike_tokens::alike_token(text, i, digits) else {
             break;
         };
-        if !validity::is_inner(code) {
+        if !validity::is_inner(token.code) {
             break;
         }
-        put(out, n, len * 16 + code);
+        put(out, n, token.len * 16 + token.code);
         n += 1;
-        i = next;
+        i = token.next;
     }
     Reached {
         stage: Stage::Good,
@@ -58,51 +57,42 @@ fn stretch(text: &[u8], seen: Reached, out: &mut [u32]) -> Option<Reached>
     let mut p = seen.stage;
     let mut n = seen.n;
     let mut i = seen.at;
-    let mut left: usize = 16;
-    while 0 < left {
+    for _ in 0..16usize {
         if text.len() <= i {
             break;
         }
-        let Some(Token { len, code, next }) = tokens::token_at(tokens::short_token(text, i), text, i)
-        else {
-            return None;
-        };
-        p = p.step(code);
+        let token = tokens::token_at(tokens::short_token(text, i), text, i)?;
+        p = p.step(token.code);
         if p.is_wrong() {
             return None;
         }
-        put(out, n, len * 16 + code);
+        put(out, n, token.len * 16 + token.code);
         n += 1;
-        i = next;
-        left -= 1;
+        i = token.next;
     }
     Some(Reached { stage: p, n, at: i })
 }
 
-// How many digits each of sixteen ops has that take so many bytes, if it is one number for all, at most four; else 0. A guess, which no answer rests on.
-fn digits_of(bytes: usize) -> usize {
+// How many digits each of sixteen ops has that take so many bytes, if it is one number for all, at most four. A guess, which no answer rests on.
+fn digits_of(bytes: usize) -> Option<usize> {
     match bytes {
-        32 => 1,
-        48 => 2,
-        64 => 3,
-        80 => 4,
-        _ => 0,
+        32 => Some(1),
+        48 => Some(2),
+        64 => Some(3),
+        80 => Some(4),
+        _ => None,
     }
 }
 
-// The ops after a stretch that are like it.
-fn run_on(text: &[u8], seen: Reached, digits: usize, out: &mut [u32]) -> Reached
+// The ops after a stretch that are like it, if it tells how many digits they have.
+fn run_on(text: &[u8], seen: Reached, digits: Option<usize>, out: &mut [u32]) -> Reached
     requires { (seen.at ≤ length text.now) × (seen.n * 2 ≤ seen.at) }
     ensures { Onward text.now seen.stage seen.n seen.at out.old result.stage result.n result.at out.new }
 {
-    if digits == 0 {
-        return seen;
+    match (digits, seen.stage) {
+        (Some(digits), Stage::Good) => alike(text, seen.at, seen.n, digits, out),
+        _ => seen,
     }
-    let p = seen.stage;
-    if let Stage::Good = p {
-        return alike(text, seen.at, seen.n, digits, out);
-    }
-    seen
 }
 
 // Reads a text once: whether it is a valid mapped CIGAR, and how many ops it has, which go to out as far as there is room.
@@ -115,13 +105,12 @@ pub fn read_ops(text: &[u8], out: &mut [u32]) -> Option<usize>
         at: 0,
     };
     while seen.at < text.len() {
-        let Some(after) = stretch(text, seen, out) else {
-            return None;
-        };
+        let after = stretch(text, seen, out)?;
         seen = run_on(text, after, digits_of(after.at - seen.at), out);
     }
     if seen.stage.accept() {
-        return Some(seen.n);
+        Some(seen.n)
+    } else {
+        None
     }
-    None
 }

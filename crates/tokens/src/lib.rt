@@ -2,7 +2,6 @@
 #![tactic(auto)]
 
 ghost use Rattle.std.specs.Prelude.{◌≡◌, cond, ◌+◌, ◌≤◌, ◌<◌, length};
-ghost use Rattle.sam.specs.Text.{is_digit};
 ghost use Rattle.tokens.specs.InnerToken.{TokenAt, ShortAt};
 
 // An op of a text: its length, its code, and the place after its letter.
@@ -13,28 +12,15 @@ pub struct Token {
     pub next: usize,
 }
 
-pub fn is_digit(b: u8) -> bool
-    ensures { result ≡ is_digit b }
-{
-    if b < 48 { false } else { b <= 57 }
-}
-
-pub fn wide(b: u8) -> u32
-    ensures { (result ≡ b) × (result < 256) }
-{
-    b as u32
-}
-
 // The op at a place of a text, digit by digit.
 fn long_token(text: &[u8], at: usize) -> Option<Token>
     requires { at < length text.now }
     ensures { TokenAt text.now at result }
 {
     let mut num: u32 = 0;
-    let mut i = at;
-    while i < text.len() {
+    for i in at..text.len() {
         let b = text[i];
-        if !is_digit(b) {
+        if !b.is_ascii_digit() {
             let code = letters::code_at(b);
             if num == 0 {
                 return None;
@@ -42,13 +28,16 @@ fn long_token(text: &[u8], at: usize) -> Option<Token>
             if 8 < code {
                 return None;
             }
-            return Some(Token { len: num, code, next: i + 1 });
+            return Some(Token {
+                len: num,
+                code,
+                next: i + 1,
+            });
         }
-        num = num * 10 + wide(b) - 48;
+        num = num * 10 + (b - b'0') as u32;
         if 268435455 < num {
             return None;
         }
-        i += 1;
     }
     None
 }
@@ -88,17 +77,17 @@ pub fn short_token(text: &[u8], at: usize) -> Option<Token>
         return None;
     }
     let first = text[at];
-    if !is_digit(first) {
+    if !first.is_ascii_digit() {
         return None;
     }
     let second = text[at + 1];
     let third = text[at + 2];
     let fourth = text[at + 3];
-    let two = is_digit(second);
-    let three = is_digit(third);
-    let a = wide(first);
-    let b = a * 10 + wide(second);
-    let c = b * 10 + wide(third);
+    let two = second.is_ascii_digit();
+    let three = third.is_ascii_digit();
+    let a = first as u32;
+    let b = a * 10 + second as u32;
+    let c = b * 10 + third as u32;
     let len = if two {
         if three { c - 5328 } else { b - 528 }
     } else {
@@ -111,7 +100,11 @@ pub fn short_token(text: &[u8], at: usize) -> Option<Token>
     if 8 < code {
         return None;
     }
-    Some(Token { len, code, next: at + width_of(two, three) })
+    Some(Token {
+        len,
+        code,
+        next: at + width_of(two, three),
+    })
 }
 
 // The op at a place of a text, digits and a letter, of which the short form may be known.
@@ -119,8 +112,8 @@ pub fn token_at(short: Option<Token>, text: &[u8], at: usize) -> Option<Token>
     requires { (at < length text.now) × ShortAt text.now at short }
     ensures { TokenAt text.now at result }
 {
-    if let Some(Token { len, code, next }) = short {
-        return Some(Token { len, code, next });
+    if let Some(token) = short {
+        return Some(token);
     }
     long_token(text, at)
 }

@@ -19,8 +19,8 @@ returns-then-consumes_ref c =
     in
     (rw (bases, c.if-consumes_ref.true) refl, omega arith)
 
-pub returns : goal.returns
-returns c =
+pub returns-else-consumes_ref : goal.returns-else-consumes_ref
+returns-else-consumes_ref c =
     let bases : ref_bases_of (code_class c.args.code) c.args.len ≡ cond c.consumes_ref.result c.args.len 0 =
     ref_by (code_class c.args.code) c.args.len
     ∙ ap (λ (t : Bool). cond t c.args.len 0)

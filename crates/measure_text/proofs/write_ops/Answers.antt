@@ -29,7 +29,7 @@ returns-then-out-at c =
 
 pub loop-i-preserved : goal.loop-i-preserved
 loop-i-preserved c =
-    let found : OpAt c.args.text.now c.loop-i.i c.in-Some.len c.in-Some.code c.in-Some.next =
+    let found : OpAt c.args.text.now c.loop-i.i c.in-Some.token.len c.in-Some.token.code c.in-Some.token.next =
     subst (TokenAt c.args.text.now c.loop-i.i) c.in-Some.is c.token_at.ensures
     in
     let o = found in (

@@ -12,15 +12,15 @@ use Rattle.read_text.proofs.alike.Goals as goal
 
 pub loop-i-preserved : goal.loop-i-preserved
 loop-i-preserved c =
-    let found : OpAt c.args.text.now c.loop-i.i c.in-Some.len c.in-Some.code c.in-Some.next =
+    let found : OpAt c.args.text.now c.loop-i.i c.in-Some.token.len c.in-Some.token.code c.in-Some.token.next =
     subst (ShortAt c.args.text.now c.loop-i.i) c.in-Some.is c.alike_token.ensures
     in
-    let inner : is_inner_class (code_class c.in-Some.code) ≡ true =
+    let inner : is_inner_class (code_class c.in-Some.token.code) ≡ true =
     let o = found in
-    let e = ap (λ (k : ℕ). is_inner_class (code_class k)) {x = c.in-Some.code} {y = code_of c.in-Some.code} (omega (arith, o.known)) in
+    let e = ap (λ (k : ℕ). is_inner_class (code_class k)) {x = c.in-Some.token.code} {y = code_of c.in-Some.token.code} (omega (arith, o.known)) in
     cc
     in
     let o = found in
     let x = on_from c.args.text.now _ _ _ _ _ _ _ _ _ _ _ _ c.loop-i.invariant.3
-    (op-on c.args.text.now Good c.loop-i.n c.loop-i.i _ _ _ o Good c.loop-i.out _ (inner_good (code_class c.in-Some.code) (inner)) c.put.ensures) in
+    (op-on c.args.text.now Good c.loop-i.n c.loop-i.i _ _ _ o Good c.loop-i.out _ (inner_good (code_class c.in-Some.token.code) (inner)) c.put.ensures) in
     (omega (arith, o.ahead), o.inside, x.room, x)
