@@ -24,19 +24,29 @@ fn list_left(fr: bool, bam: &[u8], text: &[u8], n: u64, out: &mut [u32]) -> Answ
     }
     measure_text::write_ops(text, out);
     let list = Lent::new(&out[..n as usize], oplist::MOST_OPS).unwrap();
-    Ok(Overhang { bases: overlap::bases_at(placed, bam, list), written: n })
+    Ok(Overhang {
+        bases: overlap::bases_at(placed, bam, list),
+        written: n,
+    })
 }
 
 // The query bases past the mate, whose ops are given as text; the ops go to the first places of out. A text that the strict reader refuses by 5 counts 0 and
 // writes nothing. Refusals 1, 3, 2, 4 and 6.
-pub fn num_bases_extending_past_mate_text_raw(bam: &[u8], text: &[u8], out: &mut [u32]) -> Answer<Overhang>
+pub fn num_bases_extending_past_mate_text_raw(
+    bam: &[u8],
+    text: &[u8],
+    out: &mut [u32],
+) -> Answer<Overhang>
     ensures { Settled (past_mate_text bam.now text.now out.old) result out.new }
 {
     if bam.len() < 32 {
         return Err(Refusal::ShortRecord);
     }
     let Some(Measured { ops: n, refs: span }) = measure_text::measure(text) else {
-        return Ok(Overhang { bases: 0, written: 0 });
+        return Ok(Overhang {
+            bases: 0,
+            written: 0,
+        });
     };
     if (oplist::MOST_OPS as u64) < n {
         return Err(Refusal::TooManyOps);

@@ -1,11 +1,10 @@
 -- The pass decides each refusal before anything is written; the pair test then says what is left.
-use mathlib.Core.Path.{◌≡◌, sym, ap, ◌∙◌}
+use mathlib.Core.Path.{◌≡◌, refl, sym, ap, ◌∙◌}
 use Rattle.std.specs.Prelude.{Some}
-use Rattle.std.specs.Prelude.{Bool, Err, Ok}
-use Rattle.answers.specs.Answer.{Answer}
+use Rattle.std.specs.Prelude.{Err, Ok}
 use mir.Syntax.{w32}
 use mir.Val.{to_z, of_z}
-use Rattle.answers.proofs.Unique.{settled, resettled}
+use Rattle.answers.proofs.Unique.{settled, resettled, outcome}
 use Rattle.text_rules.specs.Text.{text_ops}
 use Rattle.parsed_rules.specs.Parsed.{measured_text}
 use Rattle.pairs_rules.specs.Pairs.{is_fr_with_mate}
@@ -24,30 +23,33 @@ returns-in_default c =
 
 pub returns-then-n : goal.returns-then-n
 returns-then-n c =
-    let measured : measured_text c.args.text.now ≡ Some (record { ops = c.in-Some.n; refs = c.in-Some.span }) =
+    let measured : measured_text c.args.text.now ≡ Some (record { ops = c.in-Some.field-0.ops; refs = c.in-Some.field-0.refs }) =
     sym c.measure.ensures ∙ c.in-Some.is
     in
     settled (text-many _ _ _ c.if-bam-lt32.false _ _ (measured) c.if-n.true)
 
 pub list_left-requires : goal.list_left-requires
 list_left-requires c =
-    let measured : measured_text c.args.text.now ≡ Some (record { ops = c.in-Some.n; refs = c.in-Some.span }) =
+    let measured : measured_text c.args.text.now ≡ Some (record { ops = c.in-Some.field-0.ops; refs = c.in-Some.field-0.refs }) =
     sym c.measure.ensures ∙ c.in-Some.is
     in
     (search rules, text_count _ _ _ (measured), c.if-n.false)
 
-pub returns-in-Err : goal.returns-in-Err
-returns-in-Err c =
-    let w : to_z w32 (of_z w32 c.in-Some.span) ≡ c.in-Some.span = search rules in
-    let left : (fr : Answer Bool) → c.fr_with_mate.result ≡ fr → past_mate_text c.args.bam.now c.args.text.now c.args.out.now ≡ pair_list_left fr c.args.bam.now (text_ops c.args.text.now) c.args.out.now =
-    λ fr e. text-left c.args.bam.now c.args.text.now c.args.out.now c.if-bam-lt32.false _ _ (sym c.measure.ensures ∙ c.in-Some.is) fr c.if-n.false (sym e ∙ c.fr_with_mate.ensures ∙ ap (is_fr_with_mate c.args.bam.now) w)
+pub returns-in_err-fr : goal.returns-in_err-fr
+returns-in_err-fr c =
+    let w : to_z w32 (of_z w32 c.in-Some.field-0.refs) ≡ c.in-Some.field-0.refs = search rules in
+    let told : c.fr_with_mate.result ≡ Err c.in_err-fr.field-0.0 = search rules in
+    let passed : c.from_residual.result ≡ Err c.in_err-fr.field-0.0 = search rules in
+    let left : past_mate_text c.args.bam.now c.args.text.now c.args.out.now ≡ pair_list_left (Err c.in_err-fr.field-0.0) c.args.bam.now (text_ops c.args.text.now) c.args.out.now =
+    text-left c.args.bam.now c.args.text.now c.args.out.now c.if-bam-lt32.false c.in-Some.field-0.ops c.in-Some.field-0.refs (sym c.measure.ensures ∙ c.in-Some.is) (Err c.in_err-fr.field-0.0) c.if-n.false (sym told ∙ c.fr_with_mate.ensures ∙ ap (is_fr_with_mate c.args.bam.now) w)
     in
-    settled (left (Err c.in-Err.why) c.in-Err.is)
+    settled (left ∙ outcome passed refl)
 
-pub returns-in-Ok : goal.returns-in-Ok
-returns-in-Ok c =
-    let w : to_z w32 (of_z w32 c.in-Some.span) ≡ c.in-Some.span = search rules in
-    let left : (fr : Answer Bool) → c.fr_with_mate.result ≡ fr → past_mate_text c.args.bam.now c.args.text.now c.args.out.now ≡ pair_list_left fr c.args.bam.now (text_ops c.args.text.now) c.args.out.now =
-    λ fr e. text-left c.args.bam.now c.args.text.now c.args.out.now c.if-bam-lt32.false _ _ (sym c.measure.ensures ∙ c.in-Some.is) fr c.if-n.false (sym e ∙ c.fr_with_mate.ensures ∙ ap (is_fr_with_mate c.args.bam.now) w)
+pub returns : goal.returns
+returns c =
+    let w : to_z w32 (of_z w32 c.in-Some.field-0.refs) ≡ c.in-Some.field-0.refs = search rules in
+    let told : c.fr_with_mate.result ≡ Ok c.in_ok-fr.fr = search rules in
+    let left : past_mate_text c.args.bam.now c.args.text.now c.args.out.now ≡ pair_list_left (Ok c.in_ok-fr.fr) c.args.bam.now (text_ops c.args.text.now) c.args.out.now =
+    text-left c.args.bam.now c.args.text.now c.args.out.now c.if-bam-lt32.false c.in-Some.field-0.ops c.in-Some.field-0.refs (sym c.measure.ensures ∙ c.in-Some.is) (Ok c.in_ok-fr.fr) c.if-n.false (sym told ∙ c.fr_with_mate.ensures ∙ ap (is_fr_with_mate c.args.bam.now) w)
     in
-    resettled (left (Ok c.in-Ok.fr) c.in-Ok.is) c.list_left.ensures
+    resettled left c.list_left.ensures
