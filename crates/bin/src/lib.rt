@@ -67,27 +67,23 @@ fn bin_of(beg: i32, last: i32) -> u32
 pub fn reg2bin(beg: Pos0, end: i32) -> Answer<u32>
     ensures { result ≡ reg2bin beg.0 end }
 {
-    match signed::checked_sub(end, 1) {
-        Some(last) => Ok(bin_of(beg.0, last)),
-        None => Err(Refusal::Overflow),
-    }
+    let last = signed::checked_sub(end, 1).ok_or(Refusal::Overflow)?;
+    Ok(bin_of(beg.0, last))
 }
 
 // At least 1.
 fn span_of(n: i32) -> i32
     ensures { result ≡ span_of n }
 {
-    if n < 1 { 1 } else { n }
+    n.max(1)
 }
 
 // The bin of a region of n bases, at least 1. Refusal 4.
 pub fn bin_from(beg: Pos0, n: i32) -> Answer<u32>
     ensures { result ≡ bin_from beg.0 (Ok n) }
 {
-    match signed::checked_add(beg.0, span_of(n)) {
-        Some(end) => reg2bin(beg, end),
-        None => Err(Refusal::Overflow),
-    }
+    let end = signed::checked_add(beg.0, span_of(n)).ok_or(Refusal::Overflow)?;
+    reg2bin(beg, end)
 }
 
 // A record's bin. Refusals 1, 2 and 4.
@@ -101,10 +97,8 @@ pub fn bin_from_raw_bam(bam: &[u8]) -> Answer<u32>
     if start.0 < 0 {
         return Ok(UNMAPPED_BIN);
     }
-    match lengths::reference_length_from_raw_bam(bam) {
-        Ok(n) => bin_from(start, n),
-        Err(why) => Err(why),
-    }
+    let n = lengths::reference_length_from_raw_bam(bam)?;
+    bin_from(start, n)
 }
 
 // Writes a record's bin to its bytes 10 and 11, and answers it. Refusals 1, 2 and 4.
@@ -114,12 +108,8 @@ pub fn set_bin_from_raw_bam(bam: &mut [u8]) -> Answer<u32>
     if bam.len() < 32 {
         return Err(Refusal::ShortRecord);
     }
-    match bin_from_raw_bam(bam) {
-        Ok(n) => {
-            bam[10] = (n % 256) as u8;
-            bam[11] = (n / 256 % 256) as u8;
-            Ok(n)
-        }
-        Err(r) => Err(r),
-    }
+    let n = bin_from_raw_bam(bam)?;
+    bam[10] = (n % 256) as u8;
+    bam[11] = (n / 256 % 256) as u8;
+    Ok(n)
 }

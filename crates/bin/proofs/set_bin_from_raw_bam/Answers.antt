@@ -7,6 +7,7 @@ use mathlib.Core.List.{List}
 use borrow.Author.Tests.{lt-ltb}
 use Rattle.answers.specs.declared.Refusal.TheVariants.{ShortRecord}
 use Rattle.answers.proofs.Unique.{settled}
+use borrow.Author.Rules.{rules}
 use Rattle.bin_rules.specs.Bin.{record_bin, with_bin, set_bin}
 use Rattle.bin.proofs.set_bin_from_raw_bam.Goals as goal
 
@@ -20,10 +21,11 @@ unfolding record_bin
 returns-then-bam-lt32 c =
     settled (decided c.args.bam.now (Err ShortRecord) (simp (lt-ltb _ _ c.if-bam-lt32.true)))
 
-pub returns-in-Ok : goal.returns-in-Ok
-returns-in-Ok c =
-    settled (decided c.args.bam.now (Ok c.in-Ok.n) (sym c.in-Ok.is ∙ c.bin_from_raw_bam.ensures))
+pub returns : goal.returns
+returns c =
+    settled (decided c.args.bam.now (Ok c.in_ok-n.n) (sym c.in_ok-n.was ∙ c.bin_from_raw_bam.ensures))
 
-pub returns-in-Err : goal.returns-in-Err
-returns-in-Err c =
-    settled (decided c.args.bam.now (Err c.in-Err.r) (sym c.in-Err.is ∙ c.bin_from_raw_bam.ensures))
+pub returns-in_err-n : goal.returns-in_err-n
+returns-in_err-n c =
+    let passed : c.from_residual.result ≡ Err c.in_err-n.field-0.0 = search rules in
+    rw passed (settled (decided c.args.bam.now (Err c.in_err-n.field-0.0) (sym c.in_err-n.was ∙ c.bin_from_raw_bam.ensures)))
