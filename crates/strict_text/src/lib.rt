@@ -9,19 +9,17 @@ ghost use Rattle.parsed_rules.specs.Parsed.{parsed};
 
 use answers::{Answer, Refusal};
 
-// Copies the first n ops, two at a time: of a loop that copies one at a time the compiler makes a call of C's `memcpy`.
+// Copies the first n ops, two at a time: of a loop that copies one at a time the compiler makes a call of C's `memcpy`, which the freestanding archive may not ask for.
 fn copy(ops: &[u32], n: usize, out: &mut [u32])
     requires { (n ≤ length ops.now) × (n ≤ length out.old) }
     ensures { out.new ≡ splice out.old 0 (take n ops.now) }
 {
-    let mut j: usize = 0;
-    while 1 < n - j {
-        out[j] = ops[j];
-        out[j + 1] = ops[j + 1];
-        j += 2;
+    for k in 0..n / 2 {
+        out[2 * k] = ops[2 * k];
+        out[2 * k + 1] = ops[2 * k + 1];
     }
-    if j < n {
-        out[j] = ops[j];
+    if n % 2 == 1 {
+        out[n - 1] = ops[n - 1];
     }
 }
 
@@ -60,22 +58,14 @@ fn in_two(text: &[u8], out: &mut [u32]) -> Answer<u64>
     Ok(written as u64)
 }
 
-// The ops of a text of at most 64 bytes, by way of memory of this function's own.
-fn by_few(text: &[u8], out: &mut [u32]) -> Answer<u64>
-    requires { length text.now ≤ 64 }
+// The ops of a text of at most 2 N bytes, by way of memory of this function's own. A function of its own, since memory is filled with 0 where a function is entered, much of it by a call
+// of C's `memset`.
+fn by_memory<const N: usize>(text: &[u8], out: &mut [u32]) -> Answer<u64>
+    requires { (length text.now ≤ N * 2) × (N ≤ most_ops) }
     ensures { Settled (parsed text.now out.old) result out.new }
 {
-    let mut few = [16u32; 32];
-    by_copy(text, &mut few, out)
-}
-
-// The same of at most 1,024 bytes. Apart, since a function's memory is filled with 0 where it is entered, this one by a call of C's `memset`.
-fn by_some(text: &[u8], out: &mut [u32]) -> Answer<u64>
-    requires { length text.now ≤ 1024 }
-    ensures { Settled (parsed text.now out.old) result out.new }
-{
-    let mut some = [16u32; 512];
-    by_copy(text, &mut some, out)
+    let mut ops = [16u32; N];
+    by_copy(text, &mut ops, out)
 }
 
 // The ops that a text stands for, in the first places of out. A text of at most 1,024 bytes is read once, into at most 2 KiB of the stack. Refusals
@@ -84,10 +74,10 @@ pub fn parse_cigar_string_ops(text: &[u8], out: &mut [u32]) -> Answer<u64>
     ensures { Settled (parsed text.now out.old) result out.new }
 {
     if text.len() <= 64 {
-        return by_few(text, out);
+        return by_memory::<32>(text, out);
     }
     if text.len() <= 1024 {
-        return by_some(text, out);
+        return by_memory::<512>(text, out);
     }
     in_two(text, out)
 }

@@ -4,7 +4,8 @@
 ghost use Rattle.std.specs.Prelude.{◌≡◌, cond, ◌+◌, ◌≤◌, ◌<◌, length};
 ghost use Rattle.tokens.specs.InnerToken.{TokenAt, ShortAt};
 
-// An op of a text: its length, its code, and the place after its letter.
+// An op of a text: its length, its code, and the place after its letter. Places are counted in the whole text, as the contracts above speak of one text: a slice of the rest would have to be
+// counted back.
 #[derive(Clone, Copy)]
 pub struct Token {
     pub len: u32,

@@ -1,5 +1,5 @@
 -- What was copied so far is the first of the ops.
-use Prim.Native.Nat.{ℕ, ◌+◌, ◌<◌}
+use Prim.Native.Nat.{ℕ, ◌+◌, ◌-◌, ◌*◌, ◌<◌}
 use mathlib.Core.Path.{◌≡◌, refl, sym, ap, ◌∙◌, subst}
 use mathlib.Core.List.{List}
 use native.Mathlib.Omega.{arith}
@@ -18,15 +18,19 @@ two-more d ops l j e h k =
     one_more d ops (set l j (get_or ops j 0)) (j + 1) (one_more d ops l j e (omega arith) (omega arith)) h k
     ∙ ap (λ (i : ℕ). splice d 0 (take i ops)) {x = j + 1 + 1} {y = j + 2} (omega arith)
 
-pub loop-j-init : goal.loop-j-init
-loop-j-init c =
-    (omega arith, refl, sym (splice_nil c.args.out.now 0))
+pub loop-k-init : goal.loop-k-init
+loop-k-init c =
+    (refl, sym (splice_nil c.args.out.now 0))
 
-pub loop-j-preserved : goal.loop-j-preserved
-loop-j-preserved c =
-    (omega arith, simp length-set c.loop-j.invariant.1, two-more c.args.out.now c.args.ops.now c.loop-j.out c.loop-j.j c.loop-j.invariant.2 (omega arith) (omega arith))
+pub loop-k-preserved : goal.loop-k-preserved
+loop-k-preserved c = (
+  simp length-set c.loop-k.invariant.0,
+  two-more c.args.out.now c.args.ops.now c.loop-k.out (2 * c.loop-k.k) c.loop-k.invariant.1 (omega arith) (omega arith)
+      ∙ ap (λ (i : ℕ). splice c.args.out.now 0 (take i c.args.ops.now)) {x = 2 * c.loop-k.k + 2} {y = 2 * (c.loop-k.k + 1)} (omega arith),
+)
 
-pub returns-then-j-n : goal.returns-then-j-n
-returns-then-j-n c =
-    one_more c.args.out.now c.args.ops.now c.loop-j.out c.loop-j.j c.loop-j.invariant.2 (omega arith) (omega arith)
-    ∙ ap (λ (i : ℕ). splice c.args.out.now 0 (take i c.args.ops.now)) {x = c.loop-j.j + 1} {y = c.args.n} (omega arith)
+pub returns-then-n-eq1 : goal.returns-then-n-eq1
+returns-then-n-eq1 c =
+    let first = λ (i : ℕ). splice c.args.out.now 0 (take i c.args.ops.now) in
+    one_more c.args.out.now c.args.ops.now c.loop-k.out (c.args.n - 1) (c.loop-k.invariant.1 ∙ ap first {x = 2 * c.loop-k.k} {y = c.args.n - 1} (omega arith)) (omega arith) (omega arith)
+    ∙ ap first {x = c.args.n - 1 + 1} {y = c.args.n} (omega arith)
