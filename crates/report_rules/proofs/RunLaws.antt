@@ -9,7 +9,7 @@ use lib.Dec.{leb}
 use lib.ListN.{length, take, drop, length-append, length-drop, take-append-drop}
 use lib.Seq.{take-take, length-take-le, drop-append-le}
 use Rattle.lists.proofs.Absurd.{never}
-use Rattle.blocks.specs.Fill.{Gathers, First}
+use Rattle.blocks.specs.Fill.{is_over, is_failed, Gathers, First}
 use Rattle.blocks.specs.declared.Read.{Read}
 use Rattle.blocks.proofs.BlockLaws.{drop-take, gathered}
 use Rattle.stream_rules.proofs.MarkLaws.{same_mark, long}
@@ -92,14 +92,14 @@ so_far (turns {read} {written} {block₁ = block₁} {out₁ = out₁} {s = s} {
     (so_far ran on failed (read_behind s s₁ block₁ ++ ys) (added s₁ s₂ out₁ ++ t) (before_read f w failed ys (added s₁ s₂ out₁ ++ t) (w.goes e failed ys t p))))
 
 -- at the end: where a read gave nothing, nothing follows
-pub printed : {read written block out : List ℕ} {s : State} → Ran read written s block out → s.going ≡ false → (ys : List ℕ) → (s.whole ≡ true → ys ≡ [])
-    → Reports s.failed 0 (drop 5 (read ++ ys)) written
+pub printed : {read written block out : List ℕ} {s : State} → Ran read written s block out → s.going ≡ false → (ys : List ℕ) → (is_over s.source ≡ true → ys ≡ [])
+    → Reports (is_failed s.source) 0 (drop 5 (read ++ ys)) written
 printed (starts g m moved) e ys none = never (cc)
 printed (turns {read} {written} {block₁ = block₁} {out = out} {out₁} {s} {s₁} {s₂} ran on f w) e ys none =
-    subst (λ (b : Bool). Reports b 0 (drop 5 (read ++ read_behind s s₁ block₁ ++ ys)) (written ++ take (due_of s₂) out₁)) (sym w.same.1)
-    (subst (λ (l : List ℕ). Reports s₁.failed 0 (drop 5 l) (written ++ take (due_of s₂) out₁)) (sym (append_assoc read (read_behind s s₁ block₁) ys))
-    (subst (λ (l : List ℕ). Reports s₁.failed 0 (drop 5 (read ++ (read_behind s s₁ block₁ ++ ys))) (written ++ l)) (sym (ap (λ (k : ℕ). take k out₁) (due_last s₂ e) ∙ waited f w))
-    (so_far ran on s₁.failed (read_behind s s₁ block₁ ++ ys) (added s₁ s₂ out₁) (before_read f w s₁.failed ys (added s₁ s₂ out₁) (w.ends e ys (λ h. none (w.same.0 ∙ h)))))))
+    subst (λ (b : Bool). Reports b 0 (drop 5 (read ++ read_behind s s₁ block₁ ++ ys)) (written ++ take (due_of s₂) out₁)) (ap is_failed (sym w.same))
+    (subst (λ (l : List ℕ). Reports (is_failed s₁.source) 0 (drop 5 l) (written ++ take (due_of s₂) out₁)) (sym (append_assoc read (read_behind s s₁ block₁) ys))
+    (subst (λ (l : List ℕ). Reports (is_failed s₁.source) 0 (drop 5 (read ++ (read_behind s s₁ block₁ ++ ys))) (written ++ l)) (sym (ap (λ (k : ℕ). take k out₁) (due_last s₂ e) ∙ waited f w))
+    (so_far ran on (is_failed s₁.source) (read_behind s s₁ block₁ ++ ys) (added s₁ s₂ out₁) (before_read f w (is_failed s₁.source) ys (added s₁ s₂ out₁) (w.ends e ys (λ h. none (ap is_over w.same ∙ h)))))))
 
 -- each turn reads a byte, or uses one
 pub turn_paid : {s s₁ s₂ : State} {block block₁ block₂ out out₁ : List ℕ} (k n : ℕ) → Refilled s block s₁ block₁ → Turned s₁ block₁ out s₂ block₂ out₁ → s₂.going ≡ true → s₂.have ≤ s₁.have
@@ -109,7 +109,7 @@ turn_paid {s} {s₁} {s₂} {block₁ = block₁} k n f w e less fits h = go (gr
     l : length (read_behind s s₁ block₁) ≡ s₁.have - s.have
     l = length-drop s.have (take s₁.have block₁) ∙ ap (λ (k : ℕ). k - s.have) (length-take-le s₁.have block₁ fits)
 
-    go : ((s₁.whole ≡ true) ⊎ (32772 ≤ s₁.have)) ⊎ (s.have < s₁.have) → k + 1 + s₂.have ≤ 2 * (n + length (read_behind s s₁ block₁))
+    go : ((is_over s₁.source ≡ true) ⊎ (32772 ≤ s₁.have)) ⊎ (s.have < s₁.have) → k + 1 + s₂.have ≤ 2 * (n + length (read_behind s s₁ block₁))
     go (inl q) = omega (arith, w.uses e q, (grown f).grows, l)
     go (inr q) = omega (arith, (grown f).grows, l)
 
@@ -157,13 +157,13 @@ along_last n h a = record { read = a.read; written = a.written; ran = a.ran; las
 -- ---- a whole stream
 
 -- What the program prints of a stream that begins with its mark: of the bytes that were read, and of what follows them, which is nothing where a read gave nothing.
-pub prints : {read written block out : List ℕ} {s : State} (ys : List ℕ) → Ran read written s block out → s.going ≡ false → s.failed ≡ false → (s.whole ≡ true → ys ≡ []) → Prints (read ++ ys) written
+pub prints : {read written block out : List ℕ} {s : State} (ys : List ℕ) → Ran read written s block out → s.going ≡ false → is_failed s.source ≡ false → (is_over s.source ≡ true → ys ≡ []) → Prints (read ++ ys) written
 prints {read} {written} ys ran e ok none =
     let p : Reports false 0 (drop 5 (read ++ ys)) written = subst (λ (b : Bool). Reports b 0 (drop 5 (read ++ ys)) written) ok (printed ran e ys none) in
     rw (marked ran ys) p
 
 -- And of another stream.
-pub refuses : {r : Read} {block : List ℕ} (ys : List ℕ) (f : First 5 r block) → is_marked (take r.have block) ≡ false → (r.none ≡ true → ys ≡ []) → Prints (f.read ++ ys) bad_input
+pub refuses : {r : Read} {block : List ℕ} (ys : List ℕ) (f : First 5 r block) → is_marked (take r.have block) ≡ false → (is_over r.source ≡ true → ys ≡ []) → Prints (f.read ++ ys) bad_input
 refuses {r} {block} ys f m none = rw is refl
   where
     same : is_marked f.read ≡ false
@@ -172,9 +172,9 @@ refuses {r} {block} ys f m none = rw is refl
     size : length f.read ≡ r.have
     size = ap length (sym (gathered f.gathers)) ∙ length-take-le r.have block f.within
 
-    go : (b : Bool) → r.none ≡ b → is_marked (f.read ++ ys) ≡ is_marked f.read
+    go : (b : Bool) → is_over r.source ≡ b → is_marked (f.read ++ ys) ≡ is_marked f.read
     go true e = ap is_marked (ap (λ (l : List ℕ). f.read ++ l) (none e) ∙ append-nil f.read)
     go false e = same_mark f.read ys (omega (arith, size, f.enough e))
 
     is : is_marked (f.read ++ ys) ≡ false
-    is = go r.none refl ∙ same
+    is = go (is_over r.source) refl ∙ same

@@ -8,6 +8,7 @@ use native.Mathlib.Omega.{arith}
 use lib.ListN.{length, take, drop, length-take}
 use lib.Seq.{take-take, take-append-le, drop-append-le, length-take-le}
 use Rattle.lists.proofs.Absurd.{never}
+use Rattle.blocks.specs.Fill.{is_over, is_failed}
 use Rattle.blocks.proofs.BlockLaws.{drop-take, fill_more, fill_some}
 use Rattle.put_text.specs.Puts.{Put}
 use Rattle.stream_rules.specs.Stream.{closing, last_word, Reports}
@@ -40,41 +41,41 @@ grown (reads low f) = record {
 
 -- ---- a turn
 
-module _ (s : State) (block out : List ℕ) (w : Block) (out₁ : List ℕ) (went : Went (take s.have block) s.whole s.records out s.put w out₁) (fits : s.have ≤ length block) where
+module _ (s : State) (block out : List ℕ) (w : Block) (out₁ : List ℕ) (went : Went (take s.have block) (is_over s.source) s.records out s.put w out₁) (fits : s.have ≤ length block) where
   pub within : w.used ≤ s.have
   within = omega (arith, simp length-take at went.gone.within)
 
   pub turned_on : (block₁ : List ℕ) → s.put ≤ 65280 → goes_on w.next ≡ true → take (s.have - w.used) block₁ ≡ take (s.have - w.used) (drop w.used block)
-      → Turned s block out (record { have = s.have - w.used; whole = s.whole; failed = s.failed; records = w.records; put = w.put; going = true }) block₁ out₁
+      → Turned s block out (record { have = s.have - w.used; source = s.source; records = w.records; put = w.put; going = true }) block₁ out₁
   turned_on block₁ low on moved =
       let g = went.gone in record {
         kept = take-take s.put w.put out₁ g.from ∙ g.kept;
-        same = (refl, refl);
+        same = refl;
         uses = λ e k. omega (arith, within, went_on went low on (at-hand k));
         goes = λ e failed ys t p. g.lines failed ys t (subst (λ (l : List ℕ). Reports failed w.records (l ++ ys) t) (moved ∙ sym (drop-take w.used s.have block)) p);
         ends = λ e. never (cc);
       }
     where
-      at-hand : Enough s → (s.whole ≡ true) ⊎ (32772 ≤ length (take s.have block))
+      at-hand : Enough s → (is_over s.source ≡ true) ⊎ (32772 ≤ length (take s.have block))
       at-hand (inl e) = inl e
       at-hand (inr k) = inr (omega (arith, length-take-le s.have block fits))
 
-  pub turned_off : (end : ℕ) (out₂ : List ℕ) → 131072 ≤ length out → goes_on w.next ≡ false → Put out₁ w.put (closing (last_word s.failed w.next) w.records) end out₂
-      → Turned s block out (record { have = s.have; whole = s.whole; failed = s.failed; records = w.records; put = end; going = false }) block out₂
+  pub turned_off : (end : ℕ) (out₂ : List ℕ) → 131072 ≤ length out → goes_on w.next ≡ false → Put out₁ w.put (closing (last_word (is_failed s.source) w.next) w.records) end out₂
+      → Turned s block out (record { have = s.have; source = s.source; records = w.records; put = end; going = false }) block out₂
   turned_off end out₂ room off p =
       let g = went.gone in
-      let last = closing (last_word s.failed w.next) w.records in
+      let last = closing (last_word (is_failed s.source) w.next) w.records in
       let n : length (take w.put out₁) ≡ w.put = length-take-le w.put out₁ (omega (arith, g.upto, g.same)) in
       let b = g.from in
       let m : take end out₂ ≡ take w.put out₁ ++ last = ap (λ (k : ℕ). take k out₂) p.next ∙ p.head in record {
         kept = ap (take s.put) m ∙ take-append-le s.put (take w.put out₁) last (omega arith) ∙ take-take s.put w.put out₁ b ∙ g.kept;
-        same = (refl, refl);
+        same = refl;
         uses = λ e. never (cc);
         goes = λ e. never (cc);
         ends = λ e ys none.
-            subst (λ (l : List ℕ). Reports s.failed s.records (take s.have block ++ ys) l)
+            subst (λ (l : List ℕ). Reports (is_failed s.source) s.records (take s.have block ++ ys) l)
             (sym (ap (drop s.put) m ∙ drop-append-le s.put (take w.put out₁) last (omega arith)))
-            (g.lines s.failed ys last
-            (subst (λ (x : NextFrame). Reports s.failed w.records (drop w.used (take s.have block) ++ ys) (closing (last_word s.failed x) w.records)) (sym went.next)
-            (ends_there s.failed s.whole w.records (drop w.used (take s.have block)) ys none (sym (ap goes_on went.next) ∙ off))));
+            (g.lines (is_failed s.source) ys last
+            (subst (λ (x : NextFrame). Reports (is_failed s.source) w.records (drop w.used (take s.have block) ++ ys) (closing (last_word (is_failed s.source) x) w.records)) (sym went.next)
+            (ends_there (is_failed s.source) (is_over s.source) w.records (drop w.used (take s.have block)) ys none (sym (ap goes_on went.next) ∙ off))));
       }

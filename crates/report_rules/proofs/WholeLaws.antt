@@ -2,7 +2,7 @@
 use Rattle.std.proofs.Common.{ℕ, ◌≡◌, true, false, List, [], ◌++◌, take, Option, None, Some, sym, subst}
 use Rattle.std.specs.Io.KnownBytes.{Consumes, Appends, IsAtEnd}
 use Rattle.std.proofs.KnownBytes.{Consumes-trans}
-use Rattle.blocks.specs.Fill.{First}
+use Rattle.blocks.specs.Fill.{is_over, is_failed, First}
 use Rattle.blocks.specs.Tied.{Tied}
 use Rattle.blocks.specs.declared.Read.{Read}
 use Rattle.blocks.proofs.BlockLaws.{gathered}
@@ -19,8 +19,8 @@ split (Some stream) None held holds read written b p w = absurd b
 split (Some stream) (Some ys) held holds read written b p w = (written, subst (λ (l : List ℕ). Prints l written) (sym b) (p ys (λ z. z)), w)
 
 -- a stream that begins with its mark
-pub whole_came : {first block out : List ℕ} {s : State} (before : Option (List ℕ)) {had left held holds : Option (List ℕ)} → Consumes before had first → (c : Came s block out) → s.going ≡ false → s.failed ≡ false
-    → (s.whole ≡ true → IsAtEnd left) → Tied first had left held holds c.read c.written → Printed before held holds
+pub whole_came : {first block out : List ℕ} {s : State} (before : Option (List ℕ)) {had left held holds : Option (List ℕ)} → Consumes before had first → (c : Came s block out) → s.going ≡ false → is_failed s.source ≡ false
+    → (is_over s.source ≡ true → IsAtEnd left) → Tied first had left held holds c.read c.written → Printed before held holds
 whole_came {first = first} before {had} {left} {held} {holds} b c e ok z t =
     split before left held holds c.read c.written (subst (Consumes before left) (sym t.behind) (Consumes-trans before had left first t.more b t.took))
     (λ ys none. prints ys c.ran e ok (λ h. none (z h)))
@@ -28,6 +28,6 @@ whole_came {first = first} before {had} {left} {held} {holds} b c e ok z t =
 
 -- another stream
 pub whole_refused : {block : List ℕ} {r : Read} (before had held holds : Option (List ℕ)) (f : First 5 r block) → is_marked (take r.have block) ≡ false → Consumes before had (take r.have block)
-    → (r.none ≡ true → IsAtEnd had) → Appends held holds bad_input → Printed before held holds
+    → (is_over r.source ≡ true → IsAtEnd had) → Appends held holds bad_input → Printed before held holds
 whole_refused before had held holds f m b z w =
     split before had held holds f.read bad_input (subst (Consumes before had) (gathered f.gathers) b) (λ ys none. refuses ys f m (λ h. none (z h))) w

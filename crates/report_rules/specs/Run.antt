@@ -2,8 +2,9 @@
 -- output that say their bytes (`Tied`, of `blocks`). Standard input and output don't say: of them it is assumed, and not proved.
 use Rattle.std.specs.Prelude.{ℕ, ◌-◌, ◌≤◌, ◌<◌, ◌≡◌, Bool, true, false, cond, ◌⊎◌, List, [], ◌++◌, leb, length, take, drop, Option, IfSome}
 use Rattle.std.specs.Io.KnownBytes.{Appends}
-use Rattle.blocks.specs.Fill.{Filled, Gathers}
+use Rattle.blocks.specs.Fill.{is_over, is_failed, Filled, Gathers}
 use Rattle.blocks.specs.declared.Read.{Read}
+use Rattle.blocks.specs.declared.Source.TheVariants.{Open}
 use Rattle.stream_rules.specs.Stream.{is_marked, Reports, Prints}
 use Rattle.report_rules.specs.declared.State.{State}
 
@@ -16,15 +17,15 @@ waiting s out = take s.put out
 
 -- the state before the first turn, with so many bytes at hand behind the mark
 abbrev pub begun : ℕ → State
-begun have = record { have = have; whole = false; failed = false; records = 0; put = 0; going = true }
+begun have = record { have = have; source = Open; records = 0; put = 0; going = true }
 
 -- nothing has to be read: all that is left is at hand, or as much as the longest record takes
 abbrev pub Enough : State → Type 0
-Enough s = (s.whole ≡ true) ⊎ (32772 ≤ s.have)
+Enough s = (is_over s.source ≡ true) ⊎ (32772 ≤ s.have)
 
 -- A read, unless nothing has to be read: what it gave stands behind the bytes at hand, and where it gave nothing these are all that is left.
 abbrev pub behind_read : State → Read → State
-behind_read s r = record { have = r.have; whole = r.none; failed = r.failed; records = s.records; put = s.put; going = s.going }
+behind_read s r = record { have = r.have; source = r.source; records = s.records; put = s.put; going = s.going }
 
 pub data Refilled (s : State) (block : List ℕ) : State → List ℕ → Type 0 where
   enough : Enough s → Refilled s block s block
@@ -40,17 +41,17 @@ added s r out' = drop s.put (waiting r out')
 
 pub record Turned (s : State) (block out : List ℕ) (r : State) (block' out' : List ℕ) : Type 0 where
   pub kept : take s.put (waiting r out') ≡ waiting s out
-  pub same : (r.whole ≡ s.whole) × (r.failed ≡ s.failed)
+  pub same : r.source ≡ s.source
   pub uses : r.going ≡ true → Enough s → r.have < s.have
   pub goes : r.going ≡ true → (failed : Bool) (ys t : List ℕ) → Reports failed r.records (at_hand r block' ++ ys) t → Reports failed s.records (at_hand s block ++ ys) (added s r out' ++ t)
-  pub ends : r.going ≡ false → (ys : List ℕ) → (s.whole ≡ true → ys ≡ []) → Reports s.failed s.records (at_hand s block ++ ys) (added s r out')
+  pub ends : r.going ≡ false → (ys : List ℕ) → (is_over s.source ≡ true → ys ≡ []) → Reports (is_failed s.source) s.records (at_hand s block ++ ys) (added s r out')
 
 -- A write: all that waits, at the end or where there is no room for a line more; else nothing.
 abbrev pub due_of : State → ℕ
 due_of s = cond s.going (cond (leb s.put 65280) 0 s.put) s.put
 
 abbrev pub relieved_of : State → State
-relieved_of s = record { have = s.have; whole = s.whole; failed = s.failed; records = s.records; put = s.put - due_of s; going = s.going }
+relieved_of s = record { have = s.have; source = s.source; records = s.records; put = s.put - due_of s; going = s.going }
 
 -- The first reads brought the mark, and what stands behind it moved to the front. Then turn after turn, each a read, lines that are put and a write: all bytes that were read so far, and all that
 -- were written.

@@ -1,12 +1,13 @@
 // Document 01, section Program: what the turns of `report` come to, each a read, lines that are put and a write: definitions and proofs. No function stands here.
-// The bytes at hand, whether they are all that is left, and whether a read failed; the records so far, the bytes that wait to be written, and whether reading goes on.
 #![tactic(auto)]
 
+use blocks::Source;
+
+// The bytes at hand and what is known of the input behind them, the records so far, the bytes that wait to be written, and whether reading goes on.
 #[derive(Clone, Copy)]
 pub struct State {
     pub have: usize,
-    pub whole: bool,
-    pub failed: bool,
+    pub source: Source,
     pub records: u64,
     pub put: usize,
     pub going: bool,

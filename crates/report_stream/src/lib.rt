@@ -18,26 +18,15 @@ pub const FULL: usize = 65280;
 pub fn marked(s: &[u8]) -> bool
     ensures { result ≡ is_marked s.now }
 {
-    if s.len() < 5 {
-        return false;
-    }
-    if s[0] != b'C' {
-        return false;
-    }
-    if s[1] != b'G' {
-        return false;
-    }
-    if s[2] != b'R' {
-        return false;
-    }
-    little_endian::u16_at(s, 3) == 1
+    s.starts_with(b"CGR\x01\x00")
 }
 
 // What comes next where all that is left is at hand.
+#[tactic(auto, unfolding(stream_rules::specs::Stream::next_in))]
 fn next_in(s: &[u8]) -> NextFrame
     ensures { result ≡ next_in s.now }
 {
-    if s.len() == 0 {
+    if s.is_empty() {
         return NextFrame::End;
     }
     if s.len() < 4 {
@@ -61,11 +50,8 @@ fn so_far(whole: bool, n: NextFrame) -> NextFrame
         return n;
     }
     match n {
-        NextFrame::Record(size) => NextFrame::Record(size),
-        NextFrame::TooLong => NextFrame::TooLong,
-        NextFrame::CutShort => NextFrame::More,
-        NextFrame::End => NextFrame::More,
-        NextFrame::More => NextFrame::More,
+        NextFrame::CutShort | NextFrame::End => NextFrame::More,
+        _ => n,
     }
 }
 
@@ -90,22 +76,21 @@ pub fn lines_at_hand(s: &[u8], whole: bool, records: u64, out: &mut [u8], at: us
         let next = comes_next(&s[used..], whole);
         let NextFrame::Record(size) = next else {
             return Block {
-                used: used,
+                used,
                 records: n,
-                put: put,
-                next: next,
+                put,
+                next,
             };
         };
-        let from = used + 4;
-        let end = from + size;
+        let end = used + 4 + size;
         n += 1;
-        put = report_line::line(n, &s[from..end], out, put);
+        put = report_line::line(n, &s[used + 4..end], out, put);
         used = end;
     }
     Block {
-        used: used,
+        used,
         records: n,
-        put: put,
+        put,
         next: comes_next(&s[used..], whole),
     }
 }
@@ -114,13 +99,7 @@ pub fn lines_at_hand(s: &[u8], whole: bool, records: u64, out: &mut [u8], at: us
 pub fn goes_on(next: NextFrame) -> bool
     ensures { result ≡ goes_on next }
 {
-    match next {
-        NextFrame::Record(_) => true,
-        NextFrame::More => true,
-        NextFrame::TooLong => false,
-        NextFrame::CutShort => false,
-        NextFrame::End => false,
-    }
+    matches!(next, NextFrame::Record(_) | NextFrame::More)
 }
 
 // The word for a stream that could not be read to its end.
@@ -132,9 +111,7 @@ fn put_word(next: NextFrame, out: &mut [u8], at: usize) -> usize
     match next {
         NextFrame::TooLong => put_text::put_bytes(b"too long\n", out, at),
         NextFrame::CutShort => put_text::put_bytes(b"cut short\n", out, at),
-        NextFrame::End => at,
-        NextFrame::Record(_) => at,
-        NextFrame::More => at,
+        NextFrame::End | NextFrame::Record(_) | NextFrame::More => at,
     }
 }
 

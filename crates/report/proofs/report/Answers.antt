@@ -1,6 +1,6 @@
 -- The program ran so far, and by an input and an output that say their bytes it took what was read, and wrote what was written.
-use Rattle.std.proofs.Common.{◌≡◌, ◌≤◌, true, false, true≢false, take, sym, ap, ◌∙◌, arith, length-take-le}
-use borrow.Author.Tests.{not-true, not-false}
+use Rattle.std.proofs.Common.{ℕ, ◌≡◌, ◌≤◌, take, sym, ap, ◌∙◌, arith, length-take-le}
+use Rattle.blocks.specs.declared.Source.TheVariants.{Ended}
 use Rattle.blocks.proofs.BlockLaws.{gathered}
 use Rattle.blocks.proofs.TiedLaws.{tied_start, tied_on}
 use Rattle.stream_rules.proofs.MarkLaws.{long}
@@ -14,73 +14,65 @@ use Rattle.report.proofs.report.Goals.{Start}
 
 -- the mark takes five bytes
 enough : (g : given.Over) (c : Start g) → 5 ≤ c.args.first.have
-enough g c = let f = c.requires.first in omega (arith, long (take c.args.first.have c.args.block.now) f.1, length-take-le c.args.first.have c.args.block.now f.0.within)
+enough g c = let f = c.requires in omega (arith, long (take c.args.first.have c.args.block.now) f.1, length-take-le c.args.first.have c.args.block.now f.0.within)
 
 -- turn and write leave what was told of the read
-kept : {A : Type 0} (s s₁ r : State) → (s₁.whole ≡ s.whole) × (s₁.failed ≡ s.failed) → r ≡ relieved_of s₁ → (s.whole ≡ true → s.failed ≡ false → A) → r.whole ≡ true → r.failed ≡ false → A
-kept s s₁ r same e p h k = p (sym same.0 ∙ sym (ap (λ (q : State). q.whole) e) ∙ h) (sym same.1 ∙ sym (ap (λ (q : State). q.failed) e) ∙ k)
+kept : {A : Type 0} (s s₁ r : State) → s₁.source ≡ s.source → r ≡ relieved_of s₁ → (s.source ≡ Ended → A) → r.source ≡ Ended → A
+kept s s₁ r same e p h = p (sym same ∙ sym (ap (λ (q : State). q.source) e) ∙ h)
 
 pub shift-requires : goal.shift-requires
-shift-requires g c = let e = enough g (goal.at.shift-requires g c).Start in (omega (arith, e), c.requires.first.0.within)
+shift-requires g c = let e = enough g (goal.at.shift-requires g c).Start in (omega (arith, e), c.requires.0.within)
 
 pub overflow_sub-have : goal.overflow_sub-have
 overflow_sub-have g c = enough g (goal.at.overflow_sub-have g c).Start
 
-pub loop-turns-init : goal.loop-turns-init
+pub loop-init : goal.loop-init
 unfolding along_start
-loop-turns-init g c =
+loop-init g c =
     let e = c.start-s.ensures in
-    let f = c.requires.first in
+    let f = c.requires in
     record {
-      long = omega (arith, c.requires.value, c.shift.auto.block);
-      room = c.requires.value_2;
-      have = omega (arith, ap (λ (q : State). q.have) e, f.0.within, c.requires.value);
+      have = omega (arith, ap (λ (q : State). q.have) e, f.0.within);
       put = omega (arith, ap (λ (q : State). q.put) e);
       counted = omega (arith, ap (λ (q : State). q.records) e);
-      few = omega arith;
-      end = λ h. absurd (true≢false (sym h ∙ ap (λ (q : State). q.whole) e));
+      end = λ h. let o = ap (λ (q : State). q.source) e in let z : ◌≡◌ {A = ℕ} 0 1 = cc in absurd (omega arith);
       along = (along_start c.args.out.now f.0 f.1 c.shift.ensures e, tied_start _ _ (sym (gathered f.0.gathers)));
     }
 
 pub returns-then-not-s-clause-came : goal.returns-then-not-s-clause-came
 returns-then-not-s-clause-came g c =
-    λ ok. along_off c.loop-turns.turns c.loop-turns.invariant.along.0 c.refill-s.ensures.refilled c.turn-s.ensures.turned c.write_due-behind.ensures.state.0 (not-true _ c.if-not-s.true)
+    along_off c.loop.counter c.loop.invariant.along.0 c.refill.ensures.refilled c.turn.ensures.turned c.write_due.ensures.state.0 c.if-not-s.true
 
 pub returns-then-not-s-clause-tied : goal.returns-then-not-s-clause-tied
 unfolding along_off
 returns-then-not-s-clause-tied g c =
-    let l = c.loop-turns.invariant.along in
-    λ ok. (
-      along_off c.loop-turns.turns l.0 c.refill-s.ensures.refilled c.turn-s.ensures.turned c.write_due-behind.ensures.state.0 (not-true _ c.if-not-s.true),
-      tied_on (read_behind c.loop-turns.s c.refill-s.result c.refill-s.new.block) (take (due_of c.turn-s.result) c.turn-s.new.out) l.1 c.refill-s.ensures.bytes (c.write_due-behind.ensures.bytes ok),
+    let l = c.loop.invariant.along in (
+      along_off c.loop.counter l.0 c.refill.ensures.refilled c.turn.ensures.turned c.write_due.ensures.state.0 c.if-not-s.true,
+      tied_on (read_behind c.loop.s c.refill.new.s c.refill.new.block) (take (due_of c.turn.new.s) c.turn.new.out) l.1 c.refill.ensures.bytes c.in_ok-write_due.ensures.bytes,
     )
 
 pub returns-then-not-s-clause-end : goal.returns-then-not-s-clause-end
 returns-then-not-s-clause-end g c =
-    λ ok. kept c.refill-s.result c.turn-s.result c.write_due-behind.result.state c.turn-s.ensures.turned.same c.write_due-behind.ensures.state.0 (c.refill-s.ensures.end c.loop-turns.invariant.end)
+    kept c.refill.new.s c.turn.new.s c.write_due.new.s c.turn.ensures.turned.same c.write_due.ensures.state.0 (c.refill.ensures.end c.loop.invariant.end)
 
-pub loop-turns-preserved : goal.loop-turns-preserved
+pub loop-preserved : goal.loop-preserved
 unfolding along_on
-loop-turns-preserved g c =
-    let i = c.loop-turns.invariant in
-    let f = c.refill-s.ensures in
-    let t = c.turn-s.ensures in
-    let w = c.write_due-behind.ensures in
-    let e = w.state.0 in
+loop-preserved g c =
+    let i = c.loop.invariant in
+    let f = c.refill.ensures in
+    let t = c.turn.ensures in
+    let e = c.write_due.ensures.state.0 in
     record {
-      long = omega (arith, i.long, c.turn-s.auto.block, c.refill-s.auto.block);
-      room = omega (arith, i.room, c.turn-s.auto.out);
       have = omega (arith, ap (λ (q : State). q.have) e, t.have_le_have, f.have_bound_2);
-      put = w.state.1;
+      put = c.write_due.ensures.state.1;
       counted = omega (arith, ap (λ (q : State). q.records) e, t.have_le_have, (grown f.refilled).records, i.counted);
-      few = omega arith;
-      end = kept c.refill-s.result c.turn-s.result c.write_due-behind.result.state t.turned.same e (f.end i.end);
+      end = kept c.refill.new.s c.turn.new.s c.write_due.new.s t.turned.same e (f.end i.end);
       along = (
-        along_on c.loop-turns.turns i.along.0 f.refilled t.turned e (not-false _ c.if-not-s.false) t.have_le_have.0 (omega (arith, f.have_bound_2, i.long, c.refill-s.auto.block)),
-        tied_on (read_behind c.loop-turns.s c.refill-s.result c.refill-s.new.block) (take (due_of c.turn-s.result) c.turn-s.new.out) i.along.1 f.bytes (w.bytes (not-false _ c.if-not-behind.false)),
+        along_on c.loop.counter i.along.0 f.refilled t.turned e c.if-not-s.false t.have_le_have.0 (omega (arith, f.have_bound_2)),
+        tied_on (read_behind c.loop.s c.refill.new.s c.refill.new.block) (take (due_of c.turn.new.s) c.turn.new.out) i.along.1 f.bytes c.in_ok-write_due.ensures.bytes,
       );
     }
 
 pub returns-clause-tied : goal.returns-clause-tied
 unfolding along_last
-returns-clause-tied g c = let l = c.loop-turns.invariant.along in λ ok. (along_last c.loop-turns.turns (omega arith) l.0, l.1)
+returns-clause-tied g c = let l = c.loop.invariant.along in (along_last c.loop.counter (omega arith) l.0, l.1)

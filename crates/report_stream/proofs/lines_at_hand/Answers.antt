@@ -18,8 +18,8 @@ is_next s used size whole e r = far_record whole (next_in (drop used s)) size (s
 in_it : (s : List ℕ) (used size : ℕ) (whole : Bool) {n : NextFrame} → n ≡ so_far whole (next_in (take (length s - used) (drop used s))) → n ≡ Record size → used + 4 + size ≤ length s
 in_it s used size whole e r = record_in s used size (is_next s used size whole e r)
 
-pub overflow_add-end : goal.overflow_add-end
-overflow_add-end c = omega (arith, in_it c.args.s.now c.loop-put.used c.in-Record.size c.args.whole c.comes_next-next.ensures c.in-Record.is)
+pub overflow_add-end-in-loop-put : goal.overflow_add-end-in-loop-put
+overflow_add-end-in-loop-put c = omega (arith, in_it c.args.s.now c.loop-put.used c.in-Record.size c.args.whole c.comes_next-next.ensures c.in-Record.is)
 
 pub overflow_add-n : goal.overflow_add-n
 overflow_add-n c = omega (arith, in_it c.args.s.now c.loop-put.used c.in-Record.size c.args.whole c.comes_next-next.ensures c.in-Record.is)
