@@ -70,10 +70,7 @@ pub fn tail_of<L: OpList>(list: L) -> Tail
 fn whole(n: u64) -> Option<i32>
     ensures { result ≡ summed n }
 {
-    if 2147483647 < n {
-        return None;
-    }
-    Some(n as i32)
+    i32::try_from(n).ok()
 }
 
 // Where an alignment at `at` that begins with so many clipped bases would begin; counted as `at` is.

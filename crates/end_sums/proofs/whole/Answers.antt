@@ -1,17 +1,13 @@
--- By the test: n is above the range of an i32, or within it.
-use Rattle.signed.proofs.Ranges.{checked_in, checked_above}
-use Rattle.std.specs.Prelude.{Some}
-use lib.IntN.{pos}
-use mir.Syntax.{w32}
-use mir.Facts.{to_z_pos}
-use mathlib.Core.Path.{ap, sym, ◌∙◌}
-use native.Mathlib.Omega.{arith}
+-- An i32 holds n up to 2^31 - 1.
+use Rattle.std.proofs.Common.{◌∙◌, Result, Ok, Err, ℤ, pos}
+use Rattle.std.specs.Option.{SomeIff}
+use Rattle.std.specs.Result.{OkIff, result_ok}
+use Rattle.signed.proofs.Ranges.{checked_is}
 use Rattle.end_sums.proofs.whole.Goals as goal
 
-pub returns-then-n-gt2147483647 : goal.returns-then-n-gt2147483647
-returns-then-n-gt2147483647 c =
-    sym (checked_above (pos c.args.n) (omega arith))
+as_option : {E : Type 0} (r : Result ℤ E) (P : Type 0) (z : ℤ) → OkIff r P z → SomeIff (result_ok r) P z
+as_option (Ok x) P z told = told
+as_option (Err e) P z told = told
 
 pub returns : goal.returns
-returns c =
-    ap Some (to_z_pos w32 (omega arith)) ∙ sym (checked_in (pos c.args.n) (omega arith) (omega arith))
+returns c = c.ok.ensures.value ∙ checked_is (pos c.args.n) _ (as_option c.try_from.result _ _ c.try_from.ensures)
