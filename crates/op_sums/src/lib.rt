@@ -92,18 +92,12 @@ pub fn short_sums<L: OpList>(list: L) -> Totals
 pub fn as_int(n: u64) -> Answer<i32>
     ensures { result ≡ as_int n }
 {
-    if 2147483647 < n {
-        return Err(Refusal::Overflow);
-    }
-    Ok(n as i32)
+    i32::try_from(n).ok().ok_or(Refusal::Overflow)
 }
 
 // n, or the largest signed number where n is larger.
 pub fn saturated(n: u64) -> i32
     ensures { result ≡ clamp32 (pos n) }
 {
-    if 2147483647 < n {
-        return 2147483647;
-    }
-    n as i32
+    i32::try_from(n).unwrap_or(i32::MAX)
 }
