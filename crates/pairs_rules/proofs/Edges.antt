@@ -1,5 +1,6 @@
 -- Which pairs are just FR, and which are just not: by the tests at their limits.
 use Prim.Native.Nat.{ℕ}
+use Rattle.answers.specs.Answer.{Answer}
 use Rattle.std.specs.Prelude.{Err, Ok}
 use mathlib.Core.Path.{◌≡◌, refl, ap}
 use mathlib.Core.Bool.{Bool, true, false, cond}
@@ -28,7 +29,7 @@ module _ (b : List ℕ) (l : is_short b ≡ false) where
   unfolding fr_pair fr_by
   no_template r t = simp (l, r, t) (go (is_opposite b))
     where
-      go : (o : Bool) → cond o (Ok (le_z (pos 1) (pos 0))) (Ok false) ≡ Ok false
+      go : (o : Bool) → cond {A = Answer Bool} o (Ok (le_z (pos 1) (pos 0))) (Ok false) ≡ Ok false
       go true = refl
       go false = refl
 

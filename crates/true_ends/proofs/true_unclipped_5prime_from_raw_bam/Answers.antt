@@ -34,8 +34,8 @@ returns c =
     in
     c.unclipped_by.ensures
     ∙ ap (λ (xs : List ℕ). unclipped_by xs c.own_place.result c.is_reverse.result) c.ops_at.ensures
-    ∙ ap (λ (z : ℤ). unclipped_by (area_ops c.args.bam.now _ _) (record { 0 = z }) c.is_reverse.result) c.own_place.ensures
-    ∙ ap (λ (t : Bool). unclipped_by (area_ops c.args.bam.now _ _) (record { 0 = pos_of c.args.bam.now }) t) (c.is_reverse.ensures ∙ ap is_reverse c.u16_at-flags.ensures.0)
+    ∙ ap (λ (z : ℤ). unclipped_by (area_ops c.args.bam.now c.in_ok-area.area.at c.in_ok-area.area.n) (record { 0 = z }) c.is_reverse.result) c.own_place.ensures
+    ∙ ap (λ (t : Bool). unclipped_by (area_ops c.args.bam.now c.in_ok-area.area.at c.in_ok-area.area.n) (record { 0 = pos_of c.args.bam.now }) t) (c.is_reverse.ensures ∙ ap is_reverse c.u16_at-flags.ensures.0)
     ∙ sym (reads_list Err (by-own c.args.bam.now) c.args.bam.now _ _ (sym c.in_ok-area.ensures))
     ∙ is_mapped c.args.bam.now c.if-bam-lt32.false mapped
 
