@@ -39,12 +39,10 @@ fn write(ops: &[u32], sizes: &mut [u32], starts: &mut [u32])
         start: 0,
         size: 0,
     };
-    let mut i: usize = 0;
-    while i < ops.len() {
-        let next = bed_walk::pass(walk, ops[i]);
+    for op in ops {
+        let next = bed_walk::pass(walk, *op);
         put(walk, next.n, sizes, starts);
         walk = next;
-        i += 1;
     }
     put(walk, walk.n + 1, sizes, starts);
 }
@@ -59,9 +57,7 @@ pub fn bed_blocks(start: i32, ops: &[u32], sizes: &mut [u32], starts: &mut [u32]
     if start < 0 {
         return Err(Refusal::NoBlocks);
     }
-    let Some(Measured { blocks: n, refs }) = bed_walk::measure(ops) else {
-        return Err(Refusal::NoBlocks);
-    };
+    let Measured { blocks: n, refs } = bed_walk::measure(ops).ok_or(Refusal::NoBlocks)?;
     let at = signed::natural_of(start);
     let end = at + refs;
     if 2147483647 < end {
@@ -74,5 +70,9 @@ pub fn bed_blocks(start: i32, ops: &[u32], sizes: &mut [u32], starts: &mut [u32]
         return Err(Refusal::NoRoom);
     }
     write(ops, sizes, starts);
-    Ok(Bed { chrom_start: at as u32, chrom_end: end as u32, block_count: n as u32 })
+    Ok(Bed {
+        chrom_start: at as u32,
+        chrom_end: end as u32,
+        block_count: n as u32,
+    })
 }

@@ -1,8 +1,14 @@
 -- Which case of the answer a call's tests lead to, and what the measuring pass tells of a list.
 use Prim.Native.Nat.{ℕ, ◌+◌, ◌≤◌, ◌<◌}
+<<<<<<< HEAD
 use Rattle.std.specs.Prelude.{Ok, Err, Option, Some, None}
 use Rattle.answers.specs.Answer.{Answer}
 use mathlib.Core.Path.{◌≡◌, refl, ap, sym}
+=======
+use Rattle.std.specs.Prelude.{Ok, Err, Some, None, Option}
+use Rattle.answers.specs.Answer.{Answer}
+use mathlib.Core.Path.{◌≡◌, refl, sym, ap, ◌∙◌}
+>>>>>>> ae1a548 (bed_rules, bed_walk, bed: for loops over the ops, one lemma behind the measuring pass, structs in proofs)
 use mathlib.Core.Bool.{Bool, true, false, cond, ◌||◌}
 use mathlib.Core.List.{List}
 use native.Mathlib.Omega.{arith}
@@ -85,7 +91,15 @@ answered start xs d e at end n =
     go false false true v w a = never (cc)
     go false false false true w a = never (cc)
     go false false false false true a = never (cc)
+<<<<<<< HEAD
     go false false false false false a = let p : natural start ≡ at = ap (λ r. (bed_in r).chrom_start) a in let q : chrom_end (natural start) xs ≡ end = ap (λ r. (bed_in r).chrom_end) a in (refl, omega arith)
+=======
+    go false false false false false a =
+        let g : ◌≡◌ {A = Bed} (record { chrom_start = natural start; chrom_end = chrom_end (natural start) xs; block_count = length (blocks xs) }) (record { chrom_start = at; chrom_end = end; block_count = n }) = cc in
+        let p : natural start ≡ at = ap (λ (b : Bed). b.chrom_start) g in
+        let q : chrom_end (natural start) xs ≡ end = ap (λ (b : Bed). b.chrom_end) g in
+        (refl, omega arith)
+>>>>>>> ae1a548 (bed_rules, bed_walk, bed: for loops over the ops, one lemma behind the measuring pass, structs in proofs)
 
 -- an answer by the numbers that the call has
 pub same_answer : (xs : List ℕ) {n refs : ℕ} (at : ℕ) → refs ≡ sum_of ref_len xs → n ≡ length (blocks xs) → ◌≡◌ {A = Answer Bed} (Ok (record { chrom_start = at; chrom_end = at + refs; block_count = n })) (Ok (record { chrom_start = at; chrom_end = chrom_end at xs; block_count = length (blocks xs) }))
@@ -114,10 +128,25 @@ told_nothing xs = go (unfit xs)
     go true e = refl
     go false e = never (cc)
 
-pub told_blocks : (xs : List ℕ) (n refs : ℕ) → measured xs ≡ Some (record { blocks = n; refs = refs }) → (unfit xs ≡ false) × (n ≡ length (blocks xs)) × (refs ≡ sum_of ref_len xs)
+pub told_blocks : (xs : List ℕ) (got : Measured) → measured xs ≡ Some got → (unfit xs ≡ false) × (got.blocks ≡ length (blocks xs)) × (got.refs ≡ sum_of ref_len xs)
 unfolding measured
-told_blocks xs n refs = go (unfit xs)
+told_blocks xs got = go (unfit xs)
   where
+<<<<<<< HEAD
     go : (t : Bool) → cond {A = Option Measured} t None (Some (record { blocks = length (blocks xs); refs = sum_of ref_len xs })) ≡ Some (record { blocks = n; refs = refs }) → (t ≡ false) × (n ≡ length (blocks xs)) × (refs ≡ sum_of ref_len xs)
     go true e = never (cc)
     go false e = (refl, ap (λ r. (measured_in r).blocks) (sym e), ap (λ r. (measured_in r).refs) (sym e))
+=======
+    go : (t : Bool) → cond {A = Option Measured} t None (Some (record { blocks = length (blocks xs); refs = sum_of ref_len xs })) ≡ Some got → (t ≡ false) × (got.blocks ≡ length (blocks xs)) × (got.refs ≡ sum_of ref_len xs)
+    go true e = never (cc)
+    go false e =
+        let g : ◌≡◌ {A = Measured} (record { blocks = length (blocks xs); refs = sum_of ref_len xs }) got = cc in
+        (refl, sym (ap (λ (k : Measured). k.blocks) g), sym (ap (λ (k : Measured). k.refs) g))
+
+-- behind the measuring pass: the call is `bed_from`, and what the pass told is the list's
+pub measured_fit : (start : ℤ) (xs d e : List ℕ) (at : ℕ) (got : Measured) → length xs ≤ most_ops → lt_z start (pos 0) ≡ false → at ≡ natural start → measured xs ≡ Some got
+    → (bed_blocks start xs d e ≡ bed_from at xs d e) × (got.blocks ≡ length (blocks xs)) × (got.refs ≡ sum_of ref_len xs)
+measured_fit start xs d e at got h t p m =
+    let told = told_blocks xs got m in
+    (fit start xs d e h t told.0 ∙ ap (λ (n : ℕ). bed_from n xs d e) (sym p), told.1, told.2)
+>>>>>>> ae1a548 (bed_rules, bed_walk, bed: for loops over the ops, one lemma behind the measuring pass, structs in proofs)

@@ -1,8 +1,6 @@
 // Document 02, item 5: which blocks an alignment has, and what the functions of `bed_walk` and `bed` come to: definitions and proofs. No function stands here.
 #![tactic(auto)]
 
-use answers::Refusal;
-
 // chromStart, chromEnd and blockCount, or the refusal.
 #[derive(Clone, Copy)]
 pub struct Bed {

@@ -1,10 +1,10 @@
 // Document 02, item 5, the walk over the ops: what an op more does to it, and the measuring pass. An inner crate of `bed`.
 #![tactic(auto)]
 
-ghost use Rattle.std.specs.Prelude.{◌≡◌, ℕ, ◌+◌, ◌≤◌, ◌<◌, length};
+ghost use Rattle.std.specs.Prelude.{◌≡◌, ◌+◌, ◌≤◌, ◌<◌, length};
+ghost use Rattle.std.specs.Option.{IfSome};
 ghost use Rattle.bed_rules.specs.Blocks.{is_skip};
 ghost use Rattle.bed_rules.specs.InnerWalk.{measured};
-ghost use Rattle.bed_rules.specs.declared.Measured.TheVariants.{Blocks};
 ghost use Rattle.bed_walk.specs.InnerWalked.{Passes, is_early};
 
 use bed_rules::Measured;
@@ -40,13 +40,13 @@ pub fn pass(walk: Walk, op: u32) -> Walk
     if 0 < walk.size {
         return Walk {
             n: walk.n + 1,
-            start: start,
+            start,
             size: 0,
         };
     }
     Walk {
         n: walk.n,
-        start: start,
+        start,
         size: 0,
     }
 }
@@ -55,37 +55,31 @@ pub fn pass(walk: Walk, op: u32) -> Walk
 fn is_early(walk: Walk, op: u32) -> bool
     ensures { result ≡ is_early walk op }
 {
-    if !is_skip(op) {
-        return false;
-    }
-    if 0 < walk.n {
-        return false;
-    }
-    walk.size == 0
+    is_skip(op) && walk.n == 0 && walk.size == 0
 }
 
 // The measuring pass.
 pub fn measure(ops: &[u32]) -> Option<Measured>
     requires { length ops.now ≤ 65535 }
     ensures value { result ≡ measured ops.now }
-    ensures by_index { (n refs : ℕ) → result ≡ Blocks n refs → (n ≤ 65536) × (refs ≤ 17592186044416) }
+    ensures bounds { IfSome result (λ got. (got.blocks ≤ 65536) × (got.refs ≤ 17592186044416)) }
 {
     let mut walk = Walk {
         n: 0,
         start: 0,
         size: 0,
     };
-    let mut i: usize = 0;
-    while i < ops.len() {
-        let op = ops[i];
-        if is_early(walk, op) {
+    for op in ops {
+        if is_early(walk, *op) {
             return None;
         }
-        walk = pass(walk, op);
-        i += 1;
+        walk = pass(walk, *op);
     }
     if walk.size == 0 {
         return None;
     }
-    Some(Measured { blocks: walk.n + 1, refs: walk.start + walk.size })
+    Some(Measured {
+        blocks: walk.n + 1,
+        refs: walk.start + walk.size,
+    })
 }
