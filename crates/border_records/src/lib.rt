@@ -7,7 +7,7 @@ ghost use Rattle.border.specs.Border.{count_of};
 
 use answers::Answer;
 use border::ToldCount;
-use receive_rules::{Part, Received};
+use receive_rules::Part;
 
 // The number of a part.
 fn part_number(part: Part) -> u64
@@ -17,13 +17,8 @@ fn part_number(part: Part) -> u64
 }
 
 // 0 for accepted, or the number of the part that differs.
-pub fn told_received(answer: Answer<Received>) -> ToldCount
+pub fn told_received(answer: Answer<Option<Part>>) -> ToldCount
     ensures { result ≡ count_of (tell_received answer) }
 {
-    answer
-        .map(|received| match received {
-            Received::Accepted => 0,
-            Received::Differs(part) => part_number(part),
-        })
-        .into()
+    answer.map(|part| part.map_or(0, part_number)).into()
 }

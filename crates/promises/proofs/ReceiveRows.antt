@@ -1,5 +1,6 @@
 -- The refusal table of the receiving check: the sent record is refused as it is where it is written with room enough; then the received record's two tests.
 use Prim.Native.Nat.{ℕ, ◌≤◌}
+use Rattle.std.specs.Prelude.{None, Option}
 use Rattle.std.specs.Prelude.{Ok, Err}
 use Rattle.answers.specs.Answer.{Answer}
 use mathlib.Core.Path.{◌≡◌, refl, sym, ap, ◌∙◌}
@@ -22,8 +23,6 @@ use Rattle.record_rules.specs.Clipping.{Fate, Refuses, Becomes, clipped_fate, pu
 use Rattle.receive_rules.specs.Receiving.{same, same_header, unless, compared, weighed, received_as, checked_start, checked_end, tell_received}
 use Rattle.receive_rules.specs.declared.Part.{Part}
 use Rattle.receive_rules.specs.declared.Part.TheVariants.{Header, Name, Ops, Bases, Qualities, Tags}
-use Rattle.receive_rules.specs.declared.Received.{Received}
-use Rattle.receive_rules.specs.declared.Received.TheVariants.{Accepted}
 use Rattle.promises.specs.Table.{Row, ◌when◌, first, Gives}
 use Rattle.promises.specs.RecordRows.{clipped_record}
 use Rattle.promises.specs.ReceiveRows.{sent_rows, received_short, received_cut, check_rows}
@@ -80,7 +79,7 @@ module _ (b : List ℕ) (amount : ℕ) (start : Bool) where
 -- ---- the received record
 
 -- a part that differs is an answer
-unless_answers : (ok : Bool) (p : Part) (x : Answer Received) → (tell_received x).number ≡ 0 → (tell_received (unless ok p x)).number ≡ 0
+unless_answers : (ok : Bool) (p : Part) (x : Answer (Option Part)) → (tell_received x).number ≡ 0 → (tell_received (unless ok p x)).number ≡ 0
 unless_answers true p x h = h
 unless_answers false p x h = refl
 
@@ -91,7 +90,7 @@ compared_answers g b c =
     (unless_answers (same (name_part g) (new_name b c)) Name _
     (unless_answers (same (ops_part g) (new_ops b c)) Ops _
     (unless_answers (same (bases_part g) (new_bases b c)) Bases _
-    (unless_answers (same (quals_part g) (new_quals b c)) Qualities _ (unless_answers (same (tags_part g) (new_tags b c)) Tags (Ok Accepted) refl)))))
+    (unless_answers (same (quals_part g) (new_quals b c)) Qualities _ (unless_answers (same (tags_part g) (new_tags b c)) Tags (Ok None) refl)))))
 
 weighed_rows : (g b : List ℕ) (c : Change) → Gives (tell_received (weighed g b c)) (received_short g ∷ received_cut g ∷ [])
 unfolding weighed

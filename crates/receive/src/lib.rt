@@ -11,25 +11,25 @@ ghost use Rattle.receive_rules.specs.InnerCompared.{behind_ops, behind_header};
 
 use answers::{Answer, Refusal};
 use clip_rules::Plan;
-use receive_rules::{Part, Received};
+use receive_rules::Part;
 use record_rules::RecordPlan;
 
 // Whether the received record is the sent one clipped by `amount` bases at its start, and else the first part that differs. Refusals 1, 2, 8, 19, 15, 16, 4, 23, 24.
-pub fn check_clipped_start(sent: &[u8], amount: u64, received: &[u8]) -> Answer<Received>
+pub fn check_clipped_start(sent: &[u8], amount: u64, received: &[u8]) -> Answer<Option<Part>>
     ensures { result ≡ checked_start sent.now amount received.now }
 {
     check_clipped(&*sent, amount, true, &*received)
 }
 
 // The same at the end. Refusals 1, 2, 8, 19, 15, 16, 4, 23, 24.
-pub fn check_clipped_end(sent: &[u8], amount: u64, received: &[u8]) -> Answer<Received>
+pub fn check_clipped_end(sent: &[u8], amount: u64, received: &[u8]) -> Answer<Option<Part>>
     ensures { result ≡ checked_end sent.now amount received.now }
 {
     check_clipped(&*sent, amount, false, &*received)
 }
 
 // Both ends. The records are lent anew to each call, so that their places and lengths are handed on in registers (`record_write`).
-fn check_clipped(sent: &[u8], amount: u64, start: bool, received: &[u8]) -> Answer<Received>
+fn check_clipped(sent: &[u8], amount: u64, start: bool, received: &[u8]) -> Answer<Option<Part>>
     ensures { result ≡ received_as received.now sent.now (clipped_fate sent.now amount start) }
 {
     let p = record_plan::plan_record(&*sent, amount, start)?;
@@ -37,7 +37,7 @@ fn check_clipped(sent: &[u8], amount: u64, start: bool, received: &[u8]) -> Answ
 }
 
 // A received record beside the plan of the one that was sent. Refusals 23, 24.
-fn weigh(got: &[u8], rec: &[u8], p: RecordPlan, start: bool) -> Answer<Received>
+fn weigh(got: &[u8], rec: &[u8], p: RecordPlan, start: bool) -> Answer<Option<Part>>
     requires fits { Fits rec.now p }
     requires n_bound { p.n ≤ 65535 }
     ensures { result ≡ weighed got.now rec.now (change_by rec.now start p) }
@@ -52,20 +52,20 @@ fn weigh(got: &[u8], rec: &[u8], p: RecordPlan, start: bool) -> Answer<Received>
 }
 
 // The first part that differs.
-fn compare(got: &[u8], rec: &[u8], p: RecordPlan, start: bool) -> Answer<Received>
+fn compare(got: &[u8], rec: &[u8], p: RecordPlan, start: bool) -> Answer<Option<Part>>
     requires fits { Fits rec.now p }
     requires n_bound { p.n ≤ 65535 }
     requires got_in_bounds { tags_start got.now ≤ length got.now }
     ensures { result ≡ compared got.now rec.now (change_by rec.now start p) }
 {
     if !receive_header::same_header(got, rec, p) {
-        return Ok(Received::Differs(Part::Header));
+        return Ok(Some(Part::Header));
     }
     compare_behind(got, rec, p, start)
 }
 
 // The first part behind the header that differs.
-fn compare_behind(got: &[u8], rec: &[u8], p: RecordPlan, start: bool) -> Answer<Received>
+fn compare_behind(got: &[u8], rec: &[u8], p: RecordPlan, start: bool) -> Answer<Option<Part>>
     requires fits { Fits rec.now p }
     requires got_in_bounds { tags_start got.now ≤ length got.now }
     requires got_value { name_len_of got.now ≡ name_len_of rec.now }
@@ -77,16 +77,16 @@ fn compare_behind(got: &[u8], rec: &[u8], p: RecordPlan, start: bool) -> Answer<
     let n = little_endian::u16_at(rec, 12) as usize;
     let ops: Plan = p.ops;
     if !receive_parts::same_bytes(got, 32, rec, 32, name) {
-        return Ok(Received::Differs(Part::Name));
+        return Ok(Some(Part::Name));
     }
     if !receive_parts::same_ops(got, 32 + name, rec, 32 + name, n, ops, start) {
-        return Ok(Received::Differs(Part::Ops));
+        return Ok(Some(Part::Ops));
     }
     compare_tail(got, rec, p.from as usize, p.len as usize)
 }
 
 // The first part behind the ops that differs.
-fn compare_tail(got: &[u8], rec: &[u8], from: usize, n: usize) -> Answer<Received>
+fn compare_tail(got: &[u8], rec: &[u8], from: usize, n: usize) -> Answer<Option<Part>>
     requires rec_in_bounds { tags_start rec.now ≤ length rec.now }
     requires n_bound { from + n ≤ seq_len_of rec.now }
     requires got_in_bounds { tags_start got.now ≤ length got.now }
@@ -97,13 +97,13 @@ fn compare_tail(got: &[u8], rec: &[u8], from: usize, n: usize) -> Answer<Receive
     let quals = record_parts::quals_start(rec);
     let tags = record_parts::tags_start(rec);
     if !receive_parts::same_bases(got, record_parts::bases_start(got), rec, bases, from, n) {
-        return Ok(Received::Differs(Part::Bases));
+        return Ok(Some(Part::Bases));
     }
     if !receive_parts::same_bytes(got, record_parts::quals_start(got), rec, quals + from, n) {
-        return Ok(Received::Differs(Part::Qualities));
+        return Ok(Some(Part::Qualities));
     }
     if !receive_parts::same_rest(got, record_parts::tags_start(got), rec, tags) {
-        return Ok(Received::Differs(Part::Tags));
+        return Ok(Some(Part::Tags));
     }
-    Ok(Received::Accepted)
+    Ok(None)
 }

@@ -1,5 +1,7 @@
 -- The answer, test by test, as the functions of `receive` come to it.
 use Prim.Native.Nat.{ℕ, ◌+◌, ◌*◌, ◌/◌, ◌≤◌, ◌<◌}
+use Rattle.std.specs.Prelude.{None, Option, Some}
+use Rattle.receive_rules.specs.declared.Part.{Part}
 use Rattle.std.specs.Prelude.{Ok, Err}
 use Rattle.answers.specs.Answer.{Answer}
 use mathlib.Core.Path.{◌≡◌, sym, ap, ◌∙◌}
@@ -23,8 +25,6 @@ use Rattle.record_rules.proofs.PartLaws.{bases_left}
 use Rattle.receive_rules.specs.Receiving.{same, same_header, compared, weighed}
 use Rattle.receive_rules.specs.InnerCompared.{behind_ops, behind_header}
 use Rattle.receive_rules.specs.declared.Part.TheVariants.{Header, Ops, Bases, Qualities, Tags}
-use Rattle.receive_rules.specs.declared.Received.{Received}
-use Rattle.receive_rules.specs.declared.Received.TheVariants.{Accepted, Differs}
 
 -- ---- the parts of the received record beside the stretches that are compared
 
@@ -64,36 +64,36 @@ module _ (g b : List ℕ) where
 -- ---- the answer, from a part on; t, u, v are what the code found
 
 module _ (g b : List ℕ) (from n : ℕ) (t : Bool) (e : t ≡ same (bases_part g) (packed (part (record_bases b) from n))) where
-  pub tail_bases : t ≡ false → (Ok (Differs Bases)) ≡ behind_ops g b from n
+  pub tail_bases : t ≡ false → (Ok (Some Bases)) ≡ behind_ops g b from n
   tail_bases f = simp (sym e ∙ f)
 
   module _ (u : Bool) (h : u ≡ same (quals_part g) (part (quals_part b) from n)) where
-    pub tail-quals : t ≡ true → u ≡ false → (Ok (Differs Qualities)) ≡ behind_ops g b from n
+    pub tail-quals : t ≡ true → u ≡ false → (Ok (Some Qualities)) ≡ behind_ops g b from n
     tail-quals f k = simp (sym e ∙ f, sym h ∙ k)
 
     module _ (v : Bool) (i : v ≡ same (tags_part g) (tags_part b)) where
-      pub tail-tags : t ≡ true → u ≡ true → v ≡ false → (Ok (Differs Tags)) ≡ behind_ops g b from n
+      pub tail-tags : t ≡ true → u ≡ true → v ≡ false → (Ok (Some Tags)) ≡ behind_ops g b from n
       tail-tags f k l = simp (sym e ∙ f, sym h ∙ k, sym i ∙ l)
 
-      pub tail-same : t ≡ true → u ≡ true → v ≡ true → (Ok Accepted) ≡ behind_ops g b from n
+      pub tail-same : t ≡ true → u ≡ true → v ≡ true → (Ok None) ≡ behind_ops g b from n
       tail-same f k l = simp (sym e ∙ f, sym h ∙ k, sym i ∙ l)
 
 module _ (g b : List ℕ) (c : Change) (t : Bool) (e : t ≡ same (name_part g) (new_name b c)) where
   module _ (u : Bool) (h : u ≡ same (ops_part g) (new_ops b c)) where
-    pub ops-differ : t ≡ true → u ≡ false → (Ok (Differs Ops)) ≡ behind_header g b c
+    pub ops-differ : t ≡ true → u ≡ false → (Ok (Some Ops)) ≡ behind_header g b c
     ops-differ f k = simp (sym e ∙ f, sym h ∙ k)
 
-    pub ops-same : t ≡ true → u ≡ true → (r : Answer Received) → r ≡ behind_ops g b c.from c.len → r ≡ behind_header g b c
+    pub ops-same : t ≡ true → u ≡ true → (r : Answer (Option Part)) → r ≡ behind_ops g b c.from c.len → r ≡ behind_header g b c
     ops-same f k r q = q ∙ simp (sym e ∙ f, sym h ∙ k)
 
 -- ---- the answer
 
 module _ (g b : List ℕ) (c : Change) where
-  pub header_differs : same_header g b c ≡ false → (Ok (Differs Header)) ≡ compared g b c
+  pub header_differs : same_header g b c ≡ false → (Ok (Some Header)) ≡ compared g b c
   unfolding compared
   header_differs e = simp e
 
-  pub header_same : same_header g b c ≡ true → (r : Answer Received) → r ≡ behind_header g b c → r ≡ compared g b c
+  pub header_same : same_header g b c ≡ true → (r : Answer (Option Part)) → r ≡ behind_header g b c → r ≡ compared g b c
   unfolding compared
   header_same e r f = f ∙ simp e
 

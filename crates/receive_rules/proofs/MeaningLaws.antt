@@ -1,5 +1,6 @@
 -- A record is accepted exactly where it is the one that is written, with its bin or with 0; a part is named exactly where it is the first that differs.
 use Prim.Native.Nat.{ℕ, suc, ◌≤◌, ◌<◌}
+use Rattle.std.specs.Prelude.{None, Option, Some}
 use Rattle.std.specs.Prelude.{Ok, Err}
 use Rattle.answers.specs.Answer.{Answer}
 use mathlib.Core.Path.{◌≡◌, refl, sym, ap, subst, ◌∙◌}
@@ -22,8 +23,6 @@ use Rattle.receive_rules.specs.Receiving.{same, binless, same_header, unless, co
 use Rattle.receive_rules.specs.Meaning.{AsWritten, AsDue, First}
 use Rattle.receive_rules.specs.declared.Part.{Part}
 use Rattle.receive_rules.specs.declared.Part.TheVariants.{Header, Name, Ops, Bases, Qualities, Tags}
-use Rattle.receive_rules.specs.declared.Received.{Received}
-use Rattle.receive_rules.specs.declared.Received.TheVariants.{Accepted, Differs}
 use Rattle.receive_rules.proofs.SameLaws.{same_equal, equal_same}
 use Rattle.receive_rules.proofs.HeaderLaws.{or-true, or_right}
 use Rattle.receive_rules.proofs.AnswerLaws.{received_whole}
@@ -31,60 +30,60 @@ use Rattle.receive_rules.proofs.AnswerLaws.{received_whole}
 -- ---- six tests, one after the other
 
 -- the answer of a test for each part
-abbrev chain : (Part → Bool) → Answer Received
+abbrev chain : (Part → Bool) → Answer (Option Part)
 chain t =
-    unless (t Header) Header (unless (t Name) Name (unless (t Ops) Ops (unless (t Bases) Bases (unless (t Qualities) Qualities (unless (t Tags) Tags (Ok Accepted))))))
+    unless (t Header) Header (unless (t Name) Name (unless (t Ops) Ops (unless (t Bases) Bases (unless (t Qualities) Qualities (unless (t Tags) Tags (Ok None))))))
 
-module _ (ok : Bool) (h : Part) (next : Answer Received) where
-  passes : unless ok h next ≡ (Ok Accepted) → (ok ≡ true) × (next ≡ (Ok Accepted))
+module _ (ok : Bool) (h : Part) (next : Answer (Option Part)) where
+  passes : unless ok h next ≡ (Ok None) → (ok ≡ true) × (next ≡ (Ok None))
   passes e = go ok refl e
     where
-      go : (u : Bool) → ok ≡ u → unless u h next ≡ (Ok Accepted) → (ok ≡ true) × (next ≡ (Ok Accepted))
+      go : (u : Bool) → ok ≡ u → unless u h next ≡ (Ok None) → (ok ≡ true) × (next ≡ (Ok None))
       go true q e = (q, e)
       go false q e = never (cc)
 
   -- a part of a larger number is named
-  later : (p : Part) → unless ok h next ≡ (Ok (Differs p)) → part_number h < part_number p → (ok ≡ true) × (next ≡ (Ok (Differs p)))
+  later : (p : Part) → unless ok h next ≡ (Ok (Some p)) → part_number h < part_number p → (ok ≡ true) × (next ≡ (Ok (Some p)))
   later p e k = go ok refl e
     where
-      go : (u : Bool) → ok ≡ u → unless u h next ≡ (Ok (Differs p)) → (ok ≡ true) × (next ≡ (Ok (Differs p)))
+      go : (u : Bool) → ok ≡ u → unless u h next ≡ (Ok (Some p)) → (ok ≡ true) × (next ≡ (Ok (Some p)))
       go true q e = (q, e)
       go false q e = let z : h ≡ p = cc in let n : part_number h ≡ part_number p = ap part_number z in absurd (omega arith)
 
 -- r names no part of a number below n
-abbrev From : ℕ → Answer Received → Type 0
-From n r = (p : Part) → r ≡ (Ok (Differs p)) → n ≤ part_number p
+abbrev From : ℕ → Answer (Option Part) → Type 0
+From n r = (p : Part) → r ≡ (Ok (Some p)) → n ≤ part_number p
 
-none_named : (n : ℕ) → From n (Ok Accepted)
+none_named : (n : ℕ) → From n (Ok None)
 none_named n p e = never (cc)
 
-from_part : (ok : Bool) (h : Part) (next : Answer Received) → From (suc (part_number h)) next → From (part_number h) (unless ok h next)
+from_part : (ok : Bool) (h : Part) (next : Answer (Option Part)) → From (suc (part_number h)) next → From (part_number h) (unless ok h next)
 from_part true h next f p e = let n = f p e in omega arith
 from_part false h next f p e = let z : h ≡ p = cc in let n : part_number h ≡ part_number p = ap part_number z in omega arith
 
 -- the part itself is named
-here : (ok : Bool) (h : Part) (next : Answer Received) → From (suc (part_number h)) next → unless ok h next ≡ (Ok (Differs h)) → ok ≡ false
+here : (ok : Bool) (h : Part) (next : Answer (Option Part)) → From (suc (part_number h)) next → unless ok h next ≡ (Ok (Some h)) → ok ≡ false
 here true h next f e = let n = f h e in absurd (omega arith)
 here false h next f e = refl
 
 module _ (t : Part → Bool) where
-  abbrev r₆ : Answer Received
-  r₆ = unless (t Tags) Tags (Ok Accepted)
+  abbrev r₆ : Answer (Option Part)
+  r₆ = unless (t Tags) Tags (Ok None)
 
-  abbrev r₅ : Answer Received
+  abbrev r₅ : Answer (Option Part)
   r₅ = unless (t Qualities) Qualities r₆
 
-  abbrev r₄ : Answer Received
+  abbrev r₄ : Answer (Option Part)
   r₄ = unless (t Bases) Bases r₅
 
-  abbrev r₃ : Answer Received
+  abbrev r₃ : Answer (Option Part)
   r₃ = unless (t Ops) Ops r₄
 
-  abbrev r₂ : Answer Received
+  abbrev r₂ : Answer (Option Part)
   r₂ = unless (t Name) Name r₃
 
   f₆ : From 6 r₆
-  f₆ = from_part (t Tags) Tags (Ok Accepted) (none_named 7)
+  f₆ = from_part (t Tags) Tags (Ok None) (none_named 7)
 
   f₅ : From 5 r₅
   f₅ = from_part (t Qualities) Qualities r₆ f₆
@@ -98,14 +97,14 @@ module _ (t : Part → Bool) where
   f₂ : From 2 r₂
   f₂ = from_part (t Name) Name r₃ f₃
 
-  pub all_pass : chain t ≡ (Ok Accepted) → (q : Part) → t q ≡ true
+  pub all_pass : chain t ≡ (Ok None) → (q : Part) → t q ≡ true
   all_pass e =
       let h = passes (t Header) Header r₂ e in
       let n = passes (t Name) Name r₃ h.1 in
       let o = passes (t Ops) Ops r₄ n.1 in
       let b = passes (t Bases) Bases r₅ o.1 in
       let q = passes (t Qualities) Qualities r₆ b.1 in
-      let s = passes (t Tags) Tags (Ok Accepted) q.1 in
+      let s = passes (t Tags) Tags (Ok None) q.1 in
       each h.0 n.0 o.0 b.0 q.0 s.0
     where
       each : t Header ≡ true → t Name ≡ true → t Ops ≡ true → t Bases ≡ true → t Qualities ≡ true → t Tags ≡ true → (q : Part) → t q ≡ true
@@ -116,11 +115,11 @@ module _ (t : Part → Bool) where
       each h n o b q s Qualities = q
       each h n o b q s Tags = s
 
-  pub pass_all : ((q : Part) → t q ≡ true) → chain t ≡ (Ok Accepted)
+  pub pass_all : ((q : Part) → t q ≡ true) → chain t ≡ (Ok None)
   pass_all a = simp (a Header, a Name, a Ops, a Bases, a Qualities, a Tags)
 
   -- those before the named part pass, and it doesn't
-  pub before_named : (p : Part) → chain t ≡ (Ok (Differs p)) → (q : Part) → part_number q < part_number p → t q ≡ true
+  pub before_named : (p : Part) → chain t ≡ (Ok (Some p)) → (q : Part) → part_number q < part_number p → t q ≡ true
   before_named p e Header k = (later (t Header) Header r₂ p e k).0
   before_named p e Name k = (later (t Name) Name r₃ p (later (t Header) Header r₂ p e (omega arith)).1 k).0
   before_named p e Ops k =
@@ -133,14 +132,14 @@ module _ (t : Part → Bool) where
       (later (t Ops) Ops r₄ p (later (t Name) Name r₃ p (later (t Header) Header r₂ p e (omega arith)).1 (omega arith)).1 (omega arith)).1 (omega arith)).1
       k).0
   before_named p e Tags k =
-      (later (t Tags) Tags (Ok Accepted) p
+      (later (t Tags) Tags (Ok None) p
       (later (t Qualities) Qualities r₆ p
       (later (t Bases) Bases r₅ p
       (later (t Ops) Ops r₄ p (later (t Name) Name r₃ p (later (t Header) Header r₂ p e (omega arith)).1 (omega arith)).1 (omega arith)).1 (omega arith)).1
       (omega arith)).1
       k).0
 
-  pub named_fails : (p : Part) → chain t ≡ (Ok (Differs p)) → t p ≡ false
+  pub named_fails : (p : Part) → chain t ≡ (Ok (Some p)) → t p ≡ false
   named_fails Header e = here (t Header) Header r₂ f₂ e
   named_fails Name e = here (t Name) Name r₃ f₃ (later (t Header) Header r₂ Name e (omega arith)).1
   named_fails Ops e = here (t Ops) Ops r₄ f₄ (later (t Name) Name r₃ Ops (later (t Header) Header r₂ Ops e (omega arith)).1 (omega arith)).1
@@ -153,14 +152,14 @@ module _ (t : Part → Bool) where
       (later (t Ops) Ops r₄ Qualities (later (t Name) Name r₃ Qualities (later (t Header) Header r₂ Qualities e (omega arith)).1 (omega arith)).1 (omega arith)).1 (omega arith)
       ).1
   named_fails Tags e =
-      here (t Tags) Tags (Ok Accepted) (none_named 7)
+      here (t Tags) Tags (Ok None) (none_named 7)
       (later (t Qualities) Qualities r₆ Tags
       (later (t Bases) Bases r₅ Tags
       (later (t Ops) Ops r₄ Tags (later (t Name) Name r₃ Tags (later (t Header) Header r₂ Tags e (omega arith)).1 (omega arith)).1 (omega arith)).1 (omega arith)).1
       (omega arith)).1
 
   -- and the other way round
-  pub first_named : (p : Part) → ((q : Part) → part_number q < part_number p → t q ≡ true) → t p ≡ false → chain t ≡ (Ok (Differs p))
+  pub first_named : (p : Part) → ((q : Part) → part_number q < part_number p → t q ≡ true) → t p ≡ false → chain t ≡ (Ok (Some p))
   first_named Header a f = simp f
   first_named Name a f = simp (a Header (omega arith), f)
   first_named Ops a f = simp (a Header (omega arith), a Name (omega arith), f)
@@ -219,7 +218,7 @@ module _ (g b : List ℕ) (c : Change) where
       sym (parts_whole g)
       ∙ rw (h, due Name (a Name), due Ops (a Ops), due Bases (a Bases), due Qualities (a Qualities), due Tags (a Tags), n, o, p, q, s) refl
 
-  pub accepted_written : compared g b c ≡ (Ok Accepted) → AsWritten g b c
+  pub accepted_written : compared g b c ≡ (Ok None) → AsWritten g b c
   accepted_written e =
       let a = all_pass (test g b c) (sym compared_chain ∙ e) in
       either a (due Header (a Header))
@@ -228,10 +227,10 @@ module _ (g b : List ℕ) (c : Change) where
       either a (inl h) = inl (joined c h a refl refl refl refl refl)
       either a (inr h) = inr (joined (binless c) h a refl refl refl refl refl)
 
-  pub due_accepted : ((q : Part) → AsDue q g b c) → compared g b c ≡ (Ok Accepted)
+  pub due_accepted : ((q : Part) → AsDue q g b c) → compared g b c ≡ (Ok None)
   due_accepted a = compared_chain ∙ pass_all (test g b c) (λ q. tested q (a q))
 
-  pub named_first : (p : Part) → compared g b c ≡ (Ok (Differs p)) → First p g b c
+  pub named_first : (p : Part) → compared g b c ≡ (Ok (Some p)) → First p g b c
   named_first p e =
       let k = sym compared_chain ∙ e in
       record {
@@ -239,7 +238,7 @@ module _ (g b : List ℕ) (c : Change) where
         before = λ q n. due q (before_named (test g b c) p k q n);
       }
 
-  pub first_is_named : (p : Part) → First p g b c → compared g b c ≡ (Ok (Differs p))
+  pub first_is_named : (p : Part) → First p g b c → compared g b c ≡ (Ok (Some p))
   first_is_named p F = compared_chain ∙ first_named (test g b c) p (λ q n. tested q (F.before q n)) (not_due p F.differs)
 
 -- what is written has its parts as they are due, with its bin or with 0
@@ -270,12 +269,12 @@ module _ (g b : List ℕ) (c : Change) where
 
 -- ---- with the refusals of the received record before
 
-past : (t : Bool) (why : Refusal) (x y : Answer Received) → (Err why ≡ y → ⊥) → cond t (Err why) x ≡ y → (t ≡ false) × (x ≡ y)
+past : (t : Bool) (why : Refusal) (x y : Answer (Option Part)) → (Err why ≡ y → ⊥) → cond t (Err why) x ≡ y → (t ≡ false) × (x ≡ y)
 past true why x y n e = absurd (n e)
 past false why x y n e = (refl, e)
 
 -- an answer that is no refusal comes of comparing a whole record
-pub answered_whole : (g b : List ℕ) (c : Change) (y : Answer Received) → ((why : Refusal) → Err why ≡ y → ⊥) → weighed g b c ≡ y → (tags_start g ≤ length g) × (compared g b c ≡ y)
+pub answered_whole : (g b : List ℕ) (c : Change) (y : Answer (Option Part)) → ((why : Refusal) → Err why ≡ y → ⊥) → weighed g b c ≡ y → (tags_start g ≤ length g) × (compared g b c ≡ y)
 unfolding weighed
 answered_whole g b c y n e =
     let p = past (is_short g) ReceivedShort _ y (n ReceivedShort) e in

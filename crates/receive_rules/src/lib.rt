@@ -1,8 +1,6 @@
 // Document 02, item 14: what the receiving check answers: definitions and proofs. No function stands here.
 #![tactic(auto)]
 
-use answers::Refusal;
-
 // The parts of a record, in the order in which they are compared, with their numbers.
 #[derive(Clone, Copy)]
 pub enum Part {
@@ -12,11 +10,4 @@ pub enum Part {
     Bases = 4,
     Qualities = 5,
     Tags = 6,
-}
-
-// Accepted, or the first part that differs, or the refusal.
-#[derive(Clone, Copy)]
-pub enum Received {
-    Accepted,
-    Differs(Part),
 }
