@@ -1,14 +1,8 @@
 -- Which case of the answer a call's tests lead to, and what the measuring pass tells of a list.
 use Prim.Native.Nat.{ℕ, ◌+◌, ◌≤◌, ◌<◌}
-<<<<<<< HEAD
-use Rattle.std.specs.Prelude.{Ok, Err, Option, Some, None}
-use Rattle.answers.specs.Answer.{Answer}
-use mathlib.Core.Path.{◌≡◌, refl, ap, sym}
-=======
 use Rattle.std.specs.Prelude.{Ok, Err, Some, None, Option}
 use Rattle.answers.specs.Answer.{Answer}
 use mathlib.Core.Path.{◌≡◌, refl, sym, ap, ◌∙◌}
->>>>>>> ae1a548 (bed_rules, bed_walk, bed: for loops over the ops, one lemma behind the measuring pass, structs in proofs)
 use mathlib.Core.Bool.{Bool, true, false, cond, ◌||◌}
 use mathlib.Core.List.{List}
 use native.Mathlib.Omega.{arith}
@@ -68,11 +62,6 @@ module _ (at : ℕ) (xs d e : List ℕ) where
       unfolding bed_from
       done g = simp (le-ltb 2147483647 (chrom_end at xs) h, le-ltb (length d) (length (blocks xs)) f, le-ltb (length e) (length (blocks xs)) g)
 
--- what an answer holds, zeros for a refusal
-abbrev bed_in : Answer Bed → Bed
-bed_in (Ok b) = b
-bed_in (Err r) = record { chrom_start = 0; chrom_end = 0; block_count = 0 }
-
 -- an answer was not refused
 pub answered : (start : ℤ) (xs d e : List ℕ) (at end n : ℕ) → (bed_blocks start xs d e).answer ≡ Ok (record { chrom_start = at; chrom_end = end; block_count = n }) → (unfit xs ≡ false) × (end ≡ chrom_end at xs)
 unfolding bed_blocks bed_from
@@ -91,15 +80,11 @@ answered start xs d e at end n =
     go false false true v w a = never (cc)
     go false false false true w a = never (cc)
     go false false false false true a = never (cc)
-<<<<<<< HEAD
-    go false false false false false a = let p : natural start ≡ at = ap (λ r. (bed_in r).chrom_start) a in let q : chrom_end (natural start) xs ≡ end = ap (λ r. (bed_in r).chrom_end) a in (refl, omega arith)
-=======
     go false false false false false a =
         let g : ◌≡◌ {A = Bed} (record { chrom_start = natural start; chrom_end = chrom_end (natural start) xs; block_count = length (blocks xs) }) (record { chrom_start = at; chrom_end = end; block_count = n }) = cc in
         let p : natural start ≡ at = ap (λ (b : Bed). b.chrom_start) g in
         let q : chrom_end (natural start) xs ≡ end = ap (λ (b : Bed). b.chrom_end) g in
         (refl, omega arith)
->>>>>>> ae1a548 (bed_rules, bed_walk, bed: for loops over the ops, one lemma behind the measuring pass, structs in proofs)
 
 -- an answer by the numbers that the call has
 pub same_answer : (xs : List ℕ) {n refs : ℕ} (at : ℕ) → refs ≡ sum_of ref_len xs → n ≡ length (blocks xs) → ◌≡◌ {A = Answer Bed} (Ok (record { chrom_start = at; chrom_end = at + refs; block_count = n })) (Ok (record { chrom_start = at; chrom_end = chrom_end at xs; block_count = length (blocks xs) }))
@@ -107,16 +92,11 @@ same_answer xs at e f = rw (e, f) refl
 
 -- ---- the measuring pass
 
--- what the measuring pass gives, zeros for nothing
-abbrev measured_in : Option Measured → Measured
-measured_in (Some m) = m
-measured_in None = record { blocks = 0; refs = 0 }
-
 pub measured_not : (xs : List ℕ) → unfit xs ≡ true → measured xs ≡ None
 unfolding measured
 measured_not xs u = rw u refl
 
-pub measured_are : (xs : List ℕ) → unfit xs ≡ false → (n refs : ℕ) → n ≡ length (blocks xs) → refs ≡ sum_of ref_len xs → ◌≡◌ {A = Option Measured} (Some (record { blocks = n; refs = refs })) (measured xs)
+pub measured_are : (xs : List ℕ) → unfit xs ≡ false → (n refs : ℕ) → n ≡ length (blocks xs) → refs ≡ sum_of ref_len xs → (Some (record { blocks = n; refs = refs })) ≡ measured xs
 unfolding measured
 measured_are xs u n refs e f = rw (u, e, f) refl
 
@@ -132,11 +112,6 @@ pub told_blocks : (xs : List ℕ) (got : Measured) → measured xs ≡ Some got 
 unfolding measured
 told_blocks xs got = go (unfit xs)
   where
-<<<<<<< HEAD
-    go : (t : Bool) → cond {A = Option Measured} t None (Some (record { blocks = length (blocks xs); refs = sum_of ref_len xs })) ≡ Some (record { blocks = n; refs = refs }) → (t ≡ false) × (n ≡ length (blocks xs)) × (refs ≡ sum_of ref_len xs)
-    go true e = never (cc)
-    go false e = (refl, ap (λ r. (measured_in r).blocks) (sym e), ap (λ r. (measured_in r).refs) (sym e))
-=======
     go : (t : Bool) → cond {A = Option Measured} t None (Some (record { blocks = length (blocks xs); refs = sum_of ref_len xs })) ≡ Some got → (t ≡ false) × (got.blocks ≡ length (blocks xs)) × (got.refs ≡ sum_of ref_len xs)
     go true e = never (cc)
     go false e =
@@ -149,4 +124,3 @@ pub measured_fit : (start : ℤ) (xs d e : List ℕ) (at : ℕ) (got : Measured)
 measured_fit start xs d e at got h t p m =
     let told = told_blocks xs got m in
     (fit start xs d e h t told.0 ∙ ap (λ (n : ℕ). bed_from n xs d e) (sym p), told.1, told.2)
->>>>>>> ae1a548 (bed_rules, bed_walk, bed: for loops over the ops, one lemma behind the measuring pass, structs in proofs)

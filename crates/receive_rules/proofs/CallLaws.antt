@@ -1,6 +1,6 @@
 -- The answers of the two calls: what a sent record is refused for, and what comes of one that is not; and what the writing calls write is accepted.
 use Prim.Native.Nat.{ℕ, ◌≤◌}
-use Rattle.std.specs.Prelude.{None, Some}
+use Rattle.std.specs.Prelude.{None, Option, Some}
 use Rattle.std.specs.Prelude.{Ok, Err}
 use mathlib.Core.Path.{◌≡◌, sym, ap, ◌∙◌}
 use mathlib.Core.Logic.{inl, inr}
@@ -38,7 +38,7 @@ module _ (g b : List ℕ) {f : Fate} where
 pub few_ops : (b : List ℕ) (amount : ℕ) (start : Bool) (c : Change) → clipped_fate b amount start ≡ Becomes c → length c.ops ≤ 65535
 few_ops b amount start c e = let P = passed b amount start c e in let l = ap length P.ops_is in omega (arith, P.few)
 
-refused_accepted : (why : Refusal) → Err why ≡ (Ok None) → ⊥
+refused_accepted : (why : Refusal) → ◌≡◌ {A = Answer (Option Part)} (Err why) (Ok None) → ⊥
 refused_accepted why e = never (cc)
 
 refused_differs : (p : Part) (why : Refusal) → Err why ≡ (Ok (Some p)) → ⊥
