@@ -6,13 +6,16 @@ ghost use Rattle.lists.specs.Lists.{splice};
 ghost use Rattle.sam.specs.Parts.{uint16};
 ghost use Rattle.sam.specs.Record.{bases_start, quals_start, tags_start, seq_len_of, uint32};
 
-// Copies the N bytes from place `at` on. The compiler knows N, so that they go in loads and stores, and C's memmove is not called.
+// Copies the N bytes from place `at` on. The compiler knows N, so that C's memmove is not called; and all are read before one is stored, so that they go in a few loads and stores,
+// whatever it knows of the two slices.
 fn copy_block<const N: usize>(from: &[u8], to: &mut [u8], at: usize)
     requires from_in_bounds { at + N ≤ length from.now }
     requires to_in_bounds { at + N ≤ length to.old }
     ensures { to.new ≡ splice to.old at (take N (drop at from.now)) }
 {
-    to[at..at + N].copy_from_slice(&from[at..at + N]);
+    let mut held: [u8; N] = [0; N];
+    held.copy_from_slice(&from[at..at + N]);
+    to[at..at + N].copy_from_slice(&held);
 }
 
 // Copies N to 2 * N bytes: the first N and the last N, which meet or overlap.
