@@ -20,4 +20,3 @@ pub struct Plan {
     pub second: u32,
     pub lost: u64,
 }
-

@@ -104,7 +104,8 @@ pub fn same_ops(
     let kept = 4 * (n - p.skip);
     if start {
         let behind = at + 4 * p.heads;
-        return same_heads(got, at, p.heads, p.first, p.second) & same_bytes(got, behind, rec, area + 4 * p.skip, kept);
+        return same_heads(got, at, p.heads, p.first, p.second)
+            & same_bytes(got, behind, rec, area + 4 * p.skip, kept);
     }
     let rest = same_bytes(got, at, rec, area, kept);
     if p.heads == 2 {

@@ -15,4 +15,3 @@ pub struct RecordPlan {
     pub from: u32,
     pub count: u64,
 }
-

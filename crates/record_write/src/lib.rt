@@ -71,7 +71,10 @@ fn put_start(bam: &[u8], p: RecordPlan, out: &mut [u8]) -> Answer<Clipped>
         return Err(Refusal::NoRoom);
     }
     write_record(bam, p, true, out);
-    Ok(Clipped { written: size as u64, lost: p.count })
+    Ok(Clipped {
+        written: size as u64,
+        lost: p.count,
+    })
 }
 
 // The same at the end.
