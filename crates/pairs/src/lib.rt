@@ -2,50 +2,34 @@
 #![tactic(auto)]
 
 ghost use Rattle.std.specs.Prelude.{◌≡◌, Bool, true, ◌≤◌, pos, length};
-ghost use Rattle.std.specs.Bool.{xor};
 ghost use Rattle.std.specs.Int.Signed.{le_z};
 ghost use Rattle.sam.specs.Record.{flags_of, is_reverse};
 ghost use Rattle.pairs_rules.specs.Pairs.{both_mapped, is_opposite, start_of, last_of, mate_starts_before, fr_by, is_fr, is_fr_with_mate, are_opposite, is_primary_fr, opposite_pair, fr_pair, primary_fr_pair};
 
 use answers::{Answer, Pos0, Refusal};
 
-fn differ(a: bool, b: bool) -> bool
-    ensures { result ≡ xor a b }
-{
-    if a {
-        return !b;
-    }
-    b
-}
-
+// By a record's flag, whether it and its mate are mapped.
+#[tactic(auto, unfolding(pairs_rules::specs::Pairs::both_mapped))]
 fn both_mapped(flags: u32) -> bool
     ensures { result ≡ both_mapped flags }
 {
-    if fields::is_unmapped(flags) {
-        return false;
-    }
-    !fields::is_mate_unmapped(flags)
+    !fields::is_unmapped(flags) && !fields::is_mate_unmapped(flags)
 }
 
 // Paired, both mapped, same reference, strands differ.
+#[tactic(auto, unfolding(pairs_rules::specs::Pairs::is_opposite))]
 fn opposite(bam: &[u8]) -> bool
     requires { 32 ≤ length bam.now }
     ensures { result ≡ is_opposite bam.now }
 {
     let flags = little_endian::u16_at(bam, 14);
-    if !fields::is_paired(flags) {
-        return false;
-    }
-    if !both_mapped(flags) {
-        return false;
-    }
-    if !signed::same(
-        little_endian::i32_at(bam, 0),
-        little_endian::i32_at(bam, 20),
-    ) {
-        return false;
-    }
-    differ(fields::is_reverse(flags), fields::is_mate_reverse(flags))
+    fields::is_paired(flags)
+        && both_mapped(flags)
+        && signed::same(
+            little_endian::i32_at(bam, 0),
+            little_endian::i32_at(bam, 20),
+        )
+        && fields::is_reverse(flags) != fields::is_mate_reverse(flags)
 }
 
 // Whether the start of one alignment is at most the end of another, which has n reference bases: s + 1 ≤ p + 1 + n - 1.
@@ -53,10 +37,7 @@ fn starts_before_end(s: Pos0, p: Pos0, n: i32) -> bool
     ensures { result ≡ le_z (start_of s.0) (last_of p.0 n) }
 {
     let start = signed::raise(s.0) + 2147483648;
-    if start < signed::raise(p.0) + signed::raise(n) {
-        return true;
-    }
-    false
+    start < signed::raise(p.0) + signed::raise(n)
 }
 
 // A reverse record's test: its mate's start against its own end. The refusal of its length is passed on.
@@ -66,16 +47,8 @@ fn mate_starts_before(bam: &[u8]) -> Answer<bool>
 {
     let mate = fields::mate_place(bam);
     let own = fields::own_place(bam);
-    match lengths::reference_length_from_raw_bam(bam) {
-        Ok(n) => Ok(starts_before_end(mate, own, n)),
-        Err(why) => Err(why),
-    }
-}
-
-fn at_least_one(n: i32) -> bool
-    ensures { result ≡ le_z (pos 1) n }
-{
-    1 <= n
+    let n = lengths::reference_length_from_raw_bam(bam)?;
+    Ok(starts_before_end(mate, own, n))
 }
 
 // FR of a reverse record, whatever the test of a forward one.
@@ -101,7 +74,7 @@ fn fr(bam: &[u8]) -> Answer<bool>
     if !opposite(bam) {
         return Ok(false);
     }
-    Ok(at_least_one(little_endian::i32_at(bam, 28)))
+    Ok(1 <= little_endian::i32_at(bam, 28))
 }
 
 // FR by the record and the mate's reference length.
@@ -121,22 +94,17 @@ pub fn fr_with_mate(bam: &[u8], n: i32) -> Answer<bool>
 }
 
 // Of two records: all of them mapped, same reference, strands differ.
+#[tactic(auto, unfolding(pairs_rules::specs::Pairs::are_opposite))]
 fn both_opposite(a: &[u8], b: &[u8]) -> bool
     requires { (32 ≤ length a.now) × (32 ≤ length b.now) }
     ensures { result ≡ are_opposite a.now b.now }
 {
     let flags = little_endian::u16_at(a, 14);
     let other = little_endian::u16_at(b, 14);
-    if !both_mapped(flags) {
-        return false;
-    }
-    if !both_mapped(other) {
-        return false;
-    }
-    if !signed::same(little_endian::i32_at(a, 0), little_endian::i32_at(b, 0)) {
-        return false;
-    }
-    differ(fields::is_reverse(flags), fields::is_reverse(other))
+    both_mapped(flags)
+        && both_mapped(other)
+        && signed::same(little_endian::i32_at(a, 0), little_endian::i32_at(b, 0))
+        && fields::is_reverse(flags) != fields::is_reverse(other)
 }
 
 // FR by both records; the reverse one decides.

@@ -2,8 +2,9 @@
 use Prim.Native.Nat.{ℕ, ◌+◌, ◌<◌, ◌≤◌}
 use Rattle.std.specs.Prelude.{Ok}
 use Rattle.answers.specs.Answer.{Answer}
-use mathlib.Core.Path.{◌≡◌, refl, sym, ap, ◌∙◌}
-use mathlib.Core.Bool.{Bool, true, false, cond, not, xor, ◌&&◌}
+use mathlib.Core.Path.{◌≡◌, refl, sym, ap, ◌∙◌, subst}
+use Rattle.std.specs.Prelude.{T}
+use mathlib.Core.Bool.{beq, Bool, true, false, cond, not, xor, ◌&&◌}
 use mathlib.Core.List.{List}
 use native.Mathlib.Omega.{arith}
 use lib.IntN.{ℤ, pos, ◌+ℤ◌}
@@ -17,15 +18,17 @@ use Rattle.signed.proofs.Halves.{up, dn, plus, minus, leℤ, gtℤ, raise_fact}
 use Rattle.sam.specs.Record.{ref_id_of, flags_of, mate_ref_id_of, is_paired, is_unmapped, is_mate_unmapped, is_reverse, is_mate_reverse}
 use Rattle.pairs_rules.specs.Pairs.{both_mapped, is_opposite, start_of, last_of, mate_starts_before, fr_by, is_fr, are_opposite, is_primary_fr}
 
-pub first_true : (a b : Bool) → a ≡ true → not b ≡ xor a b
-unfolding xor
-first_true a true e = rw e
-first_true a false e = rw e
+-- a test that both failed and held
+pub refuted : {A : Type 0} → false ≡ true → A
+refuted e = absurd (subst T (sym e) tt)
 
-pub first_false : (a b : Bool) → a ≡ false → b ≡ xor a b
+-- two answers that differ, as the code tests them
+pub differ_is : (a b : Bool) → not (beq a b) ≡ xor a b
 unfolding xor
-first_false a true e = rw e
-first_false a false e = rw e
+differ_is true true = refl
+differ_is true false = refl
+differ_is false true = refl
+differ_is false false = refl
 
 module _ (f : ℕ) where
   pub unmapped : is_unmapped f ≡ true → false ≡ both_mapped f

@@ -16,5 +16,5 @@ returns-then-not-opposite c =
 pub returns : goal.returns
 returns c =
     let e : to_z w32 (of_z w32 c.i32_at.result) ≡ c.i32_at.result = search rules in
-    ap Ok (c.at_least_one.ensures ∙ ap (le_z (pos 1)) (e ∙ c.i32_at.ensures))
+    ap Ok (ap (le_z (pos 1)) (e ∙ c.i32_at.ensures))
     ∙ fr_forward c.args.bam.now _ c.u16_at.ensures.0 _ (sym c.opposite.ensures ∙ c.if-not-opposite.false) (sym c.is_reverse.ensures ∙ c.if-is_reverse.false)
