@@ -1,10 +1,6 @@
 -- The refusal table of the pair tests and the overhang calls: each test of a definition is a row, in the same order; 2 and 4 are the reverse record's length's, and then 4 the two places' of an FR pair.
 use Prim.Native.Nat.{ℕ}
-use Rattle.std.specs.Prelude.{Err, Ok, Option, Some, None}
-use Rattle.lists.specs.Lists.{splice}
-use Rattle.answers.specs.Settled.{Outcome, keeps}
-use Rattle.overlap_rules.specs.declared.PairPlaces.{PairPlaces}
-use Rattle.overlap_rules.specs.declared.Overhang.{Overhang}
+use Rattle.std.specs.Prelude.{Err, Ok, Option}
 use Rattle.answers.specs.Answer.{Answer}
 use mathlib.Core.Path.{◌≡◌, refl, subst}
 use mathlib.Core.Bool.{Bool, true, false, cond, ◌||◌, ◌&&◌}
@@ -28,6 +24,10 @@ use Rattle.text_rules.specs.Strict.{strict}
 use Rattle.pairs_rules.specs.Pairs.{opposite_pair, fr_pair, primary_fr_pair}
 use Rattle.overhang_rules.specs.Overhang.{bases_extending}
 use Rattle.overlap_rules.specs.Overlap.{both_places, placed_pair, is_over, bases_at, overhang_at, pair_overhang, is_fr_by, past_mate_cigar, past_mate_record, list_left, pair_list_left, past_mate_text, tell_overhang}
+use Rattle.overlap_rules.specs.declared.Overhang.{Overhang}
+use Rattle.overlap_rules.proofs.CallLaws.{overhang_is, left_is}
+use Rattle.answers.specs.Settled.{Outcome, keeps}
+use Rattle.lists.specs.Lists.{splice}
 use Rattle.promises.specs.Table.{Row, ◌when◌, Gives, GivesFilled}
 use Rattle.promises.specs.Rows.{any_outside, no_room, is_yes, place_row, record_rows, pair_rows, fr_rows, two_rows, extending_rows, mate_cigar_rows, mate_record_rows, mate_text_rows}
 use Rattle.promises.proofs.RowLaws.{answer, like, row, row-past, row_where, kept_refusal, like_filled, kept_row, kept_past, kept_where, last_row}
@@ -84,20 +84,9 @@ unfolding placed_pair plus_one both
 placed_over true b m = sums_over (pos_of b +ℤ pos 1) (m +ℤ pos 1)
 placed_over false b m = refl
 
--- a place that overflows is the only refusal of a pair's places
-overhang_is : (fr : Bool) (b ys : List ℕ) (m : ℤ) → cond (is_over (placed_pair fr b m)) (Err Overflow) (Ok (bases_at (placed_pair fr b m) b ys)) ≡ overhang_at (placed_pair fr b m) b ys
-unfolding placed_pair overhang_at
-overhang_is true b ys m = go (plus_one (record { 0 = pos_of b })) (plus_one (record { 0 = m }))
-  where
-    go : (p q : Option ℤ) → cond {A = Answer ℕ} (is_over (both_places p q)) (Err Overflow) (Ok (bases_at (both_places p q) b ys)) ≡ overhang_at (both_places p q) b ys
-    go (Some p) (Some q) = refl
-    go (Some p) None = refl
-    go None q = refl
-overhang_is false b ys m = refl
-
 overhang_rows : (fr : Bool) (b ys : List ℕ) (m : ℤ) → Gives (tell_count (overhang_at (placed_pair fr b m) b ys)) (place_row fr (pos_of b) m ∷ [])
 overhang_rows fr b ys m =
-    subst (λ (a : Answer ℕ). Gives (tell_count a) (place_row fr (pos_of b) m ∷ [])) (overhang_is fr b ys m)
+    rw (overhang_is fr b m ys)
     (subst (λ t. Gives (tell_count (cond (is_over (placed_pair fr b m)) (Err Overflow) (Ok (bases_at (placed_pair fr b m) b ys)))) ((4 when t) ∷ [])) (placed_over fr b m)
     (row tell_count (is_over (placed_pair fr b m)) (Err Overflow) _ 4 refl (answer refl refl)))
 
@@ -119,28 +108,17 @@ num_bases_extending_past_mate_vs_mate_raw b m =
     (λ t. overhang_rows t b (record_ops m) (pos_of m)) b m l k))
 
 -- 4, then 6, before the list is written
-abbrev left_by : Answer (Option PairPlaces) → List ℕ → List ℕ → List ℕ → Outcome (Answer Overhang)
-left_by p b xs d =
-    cond (is_over p) (keeps (Err Overflow) d)
-    (cond (ltb (length d) (length xs)) (keeps (Err NoRoom) d)
-    (record { answer = Ok (record { bases = bases_at p b xs; written = length xs }); left = splice d 0 xs }))
-
-list_is : (fr : Bool) (b xs d : List ℕ) (m : ℤ) → left_by (placed_pair fr b m) b xs d ≡ list_left (placed_pair fr b m) b xs d
-unfolding placed_pair list_left
-list_is true b xs d m = go (plus_one (record { 0 = pos_of b })) (plus_one (record { 0 = m }))
-  where
-    go : (p q : Option ℤ) → left_by (both_places p q) b xs d ≡ list_left (both_places p q) b xs d
-    go (Some p) (Some q) = refl
-    go (Some p) None = refl
-    go None q = refl
-list_is false b xs d m = refl
-
 list_rows : (fr : Bool) (b xs d : List ℕ) (m : ℤ)
     → GivesFilled tell_overhang (list_left (placed_pair fr b m) b xs d) d (place_row fr (pos_of b) m ∷ no_room d (length xs) ∷ []) (Ok (record { bases = bases_at (placed_pair fr b m) b xs; written = length xs })) xs
 list_rows fr b xs d m =
-    subst (λ (o : Outcome (Answer Overhang)). GivesFilled tell_overhang o d (place_row fr (pos_of b) m ∷ no_room d (length xs) ∷ []) (Ok (record { bases = bases_at (placed_pair fr b m) b xs; written = length xs })) xs) (list_is fr b xs d m)
-    (subst (λ t. GivesFilled tell_overhang (left_by (placed_pair fr b m) b xs d) d ((4 when t) ∷ no_room d (length xs) ∷ []) (Ok (record { bases = bases_at (placed_pair fr b m) b xs; written = length xs })) xs) (placed_over fr b m)
+    rw (left_is fr b m xs d)
+    (subst (λ t. GivesFilled tell_overhang (left_by fr b xs d m) d ((4 when t) ∷ no_room d (length xs) ∷ []) (Ok (record { bases = bases_at (placed_pair fr b m) b xs; written = length xs })) xs) (placed_over fr b m)
     (kept_row tell_overhang (is_over (placed_pair fr b m)) (Err Overflow) 4 refl refl (last_row tell_overhang xs (Err NoRoom) _ refl refl)))
+  where
+    left_by : Bool → List ℕ → List ℕ → List ℕ → ℤ → Outcome (Answer Overhang)
+    left_by fr b xs d m =
+        cond (is_over (placed_pair fr b m)) (keeps (Err Overflow) d)
+        (cond (ltb (length d) (length xs)) (keeps (Err NoRoom) d) (record { answer = Ok (record { bases = bases_at (placed_pair fr b m) b xs; written = length xs }); left = splice d 0 xs }))
 
 -- what is left of the room by the pair test
 abbrev LeftBy : List ℕ → List ℕ → List ℕ → Answer Bool → List Row → Type 0
