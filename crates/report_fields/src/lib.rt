@@ -14,7 +14,7 @@ pub fn length_mark(query: u64, seq: u32) -> u8
     if seq == 0 {
         return b'-';
     }
-    if query == seq as u64 {
+    if query == u64::from(seq) {
         return b'1';
     }
     b'0'

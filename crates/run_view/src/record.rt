@@ -6,10 +6,7 @@ pub fn with_word(record: [u8; 96], at: usize, n: u32) -> [u8; 96] {
         return record;
     }
     let mut r = record;
-    r[at] = (n % 256) as u8;
-    r[at + 1] = (n / 256 % 256) as u8;
-    r[at + 2] = (n / 65536 % 256) as u8;
-    r[at + 3] = (n / 16777216 % 256) as u8;
+    r[at..at + 4].copy_from_slice(&n.to_le_bytes());
     r
 }
 
@@ -33,12 +30,11 @@ pub fn with_run(record: [u8; 96], i: usize, code: u32) -> [u8; 96] {
     if 6 < i {
         return record;
     }
-    let longest = 4294967280 + code % 16;
-    let two = with_op(with_op(record, i, longest), i + 1, longest);
-    let four = with_op(with_op(two, i + 2, longest), i + 3, longest);
-    let six = with_op(with_op(four, i + 4, longest), i + 5, longest);
-    let eight = with_op(with_op(six, i + 6, longest), i + 7, longest);
-    with_op(eight, i + 8, 128 + code % 16)
+    let mut r = record;
+    for k in i..i + 8 {
+        r = with_op(r, k, 4294967280 + code % 16);
+    }
+    with_op(r, i + 8, 128 + code % 16)
 }
 
 // The first n bytes; none where there are fewer.

@@ -1,5 +1,5 @@
 -- The lines of the records at hand, and the last lines or the bytes that are left.
-use Rattle.std.proofs.Common.{◌≡◌, ◌-◌, Bool, take, refl, sym, ap, subst, ◌∙◌, arith}
+use Rattle.std.proofs.Common.{◌-◌, Bool, take, refl, sym, ap, subst, ◌∙◌, arith}
 use Rattle.put_text.proofs.PutLaws.{put_as}
 use Rattle.stream_rules.specs.Stream.{closing, last_word}
 use Rattle.stream_rules.specs.Inner.{Went}
