@@ -78,6 +78,7 @@ pub fn line(number: u64, rec: &[u8], out: &mut [u8], at: usize) -> usize
     ensures upper_bound { result ≤ at + 65792 }
 {
     let from = put_text::put_number(number, out, at);
+    // No `?`: either refusal is written here, behind the number.
     match put_text(rec, out, from) {
         Err(why) => put_refusal(why, out, from),
         Ok(behind) => match row_of(rec) {
