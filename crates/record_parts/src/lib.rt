@@ -36,10 +36,10 @@ fn copy_blocks(from: &[u8], to: &mut [u8])
     requires length_bound { 64 < length from.now }
     ensures { to.new ≡ from.now }
 {
-    for i in 0..(from.len() - 1) / 64 {
-        copy_block::<64>(from, to, 64 * i);
+    for i in 0..(from.len() - 1) / 16 {
+        copy_block::<16>(from, to, 16 * i);
     }
-    copy_block::<64>(from, to, from.len() - 64);
+    copy_block::<16>(from, to, from.len() - 16);
 }
 
 // Copies bytes. `copy_from_slice` alone would call C's memmove, and the archives ask for nothing of C.

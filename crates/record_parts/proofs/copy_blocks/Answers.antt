@@ -11,8 +11,8 @@ loop-i-init c = sym (splice_nil _ _)
 
 pub loop-i-preserved : goal.loop-i-preserved
 loop-i-preserved c =
-    blocks c.args.to.now _ _ c.args.from.now (64 * c.loop-i.i) (64 * c.loop-i.i) 64 _ (omega arith) (omega arith) (omega arith) (omega arith) (omega arith) c.loop-i.invariant c.copy_block.ensures
+    blocks c.args.to.now _ _ c.args.from.now (16 * c.loop-i.i) (16 * c.loop-i.i) 16 _ (omega arith) (omega arith) (omega arith) (omega arith) (omega arith) c.loop-i.invariant c.copy_block.ensures
 
 pub returns : goal.returns
 returns c =
-    two_blocks c.args.to.now _ _ c.args.from.now (64 * c.loop-i.i) (length c.args.from.now - 64) 64 (omega arith) (omega arith) (omega arith) (omega arith) c.loop-i.invariant c.copy_block-2.ensures
+    two_blocks c.args.to.now _ _ c.args.from.now (16 * c.loop-i.i) (length c.args.from.now - 16) 16 (omega arith) (omega arith) (omega arith) (omega arith) c.loop-i.invariant c.copy_block-2.ensures
