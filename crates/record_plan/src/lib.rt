@@ -83,9 +83,8 @@ fn placed(bam: &[u8], p: Plan, start: bool, refs: u64, count: u64) -> Answer<Rec
     requires refs_value { refs ≡ sum_of ref_len (planned_ops start (record_ops bam.now) p) }
     ensures { FateIs bam.now start (placed bam.now (planned_ops start (record_ops bam.now) p) start count (checked (pos_of bam.now +ℤ pos count))) result }
 {
-    let z = signed::checked_add(little_endian::i32_at(bam, 4), count as i32).ok_or(
-        Refusal::Overflow,
-    )?;
+    let place = little_endian::i32_at(bam, 4);
+    let z = signed::checked_add(place, count as i32).ok_or(Refusal::Overflow)?;
     binned(bam, p, start, refs, count, z)
 }
 

@@ -18,8 +18,8 @@ use Rattle.record_plan.proofs.placed.Goals as goal
 pub returns : goal.returns
 returns c =
     let summed : c.checked_add.result ≡ checked (pos_of c.args.bam.now +ℤ pos c.args.count) =
-    let e : to_z w32 (of_z w32 c.i32_at.result) ≡ c.i32_at.result = search rules in
-    simp (e ∙ c.i32_at.ensures, to_z_pos w32 {n = c.args.count} (omega arith)) at c.checked_add.ensures
+    let e : to_z w32 (of_z w32 c.i32_at-place.result) ≡ c.i32_at-place.result = search rules in
+    simp (e ∙ c.i32_at-place.ensures, to_z_pos w32 {n = c.args.count} (omega arith)) at c.checked_add.ensures
     in
     let some : c.checked_add.result ≡ Some c.in_ok-z.z = search rules in
     let e : to_z w32 (of_z w32 c.in_ok-z.z) ≡ c.in_ok-z.z = search rules in
@@ -31,8 +31,8 @@ returns c =
 pub returns-in_err-z : goal.returns-in_err-z
 returns-in_err-z c =
     let summed : c.checked_add.result ≡ checked (pos_of c.args.bam.now +ℤ pos c.args.count) =
-    let e : to_z w32 (of_z w32 c.i32_at.result) ≡ c.i32_at.result = search rules in
-    simp (e ∙ c.i32_at.ensures, to_z_pos w32 {n = c.args.count} (omega arith)) at c.checked_add.ensures
+    let e : to_z w32 (of_z w32 c.i32_at-place.result) ≡ c.i32_at-place.result = search rules in
+    simp (e ∙ c.i32_at-place.ensures, to_z_pos w32 {n = c.args.count} (omega arith)) at c.checked_add.ensures
     in
     let none : c.checked_add.result ≡ None = search rules in
     let passed : c.from_residual.result ≡ Err Overflow = search rules in
