@@ -12,6 +12,7 @@ ghost use Rattle.record_rules.specs.InnerPlan.{FateIs, planned_ops};
 
 use answers::{Answer, Pos0, Refusal};
 use clip_rules::Plan;
+use oplist::OpList;
 use record_rules::RecordPlan;
 
 // The most ops that a record counts.
@@ -28,8 +29,7 @@ pub fn plan_record(bam: &[u8], amount: u64, start: bool) -> Answer<RecordPlan>
         return Err(Refusal::AreaOverrun);
     }
     let list = oplist::of_record(bam);
-    let limit = oplist::count(&[], bam, list);
-    let p = clip_plan::plan_clip(&[], bam, list, limit, amount, start, true)?;
+    let p = clip_plan::plan_clip(list, list.count(), amount, start, true)?;
     counted(bam, p, start)
 }
 
@@ -97,7 +97,7 @@ fn counted(bam: &[u8], p: Plan, start: bool) -> Answer<RecordPlan>
     requires bam_value { sum_of ref_len (record_ops bam.now) ≡ p.lost + sum_of ref_len (planned_ops start (record_ops bam.now) p) }
     ensures { FateIs bam.now start (counted bam.now (planned_ops start (record_ops bam.now) p) start (cond start p.lost 0)) result }
 {
-    let total = op_sums::short_sums(&[], bam, oplist::of_record(bam));
+    let total = op_sums::short_sums(oplist::of_record(bam));
     let len = little_endian::u32_at(bam, 16) as u64;
     if query_differs(len, total.query) {
         return Err(Refusal::QueryDiffers);

@@ -24,7 +24,7 @@ returns-then-query_differs c =
     let tested : c.query_differs.result ≡ differs (seq_len_of c.args.bam.now) (sum_of query_len (record_ops c.args.bam.now)) =
     c.query_differs.ensures
     ∙ ap (λ (n : ℕ). differs n c.short_sums-total.result.query) c.u32_at-len.ensures
-    ∙ ap (differs (seq_len_of c.args.bam.now)) (c.short_sums-total.ensures.1 ∙ ap (sum_of query_len) (c.of_record.ensures.by_index []))
+    ∙ ap (differs (seq_len_of c.args.bam.now)) (c.short_sums-total.ensures.1 ∙ ap (sum_of query_len) (c.of_record.ensures))
     in
     differs_is c.args.bam.now (left) c.args.start (cond c.args.start c.args.p.lost 0) (sym (tested) ∙ c.if-query_differs.true)
 
@@ -41,7 +41,7 @@ returns-then-count_of-gt-MOST_RECORD_OPS c =
     let tested : c.query_differs.result ≡ differs (seq_len_of c.args.bam.now) (sum_of query_len (record_ops c.args.bam.now)) =
     c.query_differs.ensures
     ∙ ap (λ (n : ℕ). differs n c.short_sums-total.result.query) c.u32_at-len.ensures
-    ∙ ap (differs (seq_len_of c.args.bam.now)) (c.short_sums-total.ensures.1 ∙ ap (sum_of query_len) (c.of_record.ensures.by_index []))
+    ∙ ap (differs (seq_len_of c.args.bam.now)) (c.short_sums-total.ensures.1 ∙ ap (sum_of query_len) (c.of_record.ensures))
     in
     let n = many in
     over-is c.args.bam.now (left) c.args.start (cond c.args.start c.args.p.lost 0) (sym (tested) ∙ c.if-query_differs.false) (omega arith)
@@ -49,7 +49,7 @@ returns-then-count_of-gt-MOST_RECORD_OPS c =
 pub placed-requires-clause-refs_bound : goal.placed-requires-clause-refs_bound
 placed-requires-clause-refs_bound c =
     let refs : c.short_sums-total.result.refs ≡ sum_of ref_len (record_ops c.args.bam.now) =
-    c.short_sums-total.ensures.0 ∙ ap (sum_of ref_len) (c.of_record.ensures.by_index [])
+    c.short_sums-total.ensures.0 ∙ ap (sum_of ref_len) (c.of_record.ensures)
     in
     let s = refs_small (record_ops c.args.bam.now) in
     (omega (arith, refs, s, c.requires.bam_bound), omega (arith, s, c.requires.bam_bound, c.requires.bam_value))
@@ -67,7 +67,7 @@ returns c =
     let tested : c.query_differs.result ≡ differs (seq_len_of c.args.bam.now) (sum_of query_len (record_ops c.args.bam.now)) =
     c.query_differs.ensures
     ∙ ap (λ (n : ℕ). differs n c.short_sums-total.result.query) c.u32_at-len.ensures
-    ∙ ap (differs (seq_len_of c.args.bam.now)) (c.short_sums-total.ensures.1 ∙ ap (sum_of query_len) (c.of_record.ensures.by_index []))
+    ∙ ap (differs (seq_len_of c.args.bam.now)) (c.short_sums-total.ensures.1 ∙ ap (sum_of query_len) (c.of_record.ensures))
     in
     let n = many in
     refated c.args.bam.now c.args.start

@@ -24,46 +24,37 @@ returns-then-bam-tags_start c =
 
 pub counted-requires-clause-skip_bound : goal.counted-requires-clause-skip_bound
 counted-requires-clause-skip_bound c =
-    let answered : PlannedIs (length (record_ops c.args.bam.now)) (record_ops c.args.bam.now) c.args.amount c.args.start c.plan_clip.result =
-    let o = c.of_record-list.ensures.by_index [] in
-    rw (c.count-limit.ensures.0 ∙ ap length o, o) at c.plan_clip.ensures
-    in
+    let o = c.of_record-list.ensures in
     let made : PlannedIs (length (record_ops c.args.bam.now)) (record_ops c.args.bam.now) c.args.amount c.args.start (Ok c.in_ok-p.p) =
-    subst (PlannedIs (length (record_ops c.args.bam.now)) (record_ops c.args.bam.now) c.args.amount c.args.start) c.in_ok-p.was (answered)
+    rw (c.count.ensures.value ∙ ap length o, o) at c.in_ok-p.ensures
     in
     let whole : tags_start c.args.bam.now ≤ length c.args.bam.now =
     omega arith
     in
-    let P = (made).2.1 in
-    let n = ops_count c.args.bam.now (whole) in
+    let P = made.2.1 in
+    let n = ops_count c.args.bam.now whole in
     let k = skip_fits (record_ops c.args.bam.now) c.args.start c.args.amount c.in_ok-p.p P in
     omega arith
 
 pub counted-requires-clause-bam_value : goal.counted-requires-clause-bam_value
 counted-requires-clause-bam_value c =
-    let answered : PlannedIs (length (record_ops c.args.bam.now)) (record_ops c.args.bam.now) c.args.amount c.args.start c.plan_clip.result =
-    let o = c.of_record-list.ensures.by_index [] in
-    rw (c.count-limit.ensures.0 ∙ ap length o, o) at c.plan_clip.ensures
-    in
+    let o = c.of_record-list.ensures in
     let made : PlannedIs (length (record_ops c.args.bam.now)) (record_ops c.args.bam.now) c.args.amount c.args.start (Ok c.in_ok-p.p) =
-    subst (PlannedIs (length (record_ops c.args.bam.now)) (record_ops c.args.bam.now) c.args.amount c.args.start) c.in_ok-p.was (answered)
+    rw (c.count.ensures.value ∙ ap length o, o) at c.in_ok-p.ensures
     in
     let whole : tags_start c.args.bam.now ≤ length c.args.bam.now =
     omega arith
     in
-    let P = (made).2.1 in
-    let n = ops_count c.args.bam.now (whole) in
+    let P = made.2.1 in
+    let n = ops_count c.args.bam.now whole in
     let k = skip_fits (record_ops c.args.bam.now) c.args.start c.args.amount c.in_ok-p.p P in
     refs_are (record_ops c.args.bam.now) c.args.start c.args.amount c.in_ok-p.p P
 
 pub returns : goal.returns
 returns c =
-    let answered : PlannedIs (length (record_ops c.args.bam.now)) (record_ops c.args.bam.now) c.args.amount c.args.start c.plan_clip.result =
-    let o = c.of_record-list.ensures.by_index [] in
-    rw (c.count-limit.ensures.0 ∙ ap length o, o) at c.plan_clip.ensures
-    in
+    let o = c.of_record-list.ensures in
     let made : PlannedIs (length (record_ops c.args.bam.now)) (record_ops c.args.bam.now) c.args.amount c.args.start (Ok c.in_ok-p.p) =
-    subst (PlannedIs (length (record_ops c.args.bam.now)) (record_ops c.args.bam.now) c.args.amount c.args.start) c.in_ok-p.was (answered)
+    rw (c.count.ensures.value ∙ ap length o, o) at c.in_ok-p.ensures
     in
     let long : 32 ≤ length c.args.bam.now =
     omega arith
@@ -72,9 +63,9 @@ returns c =
     omega arith
     in
     let xs = record_ops c.args.bam.now in
-    let P = (made).2.1 in
+    let P = made.2.1 in
     refated c.args.bam.now c.args.start
-    (within-is c.args.bam.now c.args.amount c.args.start (long) (whole) (made).1 (made).2.0
+    (within-is c.args.bam.now c.args.amount c.args.start (long) whole made.1 made.2.0
     ∙ ap (λ (ys : List ℕ). counted c.args.bam.now ys c.args.start (start_count xs c.args.amount c.args.start)) (sym (planned_is xs c.args.start c.args.amount c.in_ok-p.p P))
     ∙ ap (counted c.args.bam.now _ c.args.start) (sym (count-is xs c.args.start c.args.amount c.in_ok-p.p P)))
     c.counted.result
@@ -83,10 +74,9 @@ returns c =
 pub returns-in_err-p : goal.returns-in_err-p
 returns-in_err-p c =
     let passed : c.from_residual.result ≡ Err c.in_err-p.field-0.0 = search rules in
-    let answered : PlannedIs (length (record_ops c.args.bam.now)) (record_ops c.args.bam.now) c.args.amount c.args.start c.plan_clip.result =
-    let o = c.of_record-list.ensures.by_index [] in
-    rw (c.count-limit.ensures.0 ∙ ap length o, o) at c.plan_clip.ensures
+    let o = c.of_record-list.ensures in
+    let refused : PlannedIs (length (record_ops c.args.bam.now)) (record_ops c.args.bam.now) c.args.amount c.args.start (Err c.in_err-p.field-0.0) =
+    rw (c.count.ensures.value ∙ ap length o, o) at c.in_err-p.ensures
     in
     subst⁻¹ (FateIs c.args.bam.now c.args.start (clipped_fate c.args.bam.now c.args.amount c.args.start)) passed
-    (refused-is c.args.bam.now c.args.amount c.args.start (omega arith) (omega arith) _
-    (subst (PlannedIs (length (record_ops c.args.bam.now)) (record_ops c.args.bam.now) c.args.amount c.args.start) c.in_err-p.was (answered)))
+    (refused-is c.args.bam.now c.args.amount c.args.start (omega arith) (omega arith) _ refused)
