@@ -1,8 +1,7 @@
 // What calls answer: a value, "none", or the refusal. Document 01, "Numbers and their bounds".
 #![tactic(auto)]
 
-ghost use Rattle.std.specs.Prelude.{◌≡◌};
-ghost use Rattle.std.specs.Prelude.{Some};
+ghost use Rattle.std.specs.Prelude.{◌≡◌, Some};
 ghost use Rattle.answers.specs.Answers.{number_of, bare0};
 ghost use Rattle.answers.specs.Texts.{refusal_text};
 ghost use Rattle.std.specs.Fmt.{signed_decimal};

@@ -1,6 +1,5 @@
 -- Document 02, item 5: "From a start and an op list, write chromStart, chromEnd, blockCount, blockSizes and blockStarts". Refusals 3, 14, 4, 6.
-use Rattle.std.specs.Prelude.{ℕ, ◌+◌, Bool, false, cond, ◌||◌, ◌&&◌, List, [], ◌∷◌, map, reverse, eqb, ltb, ℤ, pos, length}
-use Rattle.std.specs.Prelude.{Ok, Err}
+use Rattle.std.specs.Prelude.{ℕ, ◌+◌, Bool, false, cond, ◌||◌, ◌&&◌, List, [], ◌∷◌, map, reverse, eqb, ltb, ℤ, pos, length, Ok, Err}
 use Rattle.answers.specs.Answer.{Answer}
 use Rattle.std.specs.Int.Signed.{lt_z}
 use Rattle.lists.specs.Lists.{sum_of, splice}

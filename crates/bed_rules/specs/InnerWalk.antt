@@ -1,6 +1,5 @@
 -- What the functions of `bed` go by: the blocks of what is left of a list behind the stretch that is open there, by its start and its size so far; and whether 14 is due.
-use Rattle.std.specs.Prelude.{ℕ, ◌+◌, Bool, true, cond, List, [], ◌∷◌, ◌++◌, eqb, length}
-use Rattle.std.specs.Prelude.{Some, None, Option}
+use Rattle.std.specs.Prelude.{ℕ, ◌+◌, Bool, true, cond, List, [], ◌∷◌, ◌++◌, eqb, length, Some, None, Option}
 use Rattle.lists.specs.Lists.{sum_of}
 use Rattle.sam.specs.Op.{ref_len}
 use Rattle.bed_rules.specs.Blocks.{is_skip, Block, blocks}

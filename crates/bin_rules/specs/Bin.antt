@@ -1,7 +1,6 @@
 -- Document 01, module 11: "Offsets 4681, 585, 73, 9, 1 at shifts 14, 17, 20, 23, 26: the first shift at which beg and end-1 agree; else 0.
 -- The low 16 bits are kept." On every pair of i32; shifts round down.
-use Rattle.std.specs.Prelude.{ℕ, ◌-◌, ◌/◌, ◌%◌, ◌^◌, cond, List, [], ◌∷◌, set, ℤ, pos, negsuc, ◌+ℤ◌, ◌-ℤ◌}
-use Rattle.std.specs.Prelude.{Err, None, Ok, Option, Some}
+use Rattle.std.specs.Prelude.{ℕ, ◌-◌, ◌/◌, ◌%◌, ◌^◌, cond, List, [], ◌∷◌, set, ℤ, pos, negsuc, ◌+ℤ◌, ◌-ℤ◌, Err, None, Ok, Option, Some}
 use Rattle.answers.specs.Answer.{Answer}
 use Rattle.std.specs.Int.Signed.{shr_z, lt_z}
 use Rattle.signed.specs.Equal.{eqℤ}

@@ -1,6 +1,5 @@
 -- What is told of an answer that is plain numbers: one that may be none, or two that are never negative.
-use Rattle.std.specs.Prelude.{ℕ, ℤ, pos, List, [], ◌∷◌}
-use Rattle.std.specs.Prelude.{Err, None, Ok, Option, Some}
+use Rattle.std.specs.Prelude.{ℕ, ℤ, pos, List, [], ◌∷◌, Err, None, Ok, Option, Some}
 use Rattle.answers.specs.Answer.{Answer}
 use Rattle.answers.specs.Answers.{Told, answered, refused, none, some}
 

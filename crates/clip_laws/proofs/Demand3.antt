@@ -21,14 +21,13 @@ use Rattle.clip_rules.specs.Clipping.{taking, Cut, hard_of, soft_of, clip}
 use Rattle.answers.specs.Settled.{Outcome}
 use Rattle.clip_rules.specs.Answer.{given, clipped_ops, clipped_count, clippable, is_beyond, clipped_into, clipped_up_to, clipped_record, written, without_count, start_up_to, end_up_to, record_start, record_end}
 use Rattle.clip_rules.specs.declared.Clipped.{Clipped}
-use Rattle.clip_rules.proofs.AnswerLaws.{within, accepted}
+use Rattle.clip_rules.proofs.AnswerLaws.{within, accepted, given_same}
 use Rattle.clip_rules.proofs.BeyondLaws.{some_beyond, not_within}
 use Rattle.clip_laws.specs.Demand3.{is_inner, kept_len, Shaped, Takes, most, survives, Clipper, Leaves, StartGives, EndGives, Given, Clips, Further, StartOnce, StartThen, Demand3Start, EndOnce, EndThen, Demand3End, Itself, InRecord}
 use Rattle.clip_laws.proofs.CodeLaws.{hard_len, hard_code}
 use Rattle.clip_laws.proofs.ShapeLaws.{Headed, left_headed, left_length, left_total, soft_length, soft_total, shaped_facing, shaped_inner, tail_clips, shaped_runs, shaped_reads}
 use Rattle.clip_laws.proofs.ClipLaws.{once, twice, still_clippable, on_none, on_soft, on_inner}
 use Rattle.clip_laws.proofs.Drops.{clip_drops, drops_length}
-use Rattle.clip_rules.proofs.AnswerLaws.{given_same}
 
 -- ---- what survives, from either end
 

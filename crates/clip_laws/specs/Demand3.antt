@@ -1,7 +1,6 @@
 -- Demand 3, of any clipper at one end: the lists that it takes, what one call promises, and what two calls promise; once for a call that clips at the start, and once for one
 -- that clips at the end (document 02, item 12: "Demand 3 reads once for each call, adding counts at the start only").
-use Rattle.std.specs.Prelude.{ℕ, ◌+◌, ◌^◌, ◌≤◌, ◌<◌, ◌≡◌, Bool, true, false, ◌||◌, List, [], ◌∷◌, ◌++◌, length, get_or}
-use Rattle.std.specs.Prelude.{Ok}
+use Rattle.std.specs.Prelude.{ℕ, ◌+◌, ◌^◌, ◌≤◌, ◌<◌, ◌≡◌, Bool, true, false, ◌||◌, List, [], ◌∷◌, ◌++◌, length, get_or, Ok}
 use Rattle.answers.specs.Answer.{Answer}
 use Rattle.lists.specs.Lists.{Each, facing, splice, sum_of}
 use Rattle.sam.specs.Op.{len_of, code_of, ref_len, query_len}

@@ -1,7 +1,6 @@
 -- Document 01, "Numbers and their bounds" and "Clipping", and document 02, item 12: what the start call and the end call answer and leave in the lent output.
 -- Refusals 3 (1 for a record), 8, 19, 6.
-use Rattle.std.specs.Prelude.{ℕ, ◌+◌, Bool, true, false, cond, not, ◌&&◌, List, [], ◌∷◌, pos, length, eqb, ltb}
-use Rattle.std.specs.Prelude.{Err, Ok}
+use Rattle.std.specs.Prelude.{ℕ, ◌+◌, Bool, true, false, cond, not, ◌&&◌, List, [], ◌∷◌, pos, length, eqb, ltb, Err, Ok}
 use Rattle.answers.specs.Answer.{Answer}
 use Rattle.lists.specs.Lists.{facing, splice, sum_of}
 use Rattle.sam.specs.Op.{len_of}

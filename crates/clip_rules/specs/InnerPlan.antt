@@ -1,6 +1,5 @@
 -- What the planning functions hand on, as it stands to the rule of document 01, "Clipping" (`Clipping.antt`): places and numbers for lists.
-use Rattle.std.specs.Prelude.{ℕ, ◌≤◌, ◌<◌, ◌≡◌, Bool, true, false, ◌⊎◌, List, [], ◌∷◌, ◌++◌, length, take, drop}
-use Rattle.std.specs.Prelude.{Err, Ok}
+use Rattle.std.specs.Prelude.{ℕ, ◌≤◌, ◌<◌, ◌≡◌, Bool, true, false, ◌⊎◌, List, [], ◌∷◌, ◌++◌, length, take, drop, Err, Ok}
 use Rattle.answers.specs.Answer.{Answer}
 use Rattle.clip_rules.specs.declared.Plan.{Plan}
 use Rattle.lists.specs.Lists.{facing, sum_of}

@@ -1,6 +1,5 @@
 -- Document 01, module 2: `get_cigar_ops`, a record's ops in the first places of lent memory.
-use Rattle.std.specs.Prelude.{ℕ, cond, List, length, ltb}
-use Rattle.std.specs.Prelude.{Err, Ok}
+use Rattle.std.specs.Prelude.{ℕ, cond, List, length, ltb, Err, Ok}
 use Rattle.answers.specs.Answer.{Answer}
 use Rattle.lists.specs.Lists.{splice}
 use Rattle.sam.specs.Record.{is_short}

@@ -1,7 +1,6 @@
 // Document 01, module 2: ops that lie in a record, copied into lent memory.
 #![tactic(auto)]
 
-ghost use Rattle.std.specs.Prelude.{[]};
 ghost use Rattle.answers.specs.Settled.{Settled};
 ghost use Rattle.copied_ops.specs.Copied.{copied_ops, get_ops};
 

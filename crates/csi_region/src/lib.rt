@@ -1,7 +1,7 @@
 // Document 02, item 11, the region of a CSI bin: refusals 17 and 18, and its first and last place. An inner crate of `csi`.
 #![tactic(auto)]
 
-ghost use Rattle.std.specs.Prelude.{◌≡◌, ◌+◌, ◌*◌, ◌^◌, ◌<◌};
+ghost use Rattle.std.specs.Prelude.{◌≡◌, ◌+◌, ◌*◌, ◌<◌};
 ghost use Rattle.csi_rules.specs.Csi.{served, inside, region_of};
 
 use answers::{Answer, Refusal};

@@ -1,7 +1,6 @@
 -- The region by its cases: 17 whatever the region is, then 18, and else its first and last place, of which the bin is the rule's.
 use Prim.Native.Nat.{ℕ}
-use Rattle.std.specs.Prelude.{Err}
-use Rattle.std.specs.Prelude.{Ok}
+use Rattle.std.specs.Prelude.{Err, Ok}
 use mathlib.Core.Path.{◌≡◌, ap}
 use mathlib.Core.Bool.{true, false}
 use lib.IntN.{ℤ}

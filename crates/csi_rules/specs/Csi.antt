@@ -1,6 +1,5 @@
 -- Document 02, item 11, "CSI bins for large genomes": the bin of a region, over min_shift and depth, and all bins that may overlap it.
-use Rattle.std.specs.Prelude.{ℕ, zero, suc, ◌+◌, ◌-◌, ◌*◌, ◌/◌, ◌^◌, Bool, cond, not, ◌&&◌, List, [], ◌∷◌, ◌++◌, ltb, leb, length, ℤ, pos}
-use Rattle.std.specs.Prelude.{Err, Ok}
+use Rattle.std.specs.Prelude.{ℕ, zero, suc, ◌+◌, ◌-◌, ◌*◌, ◌/◌, ◌^◌, Bool, cond, not, ◌&&◌, List, [], ◌∷◌, ◌++◌, ltb, leb, length, ℤ, pos, Err, Ok}
 use Rattle.answers.specs.Answer.{Answer}
 use Rattle.std.specs.Int.Signed.{lt_z, le_z}
 use Rattle.lists.specs.Lists.{splice}

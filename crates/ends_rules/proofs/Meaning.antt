@@ -11,8 +11,7 @@ use lib.ListN.{length}
 use lib.Signed.{lt_z}
 use borrow.Author.Tests.{leb-true, leb-false, le-ltb, lt-ltb}
 use Rattle.lists.proofs.Absurd.{never, false_true}
-use Rattle.signed.specs.Whole.{side_of, sum_at, checked, natural}
-use Rattle.signed.specs.Whole.{Below, Within, Above}
+use Rattle.signed.specs.Whole.{side_of, sum_at, checked, natural, Below, Within, Above}
 use Rattle.sam.specs.Columns.{columns, refs}
 use Rattle.sam.specs.Record.{is_short, pos_of, flags_of, is_unmapped, is_reverse, op_count_of, ops_start, ops_end, ops_in}
 use Rattle.sam.proofs.LengthLaws.{reference_length}

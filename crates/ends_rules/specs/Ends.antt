@@ -1,8 +1,7 @@
 -- Document 01, module 7: "`unclipped_5prime_from_raw_bam`: [..] from `pos` + 1, forward less the leading S and H, reverse plus reference length plus clips after the last
 -- reference op, less 1. `unclipped_5prime_raw` returns the given position for no ops or overrun."
 -- Document 02, item 3: "The family builder wants three answers: a position, unmapped, or no ops, which an overrun area also gives."
-use Rattle.std.specs.Prelude.{ℕ, Bool, cond, List, [], ◌∷◌, eqb, ℤ, pos, length}
-use Rattle.std.specs.Prelude.{Err, None, Ok, Option, Some}
+use Rattle.std.specs.Prelude.{ℕ, Bool, cond, List, [], ◌∷◌, eqb, ℤ, pos, length, Err, None, Ok, Option, Some}
 use Rattle.answers.specs.Answer.{Answer}
 use Rattle.answers.specs.declared.Pos1.{Pos1}
 use Rattle.std.specs.Int.Signed.{lt_z}

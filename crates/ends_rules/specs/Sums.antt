@@ -1,6 +1,5 @@
 -- Document 01, refusal 4: "a signed 32-bit sum overflows where Rust with overflow checks stops". Rust's + and - on i32, where an operand may have overflowed already.
-use Rattle.std.specs.Prelude.{ℕ, ℤ, pos, ◌+ℤ◌, ◌-ℤ◌}
-use Rattle.std.specs.Prelude.{None, Option, Some}
+use Rattle.std.specs.Prelude.{ℕ, ℤ, pos, ◌+ℤ◌, ◌-ℤ◌, None, Option, Some}
 use Rattle.signed.specs.Whole.{checked}
 
 -- a sum or a difference of two numbers, where both are there

@@ -1,6 +1,5 @@
 -- include/cigar.h: kinds cross the border as their codes, 0 to 8; a kind above 8 answers none.
-use Rattle.std.specs.Prelude.{ℕ, pos}
-use Rattle.std.specs.Prelude.{Err, None, Ok, Option, Some}
+use Rattle.std.specs.Prelude.{ℕ, pos, Err, None, Ok, Option, Some}
 use Rattle.answers.specs.Answer.{Answer}
 use Rattle.kinds.specs.declared.CigarOp.{CigarOp}
 use Rattle.kinds.specs.declared.CigarKind.{CigarKind}

@@ -18,11 +18,7 @@ pub extern "C" fn cigar_unclipped_5prime_from_raw_bam(rec: &[u8]) -> ToldPositio
 pub extern "C" fn cigar_unclipped_5prime_raw(rec: &[u8], position: i32, reverse: u8) -> ToldInt
     ensures { result ≡ int_of (tell_place0 (unclipped_from rec.now (record { 0 = position }) (flagged reverse))) }
 {
-    unclipped::unclipped_5prime_raw(
-        rec,
-        Pos0(position),
-        border::flag(reverse),
-    ).into()
+    unclipped::unclipped_5prime_raw(rec, Pos0(position), border::flag(reverse)).into()
 }
 
 #[unsafe(no_mangle)]

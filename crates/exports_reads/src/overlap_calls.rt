@@ -47,7 +47,8 @@ pub extern "C" fn cigar_bases_extending_past_mate_ops(
         ops,
         Pos1(mate_position),
         mate_ops,
-    ).into()
+    )
+    .into()
 }
 
 #[unsafe(no_mangle)]

@@ -1,6 +1,5 @@
 -- Document 01, module 1: fields of a record, with refusal 1 under 32 bytes, and the part of it that holds the ops.
-use Rattle.std.specs.Prelude.{ℕ, ◌*◌, cond, List, [], ◌∷◌, ℤ, pos, length, take, drop, ltb}
-use Rattle.std.specs.Prelude.{Err, Ok}
+use Rattle.std.specs.Prelude.{ℕ, ◌*◌, cond, List, [], ◌∷◌, ℤ, pos, length, take, drop, ltb, Err, Ok}
 use Rattle.answers.specs.Answer.{Answer}
 use Rattle.answers.specs.declared.Pos0.{Pos0}
 use Rattle.sam.specs.Record.{is_short, ops_start, op_count_of, ops_end}

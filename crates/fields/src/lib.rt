@@ -2,7 +2,7 @@
 #![tactic(auto)]
 
 ghost use Rattle.std.specs.Prelude.{◌≡◌, ◌==◌, ◌/◌, ◌%◌, ◌≤◌, ◌<◌, length, IsOk};
-ghost use Rattle.sam.specs.Record.{int32, ref_id_of, pos_of, name_len_of, stored_bin_of, op_count_of, flags_of, seq_len_of, mate_ref_id_of, mate_pos_of, template_len_of, is_paired, is_unmapped, is_mate_unmapped, is_reverse, is_mate_reverse, le16};
+ghost use Rattle.sam.specs.Record.{ref_id_of, pos_of, name_len_of, stored_bin_of, op_count_of, flags_of, seq_len_of, mate_ref_id_of, mate_pos_of, template_len_of, is_paired, is_unmapped, is_mate_unmapped, is_reverse, is_mate_reverse};
 ghost use Rattle.fields.specs.Fields.{field, int_field, nat_field, pos_field, cigar_part, part_refusal, cigar_area};
 
 use answers::{Answer, Pos0, Refusal};

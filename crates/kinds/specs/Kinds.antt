@@ -1,6 +1,5 @@
 -- Document 01, module 2: the kinds are M I D N S H P = X; "`kind` calls them `Pad`", the codes 9 to 15.
-use Rattle.std.specs.Prelude.{ℕ, cond, List, [], ◌∷◌, pos, get_or, ltb, eqb}
-use Rattle.std.specs.Prelude.{Err, None, Ok, Option, Some}
+use Rattle.std.specs.Prelude.{ℕ, cond, List, [], ◌∷◌, pos, get_or, ltb, eqb, Err, None, Ok, Option, Some}
 use Rattle.answers.specs.Answer.{Answer}
 use Rattle.kinds.specs.declared.CigarOp.{CigarOp}
 use Rattle.sam.specs.Op.{op_of, letters}

@@ -1,6 +1,5 @@
 -- Document 01, module 3: "Sums over reference and query codes. `saturating_reference_length` stops at 2^31-1." Each with its refusals in order.
-use Rattle.std.specs.Prelude.{ℕ, cond, List, [], ◌∷◌, length, ltb, pos}
-use Rattle.std.specs.Prelude.{Err, Ok, ℤ}
+use Rattle.std.specs.Prelude.{ℕ, cond, List, [], ◌∷◌, length, ltb, pos, Err, Ok, ℤ}
 use Rattle.answers.specs.Answer.{Answer}
 use Rattle.length_rules.specs.declared.RecordLengths.{RecordLengths}
 use Rattle.lists.specs.Lists.{sum_of}

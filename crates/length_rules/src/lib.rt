@@ -18,4 +18,3 @@ pub struct RecordLengths {
     pub leading: Clips,
     pub trailing: Clips,
 }
-

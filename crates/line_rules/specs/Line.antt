@@ -1,8 +1,7 @@
 -- Document 01, "Program": "Output lines are tab-separated: record number from 1; text, or `*` if empty; checked reference length; query length; unclipped 5' position; bin;
 -- 1 if query length equals l_seq, else 0. A refused record prints its number, `refused`, the refusal; the first of 1, 7, 6, 2, 4. Text room is 65,536 bytes."
 -- Document 02, item 2: "Document 01's field becomes `-` where l_seq is 0. Its other cases stay." Item 3: "`.` for the latter two", unmapped and no ops.
-use Rattle.std.specs.Prelude.{ℕ, cond, List, [], ◌∷◌, ◌++◌, eqb, ℤ, pos, replicate}
-use Rattle.std.specs.Prelude.{Ok, Err}
+use Rattle.std.specs.Prelude.{ℕ, cond, List, [], ◌∷◌, ◌++◌, eqb, ℤ, pos, replicate, Ok, Err}
 use Rattle.answers.specs.Answer.{Answer}
 use Rattle.lists.specs.Runs.{holds}
 use Rattle.signed.specs.Whole.{natural}

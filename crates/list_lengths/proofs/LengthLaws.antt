@@ -1,6 +1,6 @@
 -- What the walks found is what the definition sums: a run of clips has no reference base, and of query bases the soft ones.
 use mathlib.Core.Path.{◌≡◌, refl, sym, ap, ◌∙◌}
-use Rattle.std.specs.Prelude.{Err, Ok}
+use Rattle.std.specs.Prelude.{Ok}
 use Rattle.answers.specs.Answer.{Answer}
 use Rattle.length_rules.specs.declared.RecordLengths.{RecordLengths}
 use mathlib.Core.Bool.{false}
@@ -12,7 +12,6 @@ use lib.ListN.{length, drop}
 use Rattle.lists.specs.Lists.{facing, sum_of}
 use Rattle.sam.specs.Op.{ref_len, query_len}
 use Rattle.ops.specs.Ops.{is_clip}
-use Rattle.answers.specs.declared.Refusal.{Refusal}
 use Rattle.lists.specs.Runs.{leading, holds}
 use Rattle.clip_run_rules.specs.Clips.{leading_soft, leading_hard, has_inner, trailing_soft, trailing_hard}
 use Rattle.clip_run_rules.specs.InnerWalked.{RunIs}

@@ -1,26 +1,12 @@
 -- Writing into a list: a turn of a loop, four elements, a list into the front part of another; and parts of parts.
-use Prim.Native.Nat.{ℕ, zero, suc, ◌+◌, ◌-◌, ◌≤◌, ◌<◌}
-use mathlib.Core.Path.{◌≡◌, refl, sym, ap, ◌∙◌}
+use Prim.Native.Nat.{ℕ, zero, suc, ◌+◌, ◌-◌, ◌≤◌}
+use mathlib.Core.Path.{◌≡◌, sym, ap, ◌∙◌}
 use mathlib.Core.List.{List, [], ◌∷◌, ◌++◌, append_assoc}
 use native.Mathlib.Omega.{arith}
-use lib.ListN.{length, get_or, take, drop, set, length-append}
+use lib.ListN.{length, take, drop, length-append}
 use lib.Seq.{take-append-le, drop-append-le, take-take, take-nil}
 use Rattle.lists.specs.Lists.{splice}
-use Rattle.lists.proofs.ListLaws.{length_splice, splice_two, splice_snoc, splice_turn}
-
--- one turn of a loop that writes a list
-pub put_turn : (d s : List ℕ) (at j x : ℕ) → x ≡ get_or s j 0 → j < length s → at + j < length d
-    → set (splice d at (take j s)) (at + j) x ≡ splice d at (take (j + 1) s)
-put_turn d s at j x e h k =
-    ap (set (splice d at (take j s)) (at + j)) (e ∙ ap (λ (i : ℕ). get_or s i 0) {x = j} {y = 0 + j} (omega arith))
-    ∙ splice_turn d at s 0 j (omega arith) k
-
-pub splice_four : (d : List ℕ) (at a b c e : ℕ) → at + 4 ≤ length d
-    → set (set (set (set d at a) (at + 1) b) (at + 2) c) (at + 3) e ≡ splice d at (a ∷ (b ∷ (c ∷ (e ∷ []))))
-splice_four d at a b c e h =
-    ap (λ (l : List ℕ). set (set l (at + 2) c) (at + 3) e) (splice_two d at a b (omega arith))
-    ∙ ap (λ (l : List ℕ). set l (at + 3) e) (splice_snoc d at (a ∷ (b ∷ [])) 2 c refl (omega arith))
-    ∙ splice_snoc d at (a ∷ (b ∷ (c ∷ []))) 3 e refl (omega arith)
+use Rattle.lists.proofs.ListLaws.{length_splice}
 
 pub splice_front : (vs r : List ℕ) (at : ℕ) (ws : List ℕ) → at + length ws ≤ length vs → splice (vs ++ r) at ws ≡ splice vs at ws ++ r
 unfolding splice

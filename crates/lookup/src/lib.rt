@@ -2,7 +2,7 @@
 #![tactic(auto)]
 
 ghost use Rattle.std.specs.Prelude.{◌≡◌, ◌≤◌, max};
-ghost use Rattle.lookup_rules.specs.Lookup.{look, looked_up_to, looked, long_looked, counted, read_over};
+ghost use Rattle.lookup_rules.specs.Lookup.{look, looked_up_to, looked, long_looked, read_over};
 ghost use Rattle.lookup_rules.specs.Examined.{place_of};
 ghost use Rattle.lookup.specs.InnerLookup.{spot_of, over_of};
 

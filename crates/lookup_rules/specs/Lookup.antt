@@ -1,11 +1,9 @@
 -- Document 01, module 8: "The 1-based query position of a reference position. In D or N: none, or if asked the last query base before it, at least 1."
-use Rattle.std.specs.Prelude.{ℕ, ◌+◌, ◌-◌, max, Bool, true, false, cond, List, [], ◌∷◌, ◌++◌, ltb, pos, length}
-use Rattle.std.specs.Prelude.{Ok, Err, Some, None, Option, ℤ}
+use Rattle.std.specs.Prelude.{ℕ, ◌+◌, ◌-◌, max, Bool, true, false, cond, List, [], ◌∷◌, ◌++◌, ltb, pos, length, Ok, Err, Some, None, Option, ℤ}
 use Rattle.answers.specs.Answer.{Answer}
 use Rattle.sam.specs.Columns.{Over, Base, Gap, Off, Spot, past}
 use Rattle.sam.specs.Op.{code_of, is_query, query_len, ref_len}
 use Rattle.answers.specs.Answers.{Told, answered, refused, some, none}
-use Rattle.answers.specs.declared.Refusal.{Refusal}
 use Rattle.answers.specs.declared.Refusal.TheVariants.{TooManyOps, BadStart}
 use Rattle.oplist.specs.Ops.{most_ops, most_long_ops}
 use Rattle.lookup_rules.specs.Examined.{examined}

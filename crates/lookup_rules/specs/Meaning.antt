@@ -1,7 +1,6 @@
 -- Module 8 against the SAM specification's columns: "The 1-based query position of a reference position" is one more than the query bases in the columns
 -- before the one that holds both; over a reference base alone, a D or N, it is none, or if asked the last query base before it, at least 1.
-use Rattle.std.specs.Prelude.{ℕ, ◌+◌, ◌≤◌, ◌<◌, max, ◌≡◌, Bool, cond, List, ◌∷◌, ◌++◌, ◌⊎◌, length}
-use Rattle.std.specs.Prelude.{Ok, Some, None, Option}
+use Rattle.std.specs.Prelude.{ℕ, ◌+◌, ◌≤◌, ◌<◌, max, ◌≡◌, Bool, cond, List, ◌∷◌, ◌++◌, ◌⊎◌, length, Ok, Some, None, Option}
 use Rattle.answers.specs.Answer.{Answer}
 use Rattle.sam.specs.Columns.{Column, Both, Reference, queries, refs}
 

@@ -1,6 +1,5 @@
 -- What the functions of `md` go by: what a place of a text stands for, and what an op does to it.
-use Rattle.std.specs.Prelude.{ℕ, zero, suc, ◌+◌, ◌≤◌, ◌<◌, ◌≡◌, Bool, true, false, ◌&&◌, List, [], ◌∷◌, ◌++◌, length, take, drop, get_or, replicate}
-use Rattle.std.specs.Prelude.{None, Option, Some}
+use Rattle.std.specs.Prelude.{ℕ, zero, suc, ◌+◌, ◌≤◌, ◌<◌, ◌≡◌, Bool, true, false, ◌&&◌, List, [], ◌∷◌, ◌++◌, length, take, drop, get_or, replicate, None, Option, Some}
 use Rattle.lists.specs.Lists.{splice}
 use Rattle.sam.specs.Op.{op_of}
 use Rattle.sam.specs.Text.{is_digit}

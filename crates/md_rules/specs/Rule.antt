@@ -1,7 +1,6 @@
 -- Document 02, item 13: "replace M by runs of = and X." "D lengths must agree with the `^` parts: each D of nonzero length is exactly one such part, and no MD is left over;
 -- I, S, H, P, N and codes 9 to 15 use no MD. A list already holding = or X is refused."
-use Rattle.std.specs.Prelude.{ℕ, zero, suc, ◌+◌, Bool, true, false, cond, not, ◌&&◌, ◌||◌, List, [], ◌∷◌, ◌++◌, length, take, drop, ltb, eqb}
-use Rattle.std.specs.Prelude.{Err, Ok}
+use Rattle.std.specs.Prelude.{ℕ, zero, suc, ◌+◌, Bool, true, false, cond, not, ◌&&◌, ◌||◌, List, [], ◌∷◌, ◌++◌, length, take, drop, ltb, eqb, Err, Ok}
 use Rattle.answers.specs.Answer.{Answer}
 use Rattle.lists.specs.Lists.{splice}
 use Rattle.lists.specs.Runs.{holds}

@@ -1,6 +1,5 @@
 -- The reader's one pass, as its inner functions go; no public contract cites it. Document 01's rules stand in `text_rules`, and a law of proofs/ says that the pass answers them.
-use Rattle.std.specs.Prelude.{ℕ, ◌+◌, min, cond, List, [], ◌∷◌, pos}
-use Rattle.std.specs.Prelude.{None, Option, Some}
+use Rattle.std.specs.Prelude.{ℕ, ◌+◌, min, cond, List, [], ◌∷◌, pos, None, Option, Some}
 use Rattle.sam.specs.Op.{len_of}
 use Rattle.validity.specs.InnerClass.{Class, Class.Reference, Class.Other, Class.Soft, Class.Hard, Class.Unknown}
 use Rattle.validity.specs.InnerStages.{class_of, step_of, accept_of, is_wrong}

@@ -1,7 +1,6 @@
 -- Document 01, module 10: how many query bases a read has past its mate, `bases_extending_past_mate_ops`; as the Rust (overlap.rs), each step within an i32.
 -- p and xs are the read's start, counted from 1, and ops; m and ys the mate's. A forward read is measured at its right end, a reverse read at its left.
-use Rattle.std.specs.Prelude.{ℕ, ◌-◌, Bool, true, false, cond, List, ℤ, pos, ◌+ℤ◌, ◌-ℤ◌, length, ltb}
-use Rattle.std.specs.Prelude.{Err, Ok}
+use Rattle.std.specs.Prelude.{ℕ, ◌-◌, Bool, true, false, cond, List, ℤ, pos, ◌+ℤ◌, ◌-ℤ◌, length, ltb, Err, Ok}
 use Rattle.answers.specs.Answer.{Answer}
 use Rattle.std.specs.Int.Signed.{lt_z}
 use Rattle.lists.specs.Lists.{sum_of}

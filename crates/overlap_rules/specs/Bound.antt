@@ -1,6 +1,5 @@
 -- Document 01, module 10: "An overhang never exceeds the read's query length." Of an answer, that it is at most so many; a refusal has no overhang.
-use Rattle.std.specs.Prelude.{ℕ, ◌≤◌}
-use Rattle.std.specs.Prelude.{Err, Ok}
+use Rattle.std.specs.Prelude.{ℕ, ◌≤◌, Err, Ok}
 use Rattle.answers.specs.Answer.{Answer}
 use Rattle.overlap_rules.specs.declared.Overhang.{Overhang}
 

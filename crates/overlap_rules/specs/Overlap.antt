@@ -1,7 +1,6 @@
 -- Document 01, module 10: the calls on records. "There the strict reader's answer decides whether a list is used: refusal 5 gives overhang 0, as in the Rust; 3 and 6
 -- are passed on, in the records' order. It is lent room for the list: an answer leaves the parsed list in the first places, and after 5 the room is unchanged."
-use Rattle.std.specs.Prelude.{ℕ, Bool, true, false, cond, not, List, [], ◌∷◌, ℤ, pos, length, ltb}
-use Rattle.std.specs.Prelude.{Err, None, Ok, Option, Some}
+use Rattle.std.specs.Prelude.{ℕ, Bool, true, false, cond, not, List, [], ◌∷◌, ℤ, pos, length, ltb, Err, None, Ok, Option, Some}
 use Rattle.answers.specs.Answer.{Answer}
 use Rattle.lists.specs.Lists.{sum_of, splice}
 use Rattle.signed.specs.Whole.{clamp32}

@@ -1,7 +1,7 @@
 // Document 01, module 10: the pair tests. `fr_with_mate` and `primary_fr` are inner: their callers have tested that each record has 32 bytes.
 #![tactic(auto)]
 
-ghost use Rattle.std.specs.Prelude.{◌≡◌, Bool, true, ◌≤◌, pos, length};
+ghost use Rattle.std.specs.Prelude.{◌≡◌, Bool, true, ◌≤◌, length};
 ghost use Rattle.std.specs.Int.Signed.{le_z};
 ghost use Rattle.sam.specs.Record.{flags_of, is_reverse};
 ghost use Rattle.pairs_rules.specs.Pairs.{both_mapped, is_opposite, start_of, last_of, mate_starts_before, fr_by, is_fr, is_fr_with_mate, are_opposite, is_primary_fr, opposite_pair, fr_pair, primary_fr_pair};

@@ -1,7 +1,6 @@
 -- Which pairs are just FR, and which are just not: by the tests at their limits.
 use Rattle.answers.specs.Answer.{Answer}
 use Prim.Native.Nat.{ℕ}
-use Rattle.answers.specs.Answer.{Answer}
 use Rattle.std.specs.Prelude.{Err, Ok}
 use mathlib.Core.Path.{◌≡◌, refl, ap}
 use mathlib.Core.Bool.{Bool, true, false, cond}

@@ -1,9 +1,8 @@
 -- The tests of each pair rule, one by one, as the definitions have them; f is a record's flag, as it was read.
 use Prim.Native.Nat.{ℕ, ◌+◌, ◌<◌, ◌≤◌}
-use Rattle.std.specs.Prelude.{Ok}
+use Rattle.std.specs.Prelude.{Ok, T}
 use Rattle.answers.specs.Answer.{Answer}
 use mathlib.Core.Path.{◌≡◌, refl, sym, ap, ◌∙◌, subst}
-use Rattle.std.specs.Prelude.{T}
 use mathlib.Core.Bool.{beq, Bool, true, false, cond, not, xor, ◌&&◌}
 use mathlib.Core.List.{List}
 use native.Mathlib.Omega.{arith}
@@ -15,7 +14,7 @@ use Rattle.lists.proofs.Absurd.{false_true}
 use Rattle.signed.specs.Equal.{eqℤ}
 use Rattle.signed.specs.Whole.{raised}
 use Rattle.signed.proofs.Halves.{up, dn, plus, minus, leℤ, gtℤ, raise_fact}
-use Rattle.sam.specs.Record.{ref_id_of, flags_of, mate_ref_id_of, is_paired, is_unmapped, is_mate_unmapped, is_reverse, is_mate_reverse}
+use Rattle.sam.specs.Record.{ref_id_of, flags_of, mate_ref_id_of, is_paired, is_reverse, is_mate_reverse}
 use Rattle.pairs_rules.specs.Pairs.{both_mapped, is_opposite, start_of, last_of, mate_starts_before, fr_by, is_fr, are_opposite, is_primary_fr}
 
 -- a test that both failed and held
@@ -31,27 +30,8 @@ differ_is false true = refl
 differ_is false false = refl
 
 module _ (f : ℕ) where
-  pub unmapped : is_unmapped f ≡ true → false ≡ both_mapped f
-  unfolding both_mapped
-  unmapped e = simp e
-
-  pub mapped : (r : Bool) → is_unmapped f ≡ false → r ≡ is_mate_unmapped f → not r ≡ both_mapped f
-  unfolding both_mapped
-  mapped r e g = simp e (ap not g)
 
 module _ (b : List ℕ) (f : ℕ) (e : f ≡ flags_of b) where
-  pub not_paired : is_paired f ≡ false → false ≡ is_opposite b
-  unfolding is_opposite
-  not_paired p = simp (sym e, p)
-
-  pub not_mapped : is_paired f ≡ true → both_mapped f ≡ false → false ≡ is_opposite b
-  unfolding is_opposite
-  not_mapped p q = simp (sym e, p, q)
-
-  pub apart : is_paired f ≡ true → both_mapped f ≡ true → eqℤ (ref_id_of b) (mate_ref_id_of b) ≡ false → false ≡ is_opposite b
-  unfolding is_opposite
-  apart p q s = simp (sym e, p, q, s)
-
   pub strands : (r x y : Bool) → is_paired f ≡ true → both_mapped f ≡ true → eqℤ (ref_id_of b) (mate_ref_id_of b) ≡ true → x ≡ is_reverse f → y ≡ is_mate_reverse f
       → r ≡ xor x y → r ≡ is_opposite b
   unfolding is_opposite
@@ -72,20 +52,8 @@ not_fr forward b o = simp o
 -- ---- two records
 
 module _ (a b : List ℕ) (f g : ℕ) (e : f ≡ flags_of a) (h : g ≡ flags_of b) where
-  pub first_unmapped : both_mapped f ≡ false → false ≡ are_opposite a b
-  unfolding are_opposite
-  first_unmapped p = simp (sym e, p)
-
   module _ (p : both_mapped f ≡ true) where
-    pub second-unmapped : both_mapped g ≡ false → false ≡ are_opposite a b
-    unfolding are_opposite
-    second-unmapped q = simp (sym e, sym h, p, q)
-
     module _ (q : both_mapped g ≡ true) where
-      pub two-apart : eqℤ (ref_id_of a) (ref_id_of b) ≡ false → false ≡ are_opposite a b
-      unfolding are_opposite
-      two-apart s = simp (sym e, sym h, p, q, s)
-
       pub two-strands : (r x y : Bool) → eqℤ (ref_id_of a) (ref_id_of b) ≡ true → x ≡ is_reverse f → y ≡ is_reverse g → r ≡ xor x y → r ≡ are_opposite a b
       unfolding are_opposite
       two-strands r x y s t u v = simp (sym e, sym h, p, q, s, sym t, sym u) v

@@ -1,8 +1,7 @@
 -- Document 01, module 10: "`is_mapped_opposite_strand_pair_raw`: paired, both mapped, same reference, strands differ. Such a pair is FR: for a reverse record,
 -- if mate start ≤ own end; for a forward one, if template length is at least 1, or with mate ops, if own start ≤ mate end." Sums here are the Rust's of 64 bits, which don't overflow.
 -- Document 02, item 7: the pair tests "pass the refusal on wherever they ask for this length"; "a pair whose flags already fail still answers no".
-use Rattle.std.specs.Prelude.{ℕ, Bool, false, cond, not, ◌&&◌, List, ℤ, pos, ◌+ℤ◌, ◌-ℤ◌}
-use Rattle.std.specs.Prelude.{Err, Ok}
+use Rattle.std.specs.Prelude.{ℕ, Bool, false, cond, not, ◌&&◌, List, ℤ, pos, ◌+ℤ◌, ◌-ℤ◌, Err, Ok}
 use Rattle.answers.specs.Answer.{Answer}
 use Rattle.std.specs.Bool.{xor}
 use Rattle.std.specs.Int.Signed.{le_z}

@@ -1,7 +1,5 @@
 -- Document 01, module 5: "Order: strict text 5, 3, 6".
-use Rattle.std.specs.Prelude.{ℕ, cond, not, List, pos, length, ltb}
-use Rattle.std.specs.Prelude.{Some, None, Option}
-use Rattle.std.specs.Prelude.{Err, Ok}
+use Rattle.std.specs.Prelude.{ℕ, cond, not, List, pos, length, ltb, Some, None, Option, Err, Ok}
 use Rattle.answers.specs.Answer.{Answer}
 use Rattle.lists.specs.Lists.{sum_of, splice}
 use Rattle.signed.specs.Whole.{clamp32}

@@ -1,8 +1,7 @@
 -- The calls as they are answered: a clip that answers has the rule's list and count, whatever was put to it, and the rule drops a first part of the columns.
 use Prim.Native.Nat.{ℕ}
-use Rattle.std.specs.Prelude.{Err}
+use Rattle.std.specs.Prelude.{Err, Ok}
 use Rattle.answers.specs.Answer.{Answer}
-use Rattle.std.specs.Prelude.{Ok}
 use mathlib.Core.Path.{◌≡◌, refl, sym, ap, ◌∙◌}
 use mathlib.Core.Bool.{Bool, true, false, cond}
 use mathlib.Core.List.{List}

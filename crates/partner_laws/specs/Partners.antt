@@ -1,7 +1,5 @@
 -- Document 02, item 10, "Kept bases keep their partners": what lookup tells of a list xs, and of ys, which a clip left of it.
-use Rattle.std.specs.Prelude.{ℕ, ◌+◌, ◌≤◌, ◌<◌, ◌≡◌, Bool, false, List, take}
-use Rattle.std.specs.Prelude.{Err, Some, None, Option}
-use Rattle.std.specs.Prelude.{Ok}
+use Rattle.std.specs.Prelude.{ℕ, ◌+◌, ◌≤◌, ◌<◌, ◌≡◌, Bool, false, List, take, Err, Some, None, Option, Ok}
 use Rattle.answers.specs.Answer.{Answer}
 use Rattle.lists.specs.Lists.{sum_of}
 use Rattle.sam.specs.Op.{query_len, ref_len}

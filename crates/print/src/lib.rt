@@ -1,7 +1,7 @@
 // Document 01, module 4: the text of a record's ops, in lent memory.
 #![tactic(auto)]
 
-ghost use Rattle.std.specs.Prelude.{◌≡◌, [], ◌+◌, ◌≤◌, length};
+ghost use Rattle.std.specs.Prelude.{◌≡◌, ◌+◌, ◌≤◌, length};
 ghost use Rattle.std.proofs.lemmas.List.Edits.{sets};
 ghost use Rattle.answers.specs.Settled.{Settled};
 ghost use Rattle.print_rules.specs.Text.{op_text, text_of, printed_ops, printed};

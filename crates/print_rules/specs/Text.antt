@@ -1,6 +1,5 @@
 -- Document 01, module 4: "Decimal without leading zeros, then the letter; length 0 prints as 0. No ops, or an overrun area, gives empty text."
-use Rattle.std.specs.Prelude.{ℕ, Bool, false, cond, ◌||◌, List, [], ◌∷◌, ◌++◌, length, ltb}
-use Rattle.std.specs.Prelude.{Err, Ok}
+use Rattle.std.specs.Prelude.{ℕ, Bool, false, cond, ◌||◌, List, [], ◌∷◌, ◌++◌, length, ltb, Err, Ok}
 use Rattle.answers.specs.Answer.{Answer}
 use Rattle.lists.specs.Lists.{splice}
 use Rattle.sam.specs.Op.{len_of, code_of}

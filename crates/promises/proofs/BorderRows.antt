@@ -9,8 +9,7 @@ use lib.Dec.{eqb, ltb}
 use lib.IntN.{ℤ, pos, negsuc}
 use lib.ListN.{length}
 use lib.Signed.{lt_z}
-use Rattle.signed.specs.Whole.{natural, checked, side_of, sum_at}
-use Rattle.signed.specs.Whole.{Below, Within, Above}
+use Rattle.signed.specs.Whole.{natural, checked, side_of, sum_at, Below, Within, Above}
 use Rattle.answers.specs.declared.Pos1.{Pos1}
 use Rattle.answers.specs.declared.Refusal.{Refusal}
 use Rattle.answers.specs.declared.Refusal.TheVariants.{ShortRecord}

@@ -1,8 +1,7 @@
 -- The refusal table of clipping: each test of a definition is a row, in the same order, and an answer keeps its rows without its count.
 use Prim.Native.Nat.{ℕ}
-use Rattle.std.specs.Prelude.{Err}
+use Rattle.std.specs.Prelude.{Err, Ok}
 use Rattle.answers.specs.Answer.{Answer}
-use Rattle.std.specs.Prelude.{Ok}
 use mathlib.Core.Path.{refl, sym, ap}
 use mathlib.Core.Bool.{Bool, true, false}
 use mathlib.Core.List.{List, ◌∷◌}

@@ -16,7 +16,6 @@ use Rattle.oplist.specs.Ops.{most_ops, record_ops}
 use Rattle.answers.specs.Answers.{Told, answered, tell_int, tell_nat, tell_count, tell_place0}
 use Rattle.answers.specs.declared.Refusal.TheVariants.{ShortRecord, AreaOverrun, TooManyOps, Overflow, NoRoom, BadLength}
 use Rattle.fields.specs.Fields.{int_field, nat_field, pos_field, cigar_area, cigar_part, tell_area}
-use Rattle.fields.specs.declared.Area.{Area}
 use Rattle.kinds.specs.Kinds.{kind_of, from_op_type, tell_kind, new_op, tell_op}
 use Rattle.copied_ops.specs.Copied.{get_ops}
 use Rattle.kinds.specs.declared.CigarKind.{CigarKind}

@@ -9,8 +9,7 @@ use lib.IntN.{ℤ, pos, negsuc, ◌+ℤ◌}
 use lib.ListN.{length}
 use lib.Dec.{ltb}
 use lib.Signed.{lt_z}
-use Rattle.signed.specs.Whole.{checked, side_of, sum_at}
-use Rattle.signed.specs.Whole.{Below, Within, Above}
+use Rattle.signed.specs.Whole.{checked, side_of, sum_at, Below, Within, Above}
 use Rattle.sam.specs.Record.{pos_of, mate_pos_of, is_short}
 use Rattle.answers.specs.Answers.{tell_flag, tell_count}
 use Rattle.answers.specs.declared.Refusal.TheVariants.{ShortRecord, TooManyOps, Overflow, NoRoom}

@@ -1,8 +1,7 @@
 -- Document 02, item 14, over the definitions in the calls' contracts: a received record "accepts exactly when" it is item 8's record, with its bin or with 0; the part that is
 -- named is the first that differs, in the stated order; and "Every record written by item 8 is accepted", also with its bin 0. b is the sent record, g the received one.
 use Prim.Native.Nat.{ℕ, ◌≤◌}
-use Rattle.std.specs.Prelude.{None, Some}
-use Rattle.std.specs.Prelude.{Ok}
+use Rattle.std.specs.Prelude.{None, Some, Ok}
 use mathlib.Core.Path.{◌≡◌}
 use mathlib.Core.Bool.{Bool, true, false}
 use mathlib.Core.List.{List, [], ◌∷◌}

@@ -1,7 +1,6 @@
 -- The refusal table of the receiving check: the sent record is refused as it is where it is written with room enough; then the received record's two tests.
 use Prim.Native.Nat.{ℕ, ◌≤◌}
-use Rattle.std.specs.Prelude.{None, Option}
-use Rattle.std.specs.Prelude.{Ok, Err}
+use Rattle.std.specs.Prelude.{None, Option, Ok, Err}
 use Rattle.answers.specs.Answer.{Answer}
 use mathlib.Core.Path.{◌≡◌, refl, sym, ap, ◌∙◌}
 use mathlib.Core.Bool.{Bool, true, false, cond}

@@ -12,8 +12,7 @@ use lib.IntN.{ℤ, pos, negsuc, ◌+ℤ◌, ◌-ℤ◌}
 use lib.ListN.{length}
 use lib.Signed.{lt_z}
 use Rattle.lists.specs.Lists.{sum_of}
-use Rattle.signed.specs.Whole.{checked, side_of, sum_at}
-use Rattle.signed.specs.Whole.{Below, Within, Above}
+use Rattle.signed.specs.Whole.{checked, side_of, sum_at, Below, Within, Above}
 use Rattle.sam.specs.Op.{len_of, ref_len, query_len}
 use Rattle.sam.specs.Record.{is_short, seq_len_of, tags_start}
 use Rattle.oplist.specs.Ops.{record_ops}

@@ -9,7 +9,7 @@ use lib.Dec.{eqb}
 use lib.ListN.{get_or}
 use borrow.Author.Tests.{le-ltb, eqb-true, eqb-false}
 use Rattle.sam.specs.Op.{len_of, code_of, op_of, letters}
-use Rattle.sam.specs.Text.{Digits, value, Spells}
+use Rattle.sam.specs.Text.{Digits, value, Spells, is_digit}
 use Rattle.ops.specs.Ops.{letter_of}
 use Rattle.decimal.specs.Decimal.{decimal}
 use Rattle.print_rules.specs.Text.{op_text, text_of, any_bad}
@@ -17,7 +17,6 @@ use Rattle.decimal.proofs.Meaning.{decimal_one, decimal_more}
 use Rattle.print_rules.proofs.GrammarLaws.{print_spells}
 use Rattle.sam.proofs.LetterLaws.{letter_digit}
 use Rattle.sam.proofs.TextLaws.{digit_is}
-use Rattle.sam.specs.Text.{is_digit}
 use Rattle.text_rules.specs.Text.{text_ops}
 use Rattle.text_rules.specs.Valid.{valid_mapped}
 use Rattle.text_rules.specs.Strict.{strict}

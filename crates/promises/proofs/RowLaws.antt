@@ -13,8 +13,7 @@ use lib.IntN.{ℤ, pos, negsuc}
 use lib.Signed.{lt_z}
 use Rattle.lists.specs.Lists.{splice}
 use Rattle.lists.proofs.ListLaws.{length_splice}
-use Rattle.signed.specs.Whole.{checked, side_of, sum_at}
-use Rattle.signed.specs.Whole.{Below, Within, Above}
+use Rattle.signed.specs.Whole.{checked, side_of, sum_at, Below, Within, Above}
 use Rattle.answers.specs.Answers.{Told}
 use Rattle.answers.specs.Settled.{Outcome, keeps, OutcomeTwo, keeps_both}
 use Rattle.promises.specs.Table.{Row, ◌when◌, only, first, refuses, Gives, Fills, GivesFilled, GivesFilledTwo}

@@ -1,8 +1,7 @@
 -- Demand 2: "Op meanings, text, clip placement and bins are also proved against the SAM specification"; and so are the tags (document 02, item 1). Each line is a theorem of the crate that it is cited from,
 -- over the definitions of crate `sam` and those that the contracts use.
 use Prim.Native.Nat.{ℕ, ◌-◌, ◌<◌, ◌≤◌}
-use Rattle.std.specs.Prelude.{Option}
-use Rattle.std.specs.Prelude.{Ok}
+use Rattle.std.specs.Prelude.{Option, Ok}
 use Rattle.answers.specs.Answer.{Answer}
 use mathlib.Core.Path.{◌≡◌, refl}
 use mathlib.Core.Bool.{Bool, true, false}

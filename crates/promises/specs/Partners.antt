@@ -1,6 +1,5 @@
 -- Document 02, item 10, whole, of the public calls as they are answered: "Kept bases keep their partners. [..] Show this for both ends from one shared statement."
-use Rattle.std.specs.Prelude.{ℕ, ◌+◌, ◌≤◌, ◌<◌, ◌≡◌, true, false, List, length, take}
-use Rattle.std.specs.Prelude.{Ok}
+use Rattle.std.specs.Prelude.{ℕ, ◌+◌, ◌≤◌, ◌<◌, ◌≡◌, true, false, List, length, take, Ok}
 use Rattle.answers.specs.Answer.{Answer}
 use Rattle.answers.specs.Settled.{Settled}
 use Rattle.clip_rules.specs.declared.Clipped.{Clipped}

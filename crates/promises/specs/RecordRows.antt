@@ -1,7 +1,6 @@
 -- Document 02, item 8, the refusal table of clipped records: "2 also where the record ends before its last quality; 15 query length differs from nonzero l_seq, 16 the op
 -- count would pass 65,535, in that order after 1, 2, 8 and before 4 and 6", and item 12's 19 directly after 8.
-use Rattle.std.specs.Prelude.{ℕ, Bool, not, ◌&&◌, ◌||◌, List, [], ◌∷◌, ltb, eqb, ℤ, pos, ◌+ℤ◌, ◌-ℤ◌, length}
-use Rattle.std.specs.Prelude.{Err, Ok}
+use Rattle.std.specs.Prelude.{ℕ, Bool, not, ◌&&◌, ◌||◌, List, [], ◌∷◌, ltb, eqb, ℤ, pos, ◌+ℤ◌, ◌-ℤ◌, length, Err, Ok}
 use Rattle.answers.specs.Answer.{Answer}
 use Rattle.std.specs.Int.Signed.{lt_z}
 use Rattle.lists.specs.Lists.{sum_of}

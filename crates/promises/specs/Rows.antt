@@ -1,8 +1,7 @@
 -- Document 01, "Numbers and their bounds", the refusal table: each number with the words of its row, then the rows of each call in its order:
 -- "list calls 3, 8, 9, 4, 6; printing 1, 7, 6; strict text 5, 3, 6; records 1, 3, 2, 8, 4, 6." Document 02, item 7: "2 and 4 now come from these callers, after 1",
 -- wherever end, bin, pair tests and overhang ask for a record's reference length; item 5: 14 "after 3 and before 4". Item 12: 19 of the two clipping calls, "directly after 8". Item 11: "17 [..], 18 [..]; then 6."
-use Rattle.std.specs.Prelude.{ℕ, ◌+◌, Bool, true, false, cond, not, ◌||◌, ◌&&◌, List, [], ◌∷◌, ◌++◌, ltb, eqb, ℤ, pos, negsuc, ◌+ℤ◌, ◌-ℤ◌, length}
-use Rattle.std.specs.Prelude.{Err, Ok}
+use Rattle.std.specs.Prelude.{ℕ, ◌+◌, Bool, true, false, cond, not, ◌||◌, ◌&&◌, List, [], ◌∷◌, ◌++◌, ltb, eqb, ℤ, pos, negsuc, ◌+ℤ◌, ◌-ℤ◌, length, Err, Ok}
 use Rattle.answers.specs.Answer.{Answer}
 use Rattle.std.specs.Int.Signed.{lt_z}
 use Rattle.lists.specs.Lists.{facing, sum_of}

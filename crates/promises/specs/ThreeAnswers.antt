@@ -1,7 +1,6 @@
 -- Document 02, item 3: "The family builder wants three answers: a position, unmapped, or no ops, which an overrun area also gives. [..] Demand 2 then equals Rust after the three
 -- answers are folded back to its numbers".
-use Rattle.std.specs.Prelude.{ℕ, ◌≡◌, Bool, true, false, cond, ◌||◌, List, ltb, eqb, ℤ, pos, ◌+ℤ◌, ◌-ℤ◌, length}
-use Rattle.std.specs.Prelude.{Err, None, Ok, Option, Some}
+use Rattle.std.specs.Prelude.{ℕ, ◌≡◌, Bool, true, false, cond, ◌||◌, List, ltb, eqb, ℤ, pos, ◌+ℤ◌, ◌-ℤ◌, length, Err, None, Ok, Option, Some}
 use Rattle.answers.specs.Answer.{Answer}
 use Rattle.sam.specs.Columns.{columns, refs}
 use Rattle.sam.specs.Record.{is_short, pos_of, flags_of, is_unmapped, is_reverse, op_count_of, ops_end}

@@ -1,7 +1,7 @@
 // Numbers and words, put into lent memory from a place on; each call answers the place behind what it put. An inner crate.
 #![tactic(auto)]
 
-ghost use Rattle.std.specs.Prelude.{◌≡◌, ◌+◌, ◌≤◌, length, [], ◌∷◌};
+ghost use Rattle.std.specs.Prelude.{◌+◌, ◌≤◌, length, [], ◌∷◌};
 ghost use Rattle.decimal.specs.Decimal.{decimal};
 ghost use Rattle.put_text.specs.Puts.{Put, sign_of, signed_decimal};
 

@@ -1,8 +1,7 @@
 -- The answer, test by test, as the functions of `receive` come to it.
 use Prim.Native.Nat.{ℕ, ◌+◌, ◌*◌, ◌/◌, ◌≤◌, ◌<◌}
-use Rattle.std.specs.Prelude.{None, Option, Some}
+use Rattle.std.specs.Prelude.{None, Option, Some, Ok, Err}
 use Rattle.receive_rules.specs.declared.Part.{Part}
-use Rattle.std.specs.Prelude.{Ok, Err}
 use Rattle.answers.specs.Answer.{Answer}
 use mathlib.Core.Path.{◌≡◌, sym, ap, ◌∙◌}
 use mathlib.Core.Bool.{Bool, true, false}

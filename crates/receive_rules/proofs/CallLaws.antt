@@ -1,8 +1,7 @@
 -- The answers of the two calls: what a sent record is refused for, and what comes of one that is not; and what the writing calls write is accepted.
 use Prim.Native.Nat.{ℕ, ◌≤◌}
-use Rattle.std.specs.Prelude.{None, Option, Some}
+use Rattle.std.specs.Prelude.{None, Option, Some, Ok, Err}
 use Rattle.answers.specs.Answer.{Answer}
-use Rattle.std.specs.Prelude.{Ok, Err}
 use mathlib.Core.Path.{◌≡◌, sym, ap, ◌∙◌}
 use mathlib.Core.Logic.{inl, inr}
 use mathlib.Core.Bool.{Bool}

@@ -44,14 +44,6 @@ same_equal (x ∷ xs) (y ∷ ys) h =
 pub equal_same : (xs ys : List ℕ) → xs ≡ ys → same xs ys ≡ true
 equal_same xs ys e = ap (λ (l : List ℕ). same l ys) e ∙ same_refl ys
 
--- lists of two lengths are not
-pub lengths_differ : (xs ys : List ℕ) → (length xs ≡ length ys → ⊥) → same xs ys ≡ false
-lengths_differ xs ys h = go (same xs ys) refl
-  where
-    go : (t : Bool) → same xs ys ≡ t → t ≡ false
-    go true e = absurd (h (ap length (same_equal xs ys e)))
-    go false e = refl
-
 pub and_assoc : (p q r : Bool) → (p && (q && r)) ≡ ((p && q) && r)
 and_assoc true q r = refl
 and_assoc false q r = refl

@@ -1,8 +1,6 @@
 -- What comparing comes to from a part on, for the functions of `receive`.
-use Rattle.std.specs.Prelude.{ℕ, List}
-use Rattle.std.specs.Prelude.{None, Option}
+use Rattle.std.specs.Prelude.{ℕ, List, None, Option, Ok}
 use Rattle.receive_rules.specs.declared.Part.{Part}
-use Rattle.std.specs.Prelude.{Ok}
 use Rattle.answers.specs.Answer.{Answer}
 use Rattle.sam.specs.Bases.{packed}
 use Rattle.sam.specs.Parts.{part, name_part, ops_part, bases_part, quals_part, tags_part, record_bases}

@@ -1,7 +1,5 @@
 -- Document 02, item 14: "Add a checker that takes the record we sent, an end, an amount, and the record we received." b is the record that was sent, g the received one.
-use Rattle.std.specs.Prelude.{ℕ, Bool, true, false, cond, ◌&&◌, ◌||◌, List, [], ◌∷◌, ltb, eqb, pos, length}
-use Rattle.std.specs.Prelude.{None, Option, Some}
-use Rattle.std.specs.Prelude.{Ok, Err}
+use Rattle.std.specs.Prelude.{ℕ, Bool, true, false, cond, ◌&&◌, ◌||◌, List, [], ◌∷◌, ltb, eqb, pos, length, None, Option, Some, Ok, Err}
 use Rattle.answers.specs.Answer.{Answer}
 use Rattle.sam.specs.Record.{is_short, tags_start}
 use Rattle.sam.specs.Parts.{header_part, name_part, ops_part, bases_part, quals_part, tags_part}

@@ -2,7 +2,7 @@
 #![tactic(auto)]
 
 ghost use Rattle.std.specs.Prelude.{◌≡◌, cond, [], ◌∷◌, ◌+◌, ◌-◌, ◌≤◌, ◌<◌, length, take};
-ghost use Rattle.lists.specs.Lists.{facing, sum_of};
+ghost use Rattle.lists.specs.Lists.{sum_of};
 ghost use Rattle.sam.specs.Op.{query_len};
 ghost use Rattle.sam.specs.Record.{seq_len_of, op_count_of, tags_start};
 ghost use Rattle.oplist.specs.Ops.{record_ops};

@@ -1,6 +1,5 @@
 -- Document 02, item 8: "Given a record, an end and an amount, write a new one". Refusals 1, 2, 8, 19, 15, 16, 4, and 6 where it is written.
-use Rattle.std.specs.Prelude.{ℕ, ◌-◌, Bool, true, false, cond, not, ◌&&◌, List, ltb, eqb, ℤ, pos, ◌+ℤ◌, length}
-use Rattle.std.specs.Prelude.{Err, None, Ok, Option, Some}
+use Rattle.std.specs.Prelude.{ℕ, ◌-◌, Bool, true, false, cond, not, ◌&&◌, List, ltb, eqb, ℤ, pos, ◌+ℤ◌, length, Err, None, Ok, Option, Some}
 use Rattle.answers.specs.Answer.{Answer}
 use Rattle.std.specs.Int.Signed.{lt_z}
 use Rattle.lists.specs.Lists.{splice, sum_of}

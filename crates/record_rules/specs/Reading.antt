@@ -1,7 +1,6 @@
 -- Document 02, item 8: "Reading the output back gives the clipped list, the remaining bases in order and the same tags." What is promised of a record `new` that was
 -- clipped from b and written, with its count.
-use Rattle.std.specs.Prelude.{ℕ, ◌+◌, ◌%◌, ◌≤◌, ◌<◌, ◌≡◌, Bool, List, pos, ◌+ℤ◌, length, get_or}
-use Rattle.std.specs.Prelude.{Ok, ℤ}
+use Rattle.std.specs.Prelude.{ℕ, ◌+◌, ◌%◌, ◌≤◌, ◌<◌, ◌≡◌, Bool, List, pos, ◌+ℤ◌, length, get_or, Ok}
 use Rattle.sam.specs.Record.{byte_at, ref_id_of, pos_of, stored_bin_of, op_count_of, flags_of, seq_len_of, mate_ref_id_of, mate_pos_of, template_len_of, tags_start}
 use Rattle.sam.specs.Bases.{bases_of}
 use Rattle.sam.specs.Parts.{name_part, bases_part, quals_part, tags_part, record_bases}

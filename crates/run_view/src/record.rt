@@ -30,11 +30,12 @@ pub fn with_run(record: [u8; 96], i: usize, code: u32) -> [u8; 96] {
     if 6 < i {
         return record;
     }
-    let mut r = record;
-    for k in i..i + 8 {
-        r = with_op(r, k, 4294967280 + code % 16);
-    }
-    with_op(r, i + 8, 128 + code % 16)
+    let longest = 4294967280 + code % 16;
+    let two = with_op(with_op(record, i, longest), i + 1, longest);
+    let four = with_op(with_op(two, i + 2, longest), i + 3, longest);
+    let six = with_op(with_op(four, i + 4, longest), i + 5, longest);
+    let eight = with_op(with_op(six, i + 6, longest), i + 7, longest);
+    with_op(eight, i + 8, 128 + code % 16)
 }
 
 // The first n bytes; none where there are fewer.

@@ -6,8 +6,7 @@ use Rattle.std.specs.Int.{saturate_signed}
 use Rattle.std.specs.Option.{SomeIff}
 use mathlib.Core.Path.{subst⁻¹}
 use lib.Signed.{lt_z}
-use Rattle.signed.specs.Whole.{Below, Within, Above}
-use Rattle.signed.specs.Whole.{side_of, sum_at, nearest, checked, clamp32}
+use Rattle.signed.specs.Whole.{Below, Within, Above, side_of, sum_at, nearest, checked, clamp32}
 use Rattle.signed.proofs.Halves.{up, dn, ltℤ, geℤ, is_ge, sfits32, top32, low32}
 
 module _ (z : ℤ) where

@@ -1,6 +1,5 @@
 -- Signed numbers of 32 bits as ℤ: what bits mean, the range, and sums that are checked or saturate (Rust's i32).
-use Rattle.std.specs.Prelude.{ℕ, ◌+◌, ◌-◌, cond, ℤ, pos, negsuc, int_lt, nat_lt}
-use Rattle.std.specs.Prelude.{None, Option, Some}
+use Rattle.std.specs.Prelude.{ℕ, ◌+◌, ◌-◌, cond, ℤ, pos, negsuc, int_lt, nat_lt, None, Option, Some}
 use Rattle.std.proofs.Math.IntN.{sub_ℕ}
 
 -- the number that 32 bits mean in two's complement: n, or n - 2^32 from 2^31 on

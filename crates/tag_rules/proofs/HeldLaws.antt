@@ -113,9 +113,6 @@ module _ {A : Type 0} (stop : Refusal → A) (make : List ℕ → A) (b : List �
   pub reads_list : (at n : ℕ) → true_list b ≡ Ok (record { at = at; n = n }) → read_from stop make b (true_list b) ≡ make (area_ops b at n)
   reads_list at n e = ap (read_from stop make b) e ∙ ap make (sym (list_ops b at n e))
 
-  pub reads_none : (r : Refusal) → true_list b ≡ Err r → read_from stop make b (true_list b) ≡ stop r
-  reads_none r e = ap (read_from stop make b) e
-
 -- ---- ops that stand in a record: their part is their bytes
 
 ops-part : (p xs s : List ℕ) → part_of (p ++ (op_bytes xs ++ s)) (Ok (record { at = length p; n = length xs })) ≡ op_bytes xs

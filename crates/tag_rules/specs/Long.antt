@@ -2,8 +2,7 @@
 -- type `I`." "A placeholder is exactly two ops, an S of length l_seq and an N of any length. The tags are walked only behind one; the first CG counts. Without
 -- placeholder or CG, the ordinary list stands." Refusals: "1, 2 for an overrun op area, 12, behind a placeholder only, bases, qualities or tags up to the first CG that
 -- overrun, or among these tags a type not listed, 13 CG of another type, 3 above the new limit; in this order."
-use Rattle.std.specs.Prelude.{ℕ, ◌+◌, ◌*◌, cond, not, List, [], ◌∷◌, ltb, pos, length, take, drop}
-use Rattle.std.specs.Prelude.{Ok, Err}
+use Rattle.std.specs.Prelude.{ℕ, ◌+◌, ◌*◌, cond, not, List, [], ◌∷◌, ltb, pos, length, take, drop, Ok, Err}
 use Rattle.answers.specs.Answer.{Answer}
 use Rattle.sam.specs.Record.{is_short, seq_len_of, op_count_of, ops_start, ops_end, ops_in, tags_start}
 use Rattle.sam.specs.Tags.{Tag, Tags, Ends, Breaks, Then, tags_of, is_cg, is_op_array, array_count, is_placeholder}

@@ -10,8 +10,7 @@ use borrow.Author.Tests.{ltb-false, eqb-false}
 use Rattle.lists.proofs.EachLaws.{each_map}
 use Rattle.lists.proofs.Absurd.{never}
 use Rattle.sam.specs.Op.{len_of, op_of, letters, letter_code}
-use Rattle.sam.specs.Text.{Digit, Digits, value, Spells}
-use Rattle.sam.specs.Text.{is_digit}
+use Rattle.sam.specs.Text.{Digit, Digits, value, Spells, is_digit}
 use Rattle.text_rules.specs.Text.{Effect, effect_of, on_effect, row_from, is_row, ops_from, text_ops}
 use Rattle.text_rules.specs.Valid.{valid_mapped}
 use Rattle.text_rules.specs.Strict.{strict}

@@ -1,6 +1,5 @@
 -- An op of a text at a place, as the inner functions of the reader tell it; no public contract cites it. Document 01's rules stand in `text_rules`.
-use Rattle.std.specs.Prelude.{ℕ, ◌+◌, ◌≤◌, ◌<◌, ◌≡◌, false, List, [], ◌∷◌, length, drop}
-use Rattle.std.specs.Prelude.{Some, None, Option}
+use Rattle.std.specs.Prelude.{ℕ, ◌+◌, ◌≤◌, ◌<◌, ◌≡◌, false, List, [], ◌∷◌, length, drop, Some, None, Option}
 use Rattle.sam.specs.Op.{op_of, letter_code}
 use Rattle.text_rules.specs.Text.{row_from, ops_from}
 use Rattle.tokens.specs.declared.Token.{Token}

@@ -1,7 +1,5 @@
 -- Document 02, item 1, the calls on a record's true list, which the reader "hands back": what each makes of the ops, behind the reader's refusals 1, 2, 12, 13 and 3.
-use Rattle.std.specs.Prelude.{ℕ, ◌≡◌, Bool, true, false, cond, List}
-use Rattle.std.specs.Prelude.{Ok}
-use Rattle.std.specs.Prelude.{Err}
+use Rattle.std.specs.Prelude.{ℕ, ◌≡◌, Bool, true, false, cond, List, Ok, Err}
 use Rattle.answers.specs.Answer.{Answer}
 use Rattle.length_rules.specs.declared.RecordLengths.{RecordLengths}
 use Rattle.sam.specs.Record.{is_short, pos_of, flags_of, is_unmapped, is_reverse, ops_in}

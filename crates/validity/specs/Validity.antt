@@ -1,6 +1,5 @@
 -- Document 01, module 5, `is_valid_mapped_cigar` of a lent list: 3.
-use Rattle.std.specs.Prelude.{ℕ, cond, List, length, ltb}
-use Rattle.std.specs.Prelude.{Bool, Err, Ok}
+use Rattle.std.specs.Prelude.{ℕ, cond, List, length, ltb, Bool, Err, Ok}
 use Rattle.answers.specs.Answer.{Answer}
 use Rattle.oplist.specs.Ops.{most_ops}
 use Rattle.answers.specs.declared.Refusal.TheVariants.{TooManyOps}

@@ -1,13 +1,12 @@
 -- A refusal is the plan's, or that of the room; the plan's ops, as written at either end, are the clipped list.
 use Prim.Native.Nat.{◌+◌, ◌-◌}
-use Rattle.std.specs.Prelude.{Ok}
+use Rattle.std.specs.Prelude.{Ok, Err}
 use mathlib.Core.Path.{ap, ◌∙◌}
 use native.Mathlib.Omega.{arith}
 use Prim.Native.Nat.{ℕ}
 use Rattle.answers.proofs.Unique.{settled}
 use Rattle.clip_rules.specs.InnerPlan.{PlannedIs}
 use Rattle.clip_rules.proofs.AnswerLaws.{within, no_room, plan_length, done-start, done_end, unplanned}
-use Rattle.std.specs.Prelude.{Err}
 use Rattle.std.proofs.Common.{◌≡◌, rules}
 use Rattle.clip_write.proofs.clip_ops.Goals as goal
 

@@ -30,7 +30,7 @@ returns-in_err-reference g c =
     let passed : c.from_residual.result ≡ lengths_with c.as_int.result xs = search rules in
     passed
     ∙ ap (λ (a : Answer ℤ). lengths_with a xs)
-      (c.as_int.ensures ∙ ap as_int (refs_are c.clip_run-first.ensures last _ _ c.count-n.ensures.value c.sums_between-inner.ensures.list_value.0))
+    (c.as_int.ensures ∙ ap as_int (refs_are c.clip_run-first.ensures last _ _ c.count-n.ensures.value c.sums_between-inner.ensures.list_value.0))
 
 pub returns : goal.returns
 returns g c =

@@ -1,7 +1,6 @@
 -- The pass decides each refusal before anything is written; the pair test then says what is left.
 use mathlib.Core.Path.{◌≡◌, refl, sym, ap, ◌∙◌}
-use Rattle.std.specs.Prelude.{Some}
-use Rattle.std.specs.Prelude.{Err, Ok}
+use Rattle.std.specs.Prelude.{Some, Err, Ok}
 use mir.Syntax.{w32}
 use mir.Val.{to_z, of_z}
 use Rattle.answers.proofs.Unique.{settled, resettled, outcome}

@@ -1,5 +1,5 @@
 -- What == answers.
-use Rattle.std.proofs.Common.{ℕ, ◌≡◌, ◌+◌, ◌-◌, take, drop}
+use Rattle.std.proofs.Common.{ℕ, ◌+◌, ◌-◌, take, drop}
 use mathlib.Core.Path.{ap, ◌∙◌}
 use native.Mathlib.Omega.{arith}
 use Rattle.receive_rules.specs.Receiving.{same}

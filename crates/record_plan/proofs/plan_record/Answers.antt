@@ -2,8 +2,8 @@
 use Prim.Native.Nat.{ℕ, ◌≤◌}
 use Rattle.std.specs.Prelude.{Ok, Err}
 use Rattle.std.proofs.Common.{rules, ◌≡◌}
-use mathlib.Core.Path.{sym, ap, subst, subst⁻¹, ◌∙◌}
-use mathlib.Core.List.{List, []}
+use mathlib.Core.Path.{sym, ap, subst⁻¹, ◌∙◌}
+use mathlib.Core.List.{List}
 use native.Mathlib.Omega.{arith}
 use lib.ListN.{length}
 use Rattle.sam.specs.Record.{tags_start}

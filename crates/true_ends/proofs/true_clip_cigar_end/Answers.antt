@@ -1,7 +1,7 @@
 -- The clip at the end of the list that the reader names, whose own number of ops is the limit; or the reader's refusal.
 use Prim.Native.Nat.{ℕ}
 use Rattle.std.specs.Prelude.{Err}
-use mathlib.Core.Path.{sym, refl, ap, ◌∙◌}
+use mathlib.Core.Path.{sym, ap, ◌∙◌}
 use mathlib.Core.Bool.{false}
 use mathlib.Core.List.{List}
 use Rattle.answers.proofs.Unique.{resettled}
