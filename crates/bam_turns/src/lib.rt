@@ -10,6 +10,7 @@ use bam_rules::BamState;
 use std::io;
 
 // Reads behind the bytes that are left, and goes as far in the head as they go; where the records begin none of them is used.
+// A slice and no array of 65,536 bytes: any memory of that length may be lent.
 pub fn turn<R: io::Read>(input: &mut R, s: &mut BamState, block: &mut [u8])
     requires value { 65536 ≡ length block.old }
     requires used_le_have { (s.old.used ≤ s.old.have) × (s.old.have ≤ 65536) × (s.old.have < s.old.used + 65536) }

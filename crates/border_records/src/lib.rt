@@ -17,6 +17,7 @@ fn part_number(part: Part) -> u64
 }
 
 // 0 for accepted, or the number of the part that differs.
+// No `From`: both types are other crates'.
 pub fn told_received(answer: Answer<Option<Part>>) -> ToldCount
     ensures { result ≡ count_of (tell_received answer) }
 {

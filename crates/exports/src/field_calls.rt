@@ -79,6 +79,7 @@ pub extern "C" fn cigar_template_length(rec: &[u8]) -> ToldInt
     fields::template_length(rec).into()
 }
 
+// No `From`: both types are other crates'.
 fn told_area(answer: Answer<Area>) -> ToldTwo
     ensures { result ≡ two_of (tell_area answer) }
 {

@@ -70,6 +70,7 @@ pub extern "C" fn cigar_op_new(kind: u32, length: u32) -> ToldFound
     }
 }
 
+// No `From`: both types are other crates'.
 fn told_op(answer: Answer<CigarOp>) -> ToldFound
     ensures { result ≡ found_of (op_or_none answer) }
 {

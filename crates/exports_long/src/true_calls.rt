@@ -13,6 +13,7 @@ use answers::Answer;
 use border::{ToldCount, ToldLengths, ToldPosition, ToldTwo};
 use oplist::Area;
 
+// No `From`: both types are other crates'.
 fn told_true_list(answer: Answer<Area>) -> ToldTwo
     ensures { result ≡ two_of (tell_true_list answer) }
 {

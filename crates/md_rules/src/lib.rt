@@ -19,6 +19,7 @@ pub struct Figure {
 }
 
 // Where a walk stands: behind a number of the text, of which so many matches are left, with so many ops counted or written.
+// The place is one in the whole text, of which every law speaks; what is left of the text as a slice would have to be counted back to it.
 #[derive(Clone, Copy)]
 pub struct Spot {
     pub at: usize,

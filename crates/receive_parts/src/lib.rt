@@ -1,4 +1,5 @@
 // Comparing a stretch of a received record with what would be written there: by walks of the shape of those that write. An inner crate of the receiving check.
+// Buffers come with a place in them: it is a sum of a record's parts, and for slices each caller would cut at two such sums.
 #![tactic(auto)]
 
 ghost use Rattle.std.specs.Prelude.{◌≡◌, [], ◌∷◌, ◌+◌, ◌-◌, ◌*◌, ◌/◌, ◌%◌, ◌≤◌, length, take, drop};

@@ -1,4 +1,5 @@
 // What stands before and behind the ops of a clipped record: the header and the name; bases, qualities and tags. An inner crate.
+// Buffers come with a place in them: it is a sum of a record's parts, and for slices each caller would cut at two such sums.
 #![tactic(auto)]
 
 ghost use Rattle.std.specs.Prelude.{◌≡◌, Bool, ◌++◌, ◌+◌, ◌-◌, ◌/◌, ◌≤◌, length};

@@ -1,4 +1,5 @@
 // The ops of a clipped record, stored: those put in place by their numbers, in the order of the end, the others as bytes. An inner crate.
+// Buffers come with a place in them: it is a sum of a record's parts, and for slices each caller would cut at two such sums.
 #![tactic(auto)]
 
 ghost use Rattle.std.specs.Prelude.{◌≡◌, [], ◌∷◌, ◌+◌, ◌-◌, ◌*◌, ◌≤◌, length, take};

@@ -4,6 +4,7 @@
 use blocks::Source;
 
 // The bytes at hand and what is known of the input behind them, the records so far, the bytes that wait to be written, and whether reading goes on.
+// `going` is yes or no, and the definitions branch on it as that: an enum of two would be turned into a bool at each.
 #[derive(Clone, Copy)]
 pub struct State {
     pub have: usize,

@@ -15,6 +15,7 @@ use stream_rules::NextFrame;
 const ENOUGH: usize = 32772;
 
 // Reads behind the bytes at hand, unless a whole record is there or nothing is left.
+// A slice and no array of 65,536 bytes, here and below: any memory of that length may be lent.
 pub fn refill<R: io::Read>(input: &mut R, s: &mut State, block: &mut [u8])
     requires value { 65536 ≡ length block.old }
     requires have_bound { s.old.have ≤ 65536 }
