@@ -52,8 +52,8 @@ fn stop(i: usize, n: u64, op: u32, bases: u64, lost: u64) -> Taking
     if n == 0 {
         return Taking {
             next: i,
-            bases: bases,
-            lost: lost,
+            bases,
+            lost,
             cut: 0,
             rest: 0,
         };
@@ -64,7 +64,7 @@ fn stop(i: usize, n: u64, op: u32, bases: u64, lost: u64) -> Taking
         return Taking {
             next: i + 1,
             bases: bases + len,
-            lost: lost,
+            lost,
             cut: 0,
             rest: 0,
         };

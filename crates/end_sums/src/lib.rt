@@ -37,14 +37,14 @@ fn meet(w: Tail, op: u32) -> Tail
     if w.most < clips {
         return Tail {
             refs: w.refs,
-            clips: clips,
+            clips,
             most: clips,
             saw: true,
         };
     }
     Tail {
         refs: w.refs,
-        clips: clips,
+        clips,
         most: w.most,
         saw: true,
     }
