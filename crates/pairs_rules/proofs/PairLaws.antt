@@ -29,8 +29,6 @@ differ_is true false = refl
 differ_is false true = refl
 differ_is false false = refl
 
-module _ (f : ℕ) where
-
 module _ (b : List ℕ) (f : ℕ) (e : f ≡ flags_of b) where
   pub strands : (r x y : Bool) → is_paired f ≡ true → both_mapped f ≡ true → eqℤ (ref_id_of b) (mate_ref_id_of b) ≡ true → x ≡ is_reverse f → y ≡ is_mate_reverse f
       → r ≡ xor x y → r ≡ is_opposite b
