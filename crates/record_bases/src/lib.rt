@@ -55,7 +55,7 @@ pub fn alone(bases: &[u8], i: usize) -> u8
 }
 
 // Writes the sixteen bytes from place `at` on of all bases but the first. All are made before one is stored, so that they go in one store.
-// It is never inlined: in the loop over the blocks the compiler would make vectors across their turns, and 1,000 bases took four times as long.
+// It is never inlined: in the loop over the blocks the compiler would make vectors across their turns, and 1,000 bases took three times as long.
 #[inline(never)]
 fn shift_sixteen(bases: &[u8], out: &mut [u8], at: usize)
     requires out_shorter { length out.old < length bases.now }
