@@ -13,7 +13,7 @@ use Rattle.lists.proofs.Absurd.{never}
 use Rattle.blocks.specs.Fill.{is_over, is_failed, source_of, clamp_len, Filled, given, Gathers, Gathers.starts, Gathers.reads}
 use Rattle.blocks.specs.declared.Read.{Read}
 use Rattle.blocks.specs.declared.Source.{Source}
-use Rattle.blocks.specs.declared.Source.TheVariants.{Open, Ended, Failed}
+use Rattle.blocks.specs.declared.Source.TheVariants.{Open, Ended, Failed, Failing}
 
 -- ---- bytes that are moved to the front
 
@@ -37,8 +37,9 @@ pub ended_is : (s : Source) → is_over s ≡ true → is_failed s ≡ false →
 ended_is Open o f = never (cc)
 ended_is Ended o f = refl
 ended_is Failed o f = never (cc)
+ended_is Failing o f = never (cc)
 
-filled : (block block' : List ℕ) (have : ℕ) (got : ℤ) (n room : ℕ) → n ≡ clamp_len got room → room ≡ length block - have → length block' ≡ length block → take have block' ≡ take have block
+pub filled : (block block' : List ℕ) (have : ℕ) (got : ℤ) (n room : ℕ) → n ≡ clamp_len got room → room ≡ length block - have → length block' ≡ length block → take have block' ≡ take have block
     → Filled block have (record { have = have + n; source = source_of got n }) block'
 filled block block' have got n room e q l k = record {
   got = got;

@@ -3,18 +3,20 @@
 use Rattle.std.specs.Prelude.{ℕ, ◌+◌, ◌-◌, ◌≤◌, ◌≡◌, Bool, true, false, cond, List, [], ◌++◌, eqb, ℤ, pos, negsuc, min, length, take, drop}
 use Rattle.blocks.specs.declared.Read.{Read}
 use Rattle.blocks.specs.declared.Source.{Source}
-use Rattle.blocks.specs.declared.Source.TheVariants.{Open, Ended, Failed}
+use Rattle.blocks.specs.declared.Source.TheVariants.{Open, Ended, Failed, Failing}
 
 -- the last read gave none, at the end of the input or where it failed
 abbrev pub is_over : Source → Bool
 is_over Open = false
 is_over Ended = true
 is_over Failed = true
+is_over Failing = false
 
 abbrev pub is_failed : Source → Bool
 is_failed Open = false
 is_failed Ended = false
 is_failed Failed = true
+is_failed Failing = true
 
 -- what a read answered, below 0 where it failed, brought into `0..=most`
 abbrev pub clamp_len : ℤ → ℕ → ℕ

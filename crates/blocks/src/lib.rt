@@ -8,12 +8,14 @@ ghost use Rattle.blocks.specs.declared.Source.TheVariants.{Ended};
 
 use std::io;
 
-// What is known of an input behind its last read: that gave bytes, or none, since the input has ended, or it failed.
+// What is known of an input behind its last read: that gave bytes, or none, since the input has ended, or it failed. `Failing` is what no read gives, failed and not over:
+// the turns of the programs (`report_turns::turn`, `bam_turns::turn`) take a state of that kind, too.
 #[derive(Clone, Copy)]
 pub enum Source {
     Open,
     Ended,
     Failed,
+    Failing,
 }
 
 impl Source {
@@ -21,13 +23,13 @@ impl Source {
     pub fn is_over(self) -> bool
         ensures { result ≡ is_over self }
     {
-        !matches!(self, Source::Open)
+        matches!(self, Source::Ended | Source::Failed)
     }
 
     pub fn is_failed(self) -> bool
         ensures { result ≡ is_failed self }
     {
-        matches!(self, Source::Failed)
+        matches!(self, Source::Failed | Source::Failing)
     }
 }
 

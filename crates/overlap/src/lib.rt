@@ -24,12 +24,12 @@ pub fn placed_pair(fr: bool, bam: &[u8], mate: Pos0) -> Answer<Option<PairPlaces
     }))
 }
 
-// The overhang of a record that lies so to its mate; 0 of no FR pair.
-pub fn bases_at<L: OpList>(placed: Option<PairPlaces>, bam: &[u8], mate_list: L) -> u64
+// The overhang of a record that lies so to its mate; 0 where it does not.
+pub fn bases_at<L: OpList>(placed: Answer<Option<PairPlaces>>, bam: &[u8], mate_list: L) -> u64
     requires { 32 ≤ length bam.now }
-    ensures { result ≡ bases_at (Ok placed) bam.now (L.ops mate_list) }
+    ensures { result ≡ bases_at placed bam.now (L.ops mate_list) }
 {
-    let Some(places) = placed else {
+    let Ok(Some(places)) = placed else {
         return 0;
     };
     let reverse = fields::is_reverse(little_endian::u16_at(bam, 14));
@@ -48,7 +48,7 @@ fn pair_overhang<L: OpList>(fr: bool, bam: &[u8], mate: Pos0, mate_list: L) -> A
     ensures { result ≡ pair_overhang (Ok fr) bam.now mate.0 (L.ops mate_list) }
 {
     let placed = placed_pair(fr, bam, mate)?;
-    Ok(bases_at(placed, bam, mate_list))
+    Ok(bases_at(Ok(placed), bam, mate_list))
 }
 
 // The query bases past the mate, whose ops are given. Refusals 1, 3, 2 and 4.

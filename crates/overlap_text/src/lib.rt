@@ -25,7 +25,7 @@ fn list_left(fr: bool, bam: &[u8], text: &[u8], n: u64, out: &mut [u32]) -> Answ
     measure_text::write_ops(text, out);
     let list = Lent::new(&out[..n as usize], oplist::MOST_OPS).unwrap();
     Ok(Overhang {
-        bases: overlap::bases_at(placed, bam, list),
+        bases: overlap::bases_at(Ok(placed), bam, list),
         written: n,
     })
 }

@@ -2,9 +2,10 @@
 #![tactic(auto)]
 
 ghost use Rattle.std.specs.Prelude.{◌≡◌, [], ◌∷◌, ◌+◌, ◌≤◌, length};
-ghost use Rattle.line_rules.specs.Line.{place_or_dot, tabbed, length_mark};
+ghost use Rattle.line_rules.specs.Line.{or_dot, tabbed, length_mark};
 ghost use Rattle.put_text.specs.Puts.{Put};
 
+use answers::Answer;
 use ends_rules::Unclipped;
 
 // Whether the query length is that of the stored sequence, or `-` where none is stored.
@@ -21,14 +22,14 @@ pub fn length_mark(query: u64, seq: u32) -> u8
 }
 
 // A tab, and the position, or `.` where there is none.
-pub fn put_five(five: Unclipped, out: &mut [u8], at: usize) -> usize
+pub fn put_five(five: Answer<Unclipped>, out: &mut [u8], at: usize) -> usize
     requires { at + 22 ≤ length out.old }
-    ensures put { Put out.old at (9 ∷ place_or_dot five) result out.new }
+    ensures put { Put out.old at (9 ∷ or_dot five) result out.new }
     ensures upper_bound { result ≤ at + 22 }
 {
     match five {
-        Unclipped::At(p) => put_text::put_signed(p.0, out, at),
-        Unclipped::Unmapped | Unclipped::NoOps => put_text::put_bytes(b"\t.", out, at),
+        Ok(Unclipped::At(p)) => put_text::put_signed(p.0, out, at),
+        _ => put_text::put_bytes(b"\t.", out, at),
     }
 }
 

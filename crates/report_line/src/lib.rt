@@ -56,7 +56,7 @@ fn put_row(row: LineRow, out: &mut [u8], at: usize) -> usize
 {
     let query = put_text::put_signed(row.refs, out, at);
     let five = put_text::put_field(row.query, out, query);
-    let bin = report_fields::put_five(row.five, out, five);
+    let bin = report_fields::put_five(Ok(row.five), out, five);
     let mark = put_text::put_field(row.bin as u64, out, bin);
     report_fields::put_last(row.mark, out, mark)
 }
