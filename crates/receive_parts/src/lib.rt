@@ -10,13 +10,17 @@ ghost use Rattle.receive_rules.specs.Receiving.{same};
 
 use clip_rules::Plan;
 
-// Whether the n bytes of got from place `at` on are those of rec from place `from` on.
+// Whether the n bytes of got from place `at` on are those of rec from place `from` on. All are looked at, with no branch, so that many are compared at a time.
 pub fn same_bytes(got: &[u8], at: usize, rec: &[u8], from: usize, n: usize) -> bool
     requires n_in_bounds { at + n ≤ length got.now }
     requires n_in_bounds_2 { from + n ≤ length rec.now }
     ensures { result ≡ same (take n (drop at got.now)) (take n (drop from rec.now)) }
 {
-    got[at..at + n] == rec[from..from + n]
+    let mut ok = true;
+    for i in 0..n {
+        ok &= got[at + i] == rec[from + i];
+    }
+    ok
 }
 
 // Whether got from place `at` on, to its end, is rec from place `from` on.
@@ -25,7 +29,11 @@ pub fn same_rest(got: &[u8], at: usize, rec: &[u8], from: usize) -> bool
     requires from_in_bounds { from ≤ length rec.now }
     ensures { result ≡ same (drop at got.now) (drop from rec.now) }
 {
-    got[at..] == rec[from..]
+    let n = rec.len() - from;
+    if got.len() - at != n {
+        return false;
+    }
+    same_bytes(got, at, rec, from, n)
 }
 
 // k bytes of bases from an odd base on. All are looked at, with no branch, so that many are compared at a time.

@@ -9,7 +9,6 @@ use borrow.Author.Tests.{eqb-true, eqb-false, eq-eqb}
 use lib.Dec.{eqb}
 use lib.ListN.{length, get_or, take, drop, length-drop}
 use lib.Seq.{take-add, length-take-le, drop-drop, take-suc}
-use Rattle.std.specs.Cmp.Lexicographic.{pointwise}
 use Rattle.lists.proofs.Absurd.{false_true}
 use Rattle.sam.specs.Record.{le32, uint32}
 use Rattle.receive_rules.specs.Receiving.{same}
@@ -18,14 +17,6 @@ pub same_refl : (xs : List ℕ) → same xs xs ≡ true
 unfolding same
 same_refl [] = refl
 same_refl (x ∷ xs) = simp (eq-eqb x x refl, same_refl xs)
-
--- what == of two slices answers
-pub pointwise_same : (xs ys : List ℕ) → pointwise eqb xs ys ≡ same xs ys
-unfolding same
-pointwise_same [] [] = refl
-pointwise_same [] (y ∷ ys) = refl
-pointwise_same (x ∷ xs) [] = refl
-pointwise_same (x ∷ xs) (y ∷ ys) = ap (λ (t : Bool). eqb x y && t) (pointwise_same xs ys)
 
 and-true : (p q : Bool) → (p && q) ≡ true → (p ≡ true) × (q ≡ true)
 and-true true q h = (refl, h)
@@ -43,6 +34,14 @@ same_equal (x ∷ xs) (y ∷ ys) h =
 -- equal lists are the same
 pub equal_same : (xs ys : List ℕ) → xs ≡ ys → same xs ys ≡ true
 equal_same xs ys e = ap (λ (l : List ℕ). same l ys) e ∙ same_refl ys
+
+-- lists of two lengths are not
+pub lengths_differ : (xs ys : List ℕ) → (length xs ≡ length ys → ⊥) → same xs ys ≡ false
+lengths_differ xs ys h = go (same xs ys) refl
+  where
+    go : (t : Bool) → same xs ys ≡ t → t ≡ false
+    go true e = absurd (h (ap length (same_equal xs ys e)))
+    go false e = refl
 
 pub and_assoc : (p q r : Bool) → (p && (q && r)) ≡ ((p && q) && r)
 and_assoc true q r = refl

@@ -11,9 +11,24 @@ use Rattle.lists.proofs.Walks.{step}
 use Rattle.sam.specs.Bases.{bases_of, packed}
 use Rattle.sam.proofs.BaseLaws.{length_behind, packed_size, shifted_byte, packed_last}
 use Rattle.receive_rules.specs.Receiving.{same}
-use Rattle.receive_rules.proofs.SameLaws.{same_turn, same_parts}
+use Rattle.receive_rules.proofs.SameLaws.{same_turn, same_parts, lengths_differ}
 
 -- ---- bytes
+
+-- one turn
+pub bytes_turn : (g b : List ℕ) (at from j : ℕ) → at + j < length g → from + j < length b
+    → (same (take j (drop at g)) (take j (drop from b)) && eqb (get_or g (at + j) 0) (get_or b (from + j) 0)) ≡ same (take (j + 1) (drop at g)) (take (j + 1) (drop from b))
+bytes_turn g b at from j h k =
+    let l = length-drop at g in
+    let m = length-drop from b in
+    same_turn (drop at g) (drop from b) j (get_or g (at + j) 0) (get_or b (from + j) 0) (sym (get_or-drop at g j 0)) (sym (get_or-drop from b j 0)) (omega arith) (omega arith)
+
+-- two ends that are not of one length
+pub rest_differs : (g b : List ℕ) (at from : ℕ) → (length g - at ≡ length b - from → ⊥) → same (drop at g) (drop from b) ≡ false
+rest_differs g b at from h =
+    let l = length-drop at g in
+    let m = length-drop from b in
+    lengths_differ (drop at g) (drop from b) (λ e. h (omega arith))
 
 -- ---- bases
 

@@ -1,16 +1,16 @@
--- What == answers.
-use Rattle.std.proofs.Common.{ℕ, ◌+◌, ◌-◌, take, drop}
-use mathlib.Core.Path.{ap, ◌∙◌}
-use native.Mathlib.Omega.{arith}
-use Rattle.receive_rules.specs.Receiving.{same}
-use Rattle.receive_rules.proofs.SameLaws.{pointwise_same}
+-- The first bytes are compared.
+use Rattle.std.proofs.Common.{◌&&◌, ◌+◌, Bool, arith}
+use mathlib.Core.Path.{sym, ap, ◌∙◌}
+use lib.Dec.{eqb}
+use lib.ListN.{get_or}
+use Rattle.receive_rules.proofs.SameLaws.{same_refl}
+use Rattle.receive_rules.proofs.WalkLaws.{bytes_turn}
 use Rattle.receive_parts.proofs.same_bytes.Goals as goal
 
-pub returns : goal.returns
-returns c =
-    let g = drop c.args.at c.args.got.now in
-    let b = drop c.args.from c.args.rec.now in
-    c.eq.ensures
-    ∙ pointwise_same _ _
-    ∙ ap (λ (k : ℕ). same (take k g) (take (c.args.from + c.args.n - c.args.from) b)) {x = c.args.at + c.args.n - c.args.at} {y = c.args.n} (omega arith)
-    ∙ ap (λ (k : ℕ). same (take c.args.n g) (take k b)) {x = c.args.from + c.args.n - c.args.from} {y = c.args.n} (omega arith)
+pub loop-i-init : goal.loop-i-init
+loop-i-init c = sym (same_refl _)
+
+pub loop-i-preserved : goal.loop-i-preserved
+loop-i-preserved c =
+    ap (λ (t : Bool). t && eqb (get_or c.args.got.now (c.args.at + c.loop-i.i) 0) (get_or c.args.rec.now (c.args.from + c.loop-i.i) 0)) c.loop-i.invariant
+    ∙ bytes_turn c.args.got.now c.args.rec.now c.args.at c.args.from c.loop-i.i (omega arith) (omega arith)
