@@ -1,7 +1,7 @@
 -- A text by places: what stands at one takes the columns to the next.
 use Prim.Native.Nat.{ℕ, ◌+◌, ◌-◌, ◌*◌, ◌≤◌, ◌<◌}
 use mathlib.Core.Path.{◌≡◌, refl, sym, ap, ◌∙◌}
-use mathlib.Core.Bool.{Bool, true, false}
+use mathlib.Core.Bool.{Bool, true, false, ◌&&◌}
 use mathlib.Core.List.{List, [], ◌∷◌}
 use mathlib.Core.Logic.{◌⊎◌, inl, inr, ⊎_elim}
 use native.Mathlib.Omega.{arith}
@@ -10,9 +10,7 @@ use borrow.Author.Tests.{ltb-true, ltb-false}
 use lib.ListN.{length, get_or, take, drop, length-drop}
 use lib.Seq.{get_or-drop, drop-drop}
 use Rattle.lists.proofs.Walks.{step, done}
-use Rattle.std.specs.Prelude.{None, IsTrue, ◌↔◌}
-use Rattle.std.specs.List.{All}
-use Rattle.std.proofs.lemmas.Bool.Decides.{same_from_decides, Decides-by_and}
+use Rattle.std.specs.Prelude.{None}
 use Rattle.lists.proofs.Absurd.{false_true}
 use Rattle.sam.specs.Text.{is_digit}
 use Rattle.sam.specs.Md.{is_capital, MdColumn, MdColumn.Mismatch, MdColumn.Deleted}
@@ -107,10 +105,24 @@ module _ (text : List ℕ) (at : ℕ) (h : at < length text) (c : get_or text at
         ∙ ap (fits Letters) behind
         ∙ digit-next (λ s. fits Letters s ≡ fits Wants s) (λ b s g. fits_behind b s (digit_capital b g)) k
 
--- a test that looks at each letter tells whether all are capital
-pub capital_all : (r : Bool) (s : List ℕ) → (IsTrue r ↔ All (λ b. is_capital b ≡ true) s) → r ≡ all_capital s
+-- a letter more
+pub capital_turn : (s : List ℕ) (i : ℕ) (all : Bool) → i < length s
+    → (all && all_capital (drop i s)) ≡ ((all && is_capital (get_or s i 0)) && all_capital (drop (i + 1) s))
 unfolding all_capital
-capital_all r s h = same_from_decides r (all_capital s) h (Decides-by_and is_capital (λ b. is_capital b ≡ true) all_capital (λ b. (λ e. e, λ e. e)) refl (λ _ _. refl) s)
+capital_turn s i all h =
+    ap (λ (t : List ℕ). all && all_capital t) (step s i (get_or s i 0) refl h) ∙ go all (is_capital (get_or s i 0)) (all_capital (drop (i + 1) s))
+  where
+    go : (a b c : Bool) → (a && (b && c)) ≡ ((a && b) && c)
+    go true b c = refl
+    go false b c = refl
+
+pub no_turn : (s : List ℕ) (i : ℕ) (all : Bool) → length s ≤ i → (all && all_capital (drop i s)) ≡ all
+unfolding all_capital
+no_turn s i all h = ap (λ (t : List ℕ). all && all_capital t) (done s i h) ∙ go all
+  where
+    go : (a : Bool) → (a && true) ≡ a
+    go true = refl
+    go false = refl
 
 -- ---- what a number leads to
 

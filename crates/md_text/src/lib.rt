@@ -61,7 +61,11 @@ pub fn number(text: &[u8], from: usize) -> Option<Figure>
 fn all_capital(letters: &[u8]) -> bool
     ensures { result ≡ all_capital letters.now }
 {
-    letters.iter().all(|b| b.is_ascii_uppercase())
+    let mut all = true;
+    for b in letters {
+        all &= b.is_ascii_uppercase();
+    }
+    all
 }
 
 // Passes the reference bases of a D of nonzero length.
