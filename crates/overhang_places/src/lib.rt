@@ -23,7 +23,7 @@ fn ahead(p: Pos1, n: u64) -> Pos1
 }
 
 // The last position of an alignment with n reference bases.
-fn alignment_end(p: Pos1, n: u64) -> Pos1
+pub fn alignment_end(p: Pos1, n: u64) -> Pos1
     ensures { result.0 ≡ end_at p.0 n }
 {
     after(ahead(p, 1), n)
