@@ -19,13 +19,21 @@ fn due(s: State) -> usize
     s.put
 }
 
-// Writes what is due; the state behind it comes from here alone.
+// Hands over what is due; the state behind it comes from here alone.
+fn write<W: io::Write>(to: &mut W, s: &mut State, out: &[u8], part: &[u8]) -> io::Result<()>
+    requires { part.now ≡ take (due_of s.old) out.now }
+    ensures state { (s.new ≡ relieved_of s.old) × (s.new.put ≤ 65280) }
+    ensures bytes { OnOk result (Appends (W.contents to.old) (W.contents to.new) (take (due_of s.old) out.now)) }
+{
+    s.put -= due(*s);
+    to.write_all(part)
+}
+
 pub fn write_due<W: io::Write>(to: &mut W, s: &mut State, out: &[u8]) -> io::Result<()>
     requires { s.old.put ≤ length out.now }
     ensures state { (s.new ≡ relieved_of s.old) × (s.new.put ≤ 65280) }
     ensures bytes { OnOk result (Appends (W.contents to.old) (W.contents to.new) (take (due_of s.old) out.now)) }
 {
     let n = due(*s);
-    s.put -= n;
-    to.write_all(&out[..n])
+    write(to, s, out, &out[..n])
 }
