@@ -7,7 +7,7 @@ mod shown;
 
 use fields::Part;
 use shown::{Bytes, ClippedEnd, ClippedStart, FivePrime, Lengths, Place, Told};
-use std::io;
+use std::fmt;
 use view::RawRecordView;
 
 // Document 01's record up to its ops, with other numbers in the fields that it does not name: 5S20M2D5M, name `r`, l_seq 30.
@@ -25,122 +25,124 @@ fn example(pos: u32, flags: u32) -> [u8; 96] {
     )
 }
 
-fn numbers(rt: &impl Print, view: RawRecordView) -> io::Result<()> {
-    print!(rt;
+fn numbers<W: fmt::Write>(to: &mut W, view: RawRecordView) -> fmt::Result {
+    write!(
+        to,
         "  ref_id {}, pos {}",
         Told(view.ref_id()),
         Told(view.pos())
     )?;
-    print!(rt;
+    write!(
+        to,
         ", l_read_name {}, bin {}",
         Told(view.l_read_name()),
         Told(view.bin())
     )?;
-    print!(rt;
+    write!(
+        to,
         ", n_cigar_op {}, flags {}",
         Told(view.n_cigar_op()),
         Told(view.flags())
     )?;
-    print!(rt;
+    write!(
+        to,
         ", l_seq {}, mate_ref_id {}",
         Told(view.l_seq()),
         Told(view.mate_ref_id())
     )?;
-    print!(rt; ", mate_pos {}", Told(view.mate_pos()))?;
-    println!(rt; ", template_length {}", Told(view.template_length()))
+    write!(to, ", mate_pos {}", Told(view.mate_pos()))?;
+    writeln!(to, ", template_length {}", Told(view.template_length()))
 }
 
-fn part(rt: &impl Print, name: &str, shown: Part) -> io::Result<()> {
+fn part<W: fmt::Write>(to: &mut W, name: &str, shown: Part) -> fmt::Result {
     let Part { refusal, part } = shown;
-    println!(rt;
-        "  {name}, refusal {refusal}, bytes {}:{}",
-        part.len(),
-        Bytes(part)
-    )
+    writeln!(to, "{name}{refusal}, bytes {}:{}", part.len(), Bytes(part))
 }
 
-fn sums(rt: &impl Print, view: RawRecordView) -> io::Result<()> {
-    print!(rt; "  reference {}", Told(view.reference_length()))?;
-    print!(rt; ", query {}", Told(view.query_length()))?;
-    print!(rt; ", lengths {}", Told(view.cigar_lengths().map(Lengths)))?;
-    print!(rt;
+fn sums<W: fmt::Write>(to: &mut W, view: RawRecordView) -> fmt::Result {
+    write!(to, "  reference {}", Told(view.reference_length()))?;
+    write!(to, ", query {}", Told(view.query_length()))?;
+    write!(to, ", lengths {}", Told(view.cigar_lengths().map(Lengths)))?;
+    write!(
+        to,
         "; start {}",
         Told(view.alignment_start_1based().map(Place))
     )?;
-    print!(rt; ", end {}", Told(view.alignment_end_1based().map(Place)))?;
-    println!(rt;
+    write!(to, ", end {}", Told(view.alignment_end_1based().map(Place)))?;
+    writeln!(
+        to,
         ", unclipped {}",
         Told(view.unclipped_5prime_1based().map(FivePrime))
     )
 }
 
-fn text(rt: &impl Print, view: RawRecordView) -> io::Result<()> {
+fn text<W: fmt::Write>(to: &mut W, view: RawRecordView) -> fmt::Result {
     let mut out = [b'.'; 12];
-    print!(rt; "  text {} ", Told(view.cigar_to_string(&mut out)))?;
-    rt.write_all(&out)?;
-    println!(rt)
+    write!(to, "  text {} ", Told(view.cigar_to_string(&mut out)))?;
+    to.write_str(str::from_utf8(&out).unwrap_or(""))?;
+    writeln!(to)
 }
 
-fn clipped_start(rt: &impl Print, view: RawRecordView, amount: u64) -> io::Result<()> {
+fn clipped_start<W: fmt::Write>(to: &mut W, view: RawRecordView, amount: u64) -> fmt::Result {
     let mut out = [112u32; 3];
     let answer = view.clip_cigar_start(amount, &mut out);
-    print!(rt; "  clipped {}", ClippedStart(answer, &out))
+    write!(to, "  clipped {}", ClippedStart(answer, &out))
 }
 
-fn clipped_end(rt: &impl Print, view: RawRecordView, amount: u64) -> io::Result<()> {
+fn clipped_end<W: fmt::Write>(to: &mut W, view: RawRecordView, amount: u64) -> fmt::Result {
     let mut out = [112u32; 3];
     let answer = view.clip_cigar_end(amount, &mut out);
-    print!(rt; "; {}", ClippedEnd(answer, &out))
+    write!(to, "; {}", ClippedEnd(answer, &out))
 }
 
-fn show(rt: &impl Print, name: &str, bam: &[u8]) -> io::Result<()> {
+fn show<W: fmt::Write>(to: &mut W, name: &str, bam: &[u8]) -> fmt::Result {
     let view = RawRecordView::new(bam);
-    println!(rt; "{name}, bytes {}", view.as_bytes().len())?;
-    numbers(rt, view)?;
-    part(rt, "part", view.cigar_raw_bytes())?;
-    part(rt, "true part", view.true_cigar_raw_bytes())?;
-    sums(rt, view)?;
-    text(rt, view)?;
-    clipped_start(rt, view, 25)?;
-    clipped_end(rt, view, 5)?;
-    clipped_end(rt, view, 0)?;
-    clipped_end(rt, view, 26)?;
-    println!(rt)
+    writeln!(to, "{name}, bytes {}", view.as_bytes().len())?;
+    numbers(to, view)?;
+    part(to, "  part, refusal ", view.cigar_raw_bytes())?;
+    part(to, "  true part, refusal ", view.true_cigar_raw_bytes())?;
+    sums(to, view)?;
+    text(to, view)?;
+    clipped_start(to, view, 25)?;
+    clipped_end(to, view, 5)?;
+    clipped_end(to, view, 0)?;
+    clipped_end(to, view, 26)?;
+    writeln!(to)
 }
 
-fn whole(rt: &impl Print) -> io::Result<()> {
+fn whole<W: fmt::Write>(to: &mut W) -> fmt::Result {
     let forward = example(99, 0);
-    show(rt, "5S20M2D5M at 99", record::cut(&forward, 95))?;
+    show(to, "5S20M2D5M at 99", record::cut(&forward, 95))?;
     let reverse = example(99, fields::REVERSE);
-    show(rt, "5S20M2D5M at 99, reverse", record::cut(&reverse, 95))?;
+    show(to, "5S20M2D5M at 99, reverse", record::cut(&reverse, 95))?;
     let unmapped = example(99, fields::UNMAPPED);
-    show(rt, "5S20M2D5M at 99, unmapped", record::cut(&unmapped, 95))
+    show(to, "5S20M2D5M at 99, unmapped", record::cut(&unmapped, 95))
 }
 
-fn short(rt: &impl Print) -> io::Result<()> {
+fn short<W: fmt::Write>(to: &mut W) -> fmt::Result {
     let r = example(99, 0);
-    show(rt, "no record", &[])?;
-    show(rt, "cut in its fields", record::cut(&r, 31))?;
-    show(rt, "cut after its fields", record::cut(&r, 32))?;
-    show(rt, "cut in its last op", record::cut(&r, 49))?;
-    show(rt, "cut after its ops", record::cut(&r, 50))
+    show(to, "no record", &[])?;
+    show(to, "cut in its fields", record::cut(&r, 31))?;
+    show(to, "cut after its fields", record::cut(&r, 32))?;
+    show(to, "cut in its last op", record::cut(&r, 49))?;
+    show(to, "cut after its ops", record::cut(&r, 50))
 }
 
-fn ends_of_the_range(rt: &impl Print) -> io::Result<()> {
+fn ends_of_the_range<W: fmt::Write>(to: &mut W) -> fmt::Result {
     let last = example(2147483647, 0);
-    show(rt, "5S20M2D5M at 2147483647", record::cut(&last, 95))?;
+    show(to, "5S20M2D5M at 2147483647", record::cut(&last, 95))?;
     let none = example(4294967295, 0);
-    show(rt, "5S20M2D5M at -1", record::cut(&none, 95))
+    show(to, "5S20M2D5M at -1", record::cut(&none, 95))
 }
 
 // An op of code 9, one of the largest length, and nine ops of 2^31 bases in all.
-fn odd_ops(rt: &impl Print) -> io::Result<()> {
+fn odd_ops<W: fmt::Write>(to: &mut W) -> fmt::Result {
     let unnamed = record::with_word(example(99, 0), 46, 89);
-    show(rt, "5S20M2D5?", record::cut(&unnamed, 95))?;
+    show(to, "5S20M2D5?", record::cut(&unnamed, 95))?;
     let long = record::with_word(example(99, 0), 38, 4294967280);
-    show(rt, "5S268435455M2D5M", record::cut(&long, 95))?;
+    show(to, "5S268435455M2D5M", record::cut(&long, 95))?;
     let over = record::with_run(record::new(99, 0, 9), 0, 0);
-    show(rt, "8 of 268435455M and 8M", record::cut(&over, 72))
+    show(to, "8 of 268435455M and 8M", record::cut(&over, 72))
 }
 
 // A placeholder, 3S10N for three bases, and behind its bases and qualities a CG of 1M2S, whose type is I, or i (105).
@@ -152,24 +154,43 @@ fn placeholder(numbers: u32) -> [u8; 96] {
     record::with_word(record::with_word(counted, 57, 16), 61, 36)
 }
 
-fn long_lists(rt: &impl Print) -> io::Result<()> {
+fn long_lists<W: fmt::Write>(to: &mut W) -> fmt::Result {
     let r = placeholder(73);
-    show(rt, "3S10N, and 1M2S in CG", record::cut(&r, 65))?;
-    show(rt, "3S10N, and no tag", record::cut(&r, 49))?;
-    show(rt, "3S10N, and CG cut in its last op", record::cut(&r, 64))?;
+    show(to, "3S10N, and 1M2S in CG", record::cut(&r, 65))?;
+    show(to, "3S10N, and no tag", record::cut(&r, 49))?;
+    show(to, "3S10N, and CG cut in its last op", record::cut(&r, 64))?;
     let other = placeholder(105);
-    show(rt, "3S10N, and CG of type i", record::cut(&other, 65))
+    show(to, "3S10N, and CG of type i", record::cut(&other, 65))
 }
 
-fn all(rt: &impl Print) -> io::Result<()> {
-    whole(rt)?;
-    short(rt)?;
-    ends_of_the_range(rt)?;
-    odd_ops(rt)?;
-    long_lists(rt)
+fn all<W: fmt::Write>(to: &mut W) -> fmt::Result {
+    whole(to)?;
+    short(to)?;
+    ends_of_the_range(to)?;
+    odd_ops(to)?;
+    long_lists(to)
 }
 
-// A failed write ends the program, which still ends with status 0.
+// Standard output, to which each piece of what is printed is written by itself. One that can't be written is left out, and the next is tried all the same.
+#[derive(Drop)]
+struct Pieces<'a, P: Print> {
+    rt: &'a P,
+}
+
+impl<P: Print> fmt::Write for Pieces<'_, P> {
+    // A minus sign goes out by itself.
+    fn write_str(&mut self, s: &str) -> fmt::Result {
+        let piece = s.as_bytes();
+        if piece.len() < 2 || piece[0] != b'-' {
+            let _ = self.rt.write_all(piece);
+            return Ok(());
+        }
+        let _ = self.rt.write_all(&piece[..1]);
+        let _ = self.rt.write_all(&piece[1..]);
+        Ok(())
+    }
+}
+
 fn main(rt: HostRuntime) {
-    let _ = all(&rt);
+    let _ = all(&mut Pieces { rt: &rt });
 }
