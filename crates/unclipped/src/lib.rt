@@ -9,7 +9,7 @@ use ends_rules::Unclipped;
 use oplist::OpList;
 
 // The 5' end of an op list aligned at `at`; counted as `at` is. None where a sum overflows.
-// Inlined, since most reads have few ops: by a call of its own the 5' end of one takes a third more instructions.
+// Inlined, since most reads have few ops: by a call of its own the 5' end of one takes a quarter more instructions.
 #[inline(always)]
 fn five_prime<L: OpList>(at: i32, list: L, reverse: bool) -> Option<i32>
     ensures { result ≡ five_prime reverse at (L.ops list) }
