@@ -57,7 +57,7 @@ pub fn number(text: &[u8], from: usize) -> Option<Figure>
     Some(Figure { n, at: text.len() })
 }
 
-// Whether all letters are capital.
+// Whether all letters are capital. Each is looked at, with no exit, so that many are compared at a time.
 fn all_capital(letters: &[u8]) -> bool
     ensures { result ≡ all_capital letters.now }
 {

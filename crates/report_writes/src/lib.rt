@@ -29,6 +29,7 @@ fn write<W: io::Write>(to: &mut W, s: &mut State, out: &[u8], part: &[u8]) -> io
     to.write_all(part)
 }
 
+// Writes what is due: nothing, or all that waits.
 pub fn write_due<W: io::Write>(to: &mut W, s: &mut State, out: &[u8]) -> io::Result<()>
     requires { s.old.put ≤ length out.now }
     ensures state { (s.new ≡ relieved_of s.old) × (s.new.put ≤ 65280) }
